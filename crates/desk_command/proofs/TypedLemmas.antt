@@ -1,11 +1,10 @@
 -- The votes of a desk's processes are for lines that were typed.
-use Rattle.std.proofs.Common.{ℕ, List, [], ◌∷◌, Option, Result, subst, sym}
+use Rattle.std.proofs.Common.{◌≡◌, ℕ, List, [], ◌∷◌, Result, subst, sym}
 use Rattle.std.specs.Prelude.{flat_map}
 use Rattle.agree_core.specs.declared.messages.DeskId.{DeskId}
 use Rattle.agree_core.specs.FileView.{FileView}
 use Rattle.agree_core.specs.Openings.{NotOpened, Opened, Opening}
 use Rattle.cards.specs.Sheet.{Sheet}
-use Rattle.links.specs.Passed.{Passed}
 use Rattle.links.specs.Typing.{Input}
 use Rattle.ahead.specs.declared.log.AheadLog.{AheadLog}
 use Rattle.ahead.specs.Ahead.{given_of, kept_of}
@@ -15,6 +14,7 @@ use Rattle.live.specs.declared.desk_life.LifeEnd.{LifeEnd}
 use Rattle.live.specs.Before.{lines_said}
 use Rattle.live.specs.DeskLife.{BeginsOn, DeskLives, Follows, fresh}
 use Rattle.live.specs.Desks.{DiskView}
+use Rattle.live.specs.Runs.{Logs}
 use Rattle.live.proofs.BeforeLemmas.{votes_typed}
 use Rattle.desk_command.specs.declared.desk_disk.DeskDisk.{DeskDisk}
 use Rattle.desk_command.specs.declared.desk_disk.DeskDisk.TheVariants.{One, Two}
@@ -23,26 +23,25 @@ use Rattle.desk_command.specs.Typed.{Process, VotesWereTyped, calls_of, kept_in,
 
 module _
     {Disk : Type 0} {view : FileView Disk} {seen : Disk → List ℕ} {disks : DiskView Disk} {sheet : Sheet} {innings : ℕ} {d : DeskId} {disk : Disk}
-    {before after : List Passed} {times later : List ℕ} {told tells : Option (List ℕ)} {turns : ℕ} {result : Result (Unit {0}) LifeEnd}
-    (log : AheadLog) (order : CastsInOrder log) where
+    {before after : Logs} {turns : ℕ} {result : Result (Unit {0}) LifeEnd} (log : AheadLog) (order : CastsInOrder log)
+    (none : before.typed ≡ []) (given : after.typed ≡ given_of log) where
   -- those of one process, that was given just what became of what was typed
-  lived_typed : (lives : DeskLives view seen disks sheet innings d disk before after [] (given_of log) times later told tells turns result)
-      → AreAmong (lines_said (calls_of lives)) (kept_of log)
+  lived_typed : (lives : DeskLives view seen disks sheet innings d disk before after turns result) → AreAmong (lines_said (calls_of lives)) (kept_of log)
   lived_typed lives = of lives.opening lives.begins lives.follows
     where
       of : (opening : Opening Disk) (begins : BeginsOn view seen innings d disk opening)
-          (follows : Follows sheet view disks innings opening before after [] (given_of log) times later told tells turns result)
-          → let these : DeskLives view seen disks sheet innings d disk before after [] (given_of log) times later told tells turns result =
+          (follows : Follows sheet view disks innings opening before after turns result)
+          → let these : DeskLives view seen disks sheet innings d disk before after turns result =
           record { opening = opening; begins = begins; follows = follows } in AreAmong (lines_said (calls_of these)) (kept_of log)
       of (Opened k) begins run =
           let goes = run.3 in
-          votes_typed view disks sheet sheet.game innings (fresh k) goes.moments log goes.run (sym goes.inputs) order
+          votes_typed view disks sheet sheet.game innings (fresh k) goes.moments log goes.run (sym (rw (given, none) at goes.logs.inputs)) order
       of (NotOpened cause left) begins follows = tt
 
 on_disk : (sheet : Sheet) (desk : DeskId) (disk : DeskDisk) (log : AheadLog) → CastsInOrder log → (process : LivesOnDisk sheet desk disk (given_of log))
     → AreAmong (said_on sheet desk disk (given_of log) process) (kept_of log)
-on_disk sheet desk (One disk) log order process = lived_typed log order process.lives
-on_disk sheet desk (Two disk) log order process = lived_typed log order process.lives
+on_disk sheet desk (One disk) log order process = lived_typed log order process.untyped process.was_given process.lives
+on_disk sheet desk (Two disk) log order process = lived_typed log order process.untyped process.was_given process.lives
 
 -- what is so of each is so of all, one after the other
 all_among : {X : Type 0} (f g : X → List (List ℕ)) → ((x : X) → AreAmong (f x) (g x)) → (xs : List X) → AreAmong (flat_map f xs) (flat_map g xs)

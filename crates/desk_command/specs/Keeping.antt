@@ -6,7 +6,6 @@ use Rattle.entry_log.specs.Version2.{version_2}
 use Rattle.vote_store.specs.View.{file_view}
 use Rattle.agree_core.specs.declared.messages.DeskId.{DeskId}
 use Rattle.cards.specs.Sheet.{Sheet}
-use Rattle.links.specs.Passed.{Passed}
 use Rattle.links.specs.Typing.{Input}
 use Rattle.ahead.specs.declared.log.AheadLog.{AheadLog}
 use Rattle.ahead.specs.Ahead.{given_of, typed_of}
@@ -14,6 +13,7 @@ use Rattle.ahead.specs.Order.{CastsInOrder}
 use Rattle.live.specs.declared.desk_life.LifeEnd.{LifeEnd}
 use Rattle.live.specs.DeskLife.{DeskLives}
 use Rattle.live.specs.Desks.{FitsLongest}
+use Rattle.live.specs.Runs.{Logs}
 use Rattle.machine_files.specs.FileDisk as alone
 use Rattle.machine_files.specs.Pairs as both
 use Rattle.desk_command.specs.declared.desk_disk.DeskDisk.{DeskDisk}
@@ -21,22 +21,19 @@ use Rattle.desk_command.specs.declared.desk_disk.DeskDisk.TheVariants.{One, Two}
 use Rattle.desk_command.specs.OnFiles.{IsOnFiles}
 
 -- The process of this desk on a disk, which shows this of itself, with an empty book of the sheet's match to begin with, that
--- was given just these lines from its beginning on: so many turns of it, what passed in them, was read of the clock and was
--- told, and how it ended.
+-- was given just these lines from its beginning on: so many turns of it, its logs, and how it ended.
 pub record LivesOn
     {Disk : Type 0} (seen : Disk → List ℕ) (images : Disk → Images) (faults : Disk → Faults) (cap : Disk → ℕ)
     (sheet : Sheet) (desk : DeskId) (disk : Disk) (given : List Input) : Type 0 where
-  pub before : List Passed
-  pub after : List Passed
-  pub times : List ℕ
-  pub later : List ℕ
-  pub told : Option (List ℕ)
-  pub tells : Option (List ℕ)
+  pub before : Logs
+  pub after : Logs
+  pub untyped : before.typed ≡ []
+  pub was_given : after.typed ≡ given
   pub turns : ℕ
   pub result : Result (Unit {0}) LifeEnd
   pub lives : DeskLives (file_view (contents version_2) seen images desk sheet.game) seen
       (record { faults = faults; FitsLongest = FitsLongest (room version_2) (cap disk) })
-      sheet sheet.innings desk disk before after [] given times later told tells turns result
+      sheet sheet.innings desk disk before after turns result
 
 -- the same on the disk of its file alone, or of that and its copy
 abbrev pub LivesOnDisk : Sheet → DeskId → DeskDisk → List Input → Type 0

@@ -4,7 +4,6 @@ use Rattle.agree_core.specs.declared.messages.DeskId.{DeskId}
 use Rattle.agree_core.specs.FileView.{FileView}
 use Rattle.agree_core.specs.Openings.{NotOpened, Opened}
 use Rattle.cards.specs.Sheet.{Sheet}
-use Rattle.links.specs.Passed.{Passed}
 use Rattle.links.specs.Typing.{Input}
 use Rattle.ahead.specs.Ahead.{given_of, kept_of}
 use Rattle.ahead.specs.Order.{AreAmong, lines_of}
@@ -12,23 +11,19 @@ use Rattle.live.specs.declared.desk_life.LifeEnd.{LifeEnd}
 use Rattle.live.specs.Before.{lines_said}
 use Rattle.live.specs.DeskLife.{DeskLives, Follows}
 use Rattle.live.specs.Desks.{DeskCall, DeskProcess, DiskView}
-use Rattle.live.specs.Runs.{Moment}
+use Rattle.live.specs.Runs.{Logs, Moment}
 use Rattle.desk_command.specs.declared.desk_disk.DeskDisk.{DeskDisk}
 use Rattle.desk_command.specs.declared.desk_disk.DeskDisk.TheVariants.{One, Two}
 use Rattle.desk_command.specs.Keeping.{LivesOnDisk, WasKept}
 
 module _
     {Disk : Type 0} {view : FileView Disk} {seen : Disk → List ℕ} {disks : DiskView Disk} {sheet : Sheet} {innings : ℕ}
-    {d : DeskId} {disk : Disk} {before after : List Passed} {typed types : List Input} {times later : List ℕ}
-    {told tells : Option (List ℕ)} {turns : ℕ} {result : Result (Unit {0}) LifeEnd} where
+    {d : DeskId} {disk : Disk} {before after : Logs} {turns : ℕ} {result : Result (Unit {0}) LifeEnd} where
   -- the calls of a process, the newest first: those of its run, and none where its desk wasn't opened
-  abbrev pub calls_of :
-      DeskLives view seen disks sheet innings d disk before after typed types times later told tells turns result
-      → List (Moment (DeskProcess Disk) DeskCall)
+  abbrev pub calls_of : DeskLives view seen disks sheet innings d disk before after turns result → List (Moment (DeskProcess Disk) DeskCall)
   calls_of lives =
       (elim (lives.opening) as (λ opening.
-      Follows sheet view disks innings opening before after typed types times later told tells turns result
-      → List (Moment (DeskProcess Disk) DeskCall)) [
+      Follows sheet view disks innings opening before after turns result → List (Moment (DeskProcess Disk) DeskCall)) [
         | Opened k ↦ λ run. (run.3).moments
         | NotOpened cause left ↦ λ follows. []
       ]) lives.follows

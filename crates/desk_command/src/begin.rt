@@ -11,11 +11,11 @@ use crate::page::Page;
 use agree_core::DeskId;
 use ahead::Ahead;
 use cards::{Columns, MatchSheet};
-use live::{DeskEnd, LifeEnd};
+use live::{DeskEnd, LifeEnd, Outside};
 use machine::{Address, Keyboard, MOST_PEERS, MonotonicClock};
 use machine_files::{LastFault, WriteFault};
 use setup::{Sealing, StopFault, Stopped, short_sheet_at, with_cause, with_copys_cause};
-use station_pages::PageLines;
+use station_pages::{Attended, PageLines};
 use station_screens::{Shared, errors_at, output_at};
 use std::cell::RefCell;
 use std::env::Env;
@@ -166,7 +166,7 @@ pub fn start_desk<'a>(
     let errors = RefCell::new(errors_at(rt)?);
     let page = Page::at(rt, serve)?;
     let scorers = page.scorers();
-    let mut writer = Watched::new(DeskScreen {
+    let out = Watched::new(DeskScreen {
         output: output_at(rt)?,
         errors: &errors,
         page: scorers,
@@ -175,21 +175,33 @@ pub fn start_desk<'a>(
         page: scorers,
         errors: Shared::of(&errors),
     };
-    let mut keys = Ahead::new(Keyboard::of_standard_input(rt, lines));
+    let keys = Ahead::new(Keyboard::of_standard_input(rt, lines));
     let ends = page.ends_with(keys.keys().descriptor());
     let lasts = [LastFault::new(None), LastFault::new(None)];
     let book = empty_book(rt, &sheet)?;
     let disk = desk_disk_at(rt, &sheet, desk, file, copy, &lasts)?;
     let sealed = sealing.sealed_at(rt, at, peers, ends, Shared::of(&errors))?;
-    let mut link = sealing.link_over(rt.alloc(), MonotonicClock::new(rt), sealed);
+    let link = sealing.link_over(rt.alloc(), MonotonicClock::new(rt), sealed);
     let _ = sealing.tell_fingerprints(&mut Shared::of(&errors));
     page.tell(&mut Shared::of(&errors), rt.stderr().is_terminal());
-    let (on, by, out) = (&mut link, &mut keys, &mut writer);
+    let clock = Attended {
+        clock: MonotonicClock::new(rt),
+        page: scorers,
+    };
+    let mut outside = Outside {
+        link,
+        keys,
+        clock,
+        out,
+    };
     let (ended, life) = keep_on(
-        rt, disk, desk, book, &sheet, on, by, out, scorers, file, copy,
+        rt, disk, desk, book, &sheet, &mut outside, scorers, file, copy,
     );
+    let Outside {
+        link, keys, out, ..
+    } = outside;
     drop(link);
-    let is_seen = is_seen(writer);
+    let is_seen = is_seen(out);
     let keyboard_failed = keys.keys().has_failed();
     drop(keys);
     let _ = errors.into_inner().end();

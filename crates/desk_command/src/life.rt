@@ -12,14 +12,14 @@ use ahead::Ahead;
 use cards::MatchSheet;
 use corrections::CheckedBook;
 use entry_log::{Disk, Slots};
-use links::{InputLog, Keys, Link, MoreLines};
-use live::{LifeEnd, keep_desk};
-use machine::{Keyboard, MonotonicClock};
-use station_pages::{Attended, PageSight, ScorersPage};
+use links::{Clock, InputLog, Keys, Link, MoreLines};
+use live::{LifeEnd, Outside, keep_desk};
+use machine::Keyboard;
+use station_pages::{PageSight, ScorersPage};
 use std::cell::RefCell;
 use std::io::Read;
 use std::snapshot::Snapshot;
-use streams::{Sink, Watched};
+use streams::Sink;
 
 /// The life of a desk: its letter, the paths of its votes file and of its copy, where it has one, and what was typed at its
 /// keyboard and in its page, which clauses alone read.
@@ -34,26 +34,20 @@ pub struct Life<'a> {
 
 /// Keeps the desk's process on this disk, until it ends.
 #[inline(never)]
-fn keep<D: Disk + Drop, L: Link, K: Keys, W: Sink>(
+fn keep<D: Disk + Drop, L: Link, K: Keys, C: Clock, W: Sink>(
     rt: &HostRuntime,
     disk: D,
     desk: DeskId,
     book: CheckedBook,
     sheet: &MatchSheet,
-    link: &mut L,
-    keys: &mut K,
-    out: &mut Watched<W>,
+    outside: &mut Outside<L, K, C, W>,
     page: Option<&RefCell<ScorersPage>>,
 ) -> Result<(), LifeEnd>
     requires empty { book.entries ≡ [] }
     requires innings { book.innings_a_side ≡ sheet.now.innings }
-    requires untyped { K.inputs keys.old ≡ [] }
-    ensures { LivesOn D.seen D.images D.faults D.cap sheet.now desk disk (K.inputs keys.new) }
+    requires untyped { K.inputs outside.old.keys ≡ [] }
+    ensures { LivesOn D.seen D.images D.faults D.cap sheet.now desk disk (K.inputs outside.new.keys) }
 {
-    let mut clock = Attended {
-        clock: MonotonicClock::new(rt),
-        page,
-    };
     let mut sight = PageSight::new(rt.alloc(), desk, page);
     keep_desk::<Slots<D>, CheckedBook, _, _, _, _, _>(
         rt.alloc(),
@@ -61,63 +55,56 @@ fn keep<D: Disk + Drop, L: Link, K: Keys, W: Sink>(
         desk,
         book,
         sheet,
-        link,
-        keys,
-        &mut clock,
-        out,
+        outside,
         &mut sight,
         u64::MAX,
     )
 }
 
 /// The same, on the disk of a desk's file alone or on that of it and its copy.
-fn keep_on_disk<L: Link, K: Keys, W: Sink>(
+fn keep_on_disk<L: Link, K: Keys, C: Clock, W: Sink>(
     rt: &HostRuntime,
     disk: DeskDisk<'_>,
     desk: DeskId,
     book: CheckedBook,
     sheet: &MatchSheet,
-    link: &mut L,
-    keys: &mut K,
-    out: &mut Watched<W>,
+    outside: &mut Outside<L, K, C, W>,
     page: Option<&RefCell<ScorersPage>>,
 ) -> Result<(), LifeEnd>
     requires empty { book.entries ≡ [] }
     requires innings { book.innings_a_side ≡ sheet.now.innings }
-    requires untyped { K.inputs keys.old ≡ [] }
-    ensures { LivesOnDisk sheet.now desk disk.entry (K.inputs keys.new) }
+    requires untyped { K.inputs outside.old.keys ≡ [] }
+    ensures { LivesOnDisk sheet.now desk disk.entry (K.inputs outside.new.keys) }
 {
     match disk {
-        DeskDisk::One(disk) => keep(rt, disk, desk, book, sheet, link, keys, out, page),
-        DeskDisk::Two(disk) => keep(rt, disk, desk, book, sheet, link, keys, out, page),
+        DeskDisk::One(disk) => keep(rt, disk, desk, book, sheet, outside, page),
+        DeskDisk::Two(disk) => keep(rt, disk, desk, book, sheet, outside, page),
     }
 }
 
 /// The same, of a scorer who types at a keyboard and in a page, and nothing yet: with the life that the desk had.
-pub fn keep_on<'a, L: Link, R: Read, M: MoreLines, W: Sink>(
+pub fn keep_on<'a, L: Link, R: Read, M: MoreLines, C: Clock, W: Sink>(
     rt: &HostRuntime,
     disk: DeskDisk<'_>,
     desk: DeskId,
     book: CheckedBook,
     sheet: &MatchSheet,
-    link: &mut L,
-    keys: &mut Ahead<Keyboard<R, M>>,
-    out: &mut Watched<W>,
+    outside: &mut Outside<L, Ahead<Keyboard<R, M>>, C, W>,
     page: Option<&RefCell<ScorersPage>>,
     file: &'a str,
     copy: Option<&'a str>,
 ) -> (Result<(), LifeEnd>, Life<'a>)
     requires empty { book.entries ≡ [] }
     requires innings { book.innings_a_side ≡ sheet.now.innings }
-    requires untyped { given_of (keys.old.queue).log ≡ [] }
+    requires untyped { given_of (outside.old.keys.queue).log ≡ [] }
     requires on { IsOnFiles file.now (option_copied copy) disk }
     ensures desk { result.1.desk ≡ desk }
     ensures file { result.1.file.now ≡ file.now }
     ensures copy { option_copied result.1.copy ≡ option_copied copy.entry }
-    ensures typed { (result.1.typed).value ≡ (keys.new.keys).given }
+    ensures typed { (result.1.typed).value ≡ (outside.new.keys.keys).given }
 {
-    let ended = keep_on_disk(rt, disk, desk, book, sheet, link, keys, out, page);
-    let typed = Snapshot::of(keys.keys().given());
+    let ended = keep_on_disk(rt, disk, desk, book, sheet, outside, page);
+    let typed = Snapshot::of(outside.keys.keys().given());
     let life = Life {
         desk,
         file,

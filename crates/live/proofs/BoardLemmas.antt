@@ -21,7 +21,7 @@ use Rattle.board.specs.Board.{SameMatch, book_of, game_of, state_of}
 use Rattle.board.specs.Takes.{Takes}
 use Rattle.links.specs.Passed.{Passed, Came, sends, sent_to}
 use Rattle.links.specs.declared.link.Receivers.TheVariants.{ToAll}
-use Rattle.live.specs.Runs.{Goes, known, with_text}
+use Rattle.live.specs.Runs.{Goes, Logs, known_where, with_told}
 use Rattle.live.specs.Boards.{Asks, BoardCall, BoardGoes, BoardLives, BoardRuns, BoardTurn, Given, Looked, Read, Ticked, TurnEnded, TurnStep, Unopened}
 use Rattle.live.specs.Boards.{at_turn, beat_of, board_kind, given, grown, in_turn, shown, sight_at, unless_stopped}
 use Rattle.live.specs.Sights.{Sight}
@@ -30,7 +30,7 @@ use Rattle.station_texts.specs.Notices.{untold, notices_after, notices_unopened,
 use Rattle.links.specs.declared.link.TheConstants.{MOST_TAKEN}
 use Rattle.station_texts.specs.declared.{notices.Notice.Notice, notices.Telling.Telling}
 use Rattle.live.proofs.TellingLemmas.{told_first}
-use Rattle.live.proofs.RunLemmas.{both, one, stays, unsaid}
+use Rattle.live.proofs.RunLemmas.{both, none_logged, one, stays, unsaid}
 
 -- a book as long as before isn't printed, and one of another length is
 pub no_more : (text : List ℕ) (m n : ℕ) (s : Option (List ℕ)) → m ≡ n → Appends s s (grown (nat_eq m n) text)
@@ -72,116 +72,116 @@ same_here : {B : Type 0} {g : _} {innings_of : B → ℕ} {k : Board B g} → Sa
 same_here = record { game = refl; innings_a_side = refl }
 
 module _ {B : Type 0} {g : _} {content : B → List Entry} {innings_of : B → ℕ} {sheet : Sheet} {k : Board B g} where
-  pub rests : {p : BoardTurn} {a : List Passed} {m : List ℕ} {s : Option (List ℕ)} → BoardGoes content innings_of sheet k k p p a a m m s s
+  pub rests : {p : BoardTurn} {a : Logs} → BoardGoes content innings_of sheet k k p p a a
   rests = record { same = same_here; goes = stays }
 
-  module _ {l : Board B g} {p q : BoardTurn} {a b : List Passed} {i j : List ℕ} {s t : Option (List ℕ)} where
-    pub then : {m : Board B g} {r : BoardTurn} {c : List Passed} {o : List ℕ} {u : Option (List ℕ)} → BoardGoes content innings_of sheet k l p q a b i j s t
-        → BoardGoes content innings_of sheet l m q r b c j o t u → BoardGoes content innings_of sheet k m p r a c i o s u
-    then {r = r} {c = c} {o = o} {u = u} v w =
+  module _ {l : Board B g} {p q : BoardTurn} {a b : Logs} where
+    pub then : {m : Board B g} {r : BoardTurn} {c : Logs} → BoardGoes content innings_of sheet k l p q a b → BoardGoes content innings_of sheet l m q r b c
+        → BoardGoes content innings_of sheet k m p r a c
+    then {r = r} {c = c} v w =
         let kind : board_kind sheet (game_of l) (innings_of (book_of l)) ≡ board_kind sheet (game_of k) (innings_of (book_of k)) =
         λ i. board_kind sheet (v.same.game i) (v.same.innings_a_side i) in
         record {
           same = record { game = w.same.game ∙ v.same.game; innings_a_side = w.same.innings_a_side ∙ v.same.innings_a_side };
-          goes = both v.goes (subst (λ kind. Goes kind q r b c [] [] j o t u) kind w.goes);
+          goes = both v.goes (subst (λ kind. Goes kind q r b c) kind w.goes);
         }
 
-    pub silent : BoardGoes content innings_of sheet k l p q a b i j s t → BoardGoes content innings_of sheet k l p q a b i j None None
+    pub silent : BoardGoes content innings_of sheet k l p q a b → BoardGoes content innings_of sheet k l p q (record a { told = None }) (record b { told = None })
     silent v = record { same = v.same; goes = unsaid v.goes }
 
     -- the same log
-    pub logged : {c : List Passed} → b ≡ c → BoardGoes content innings_of sheet k l p q a b i j s t → BoardGoes content innings_of sheet k l p q a c i j s t
+    pub logged : {after : List Passed} → b.passed ≡ after → BoardGoes content innings_of sheet k l p q a b
+        → BoardGoes content innings_of sheet k l p q a (record b { passed = after })
     logged e v = rw (← e) v
 
   -- one call, at which the clock showed this
-  called : {l : Board B g} {p q : BoardTurn} {log : List Passed} {m n : List ℕ} {s t : Option (List ℕ)} (call : BoardCall) (out : List Message) → SameMatch innings_of k l
-      → All IsMessage out → TurnStep sheet (game_of k) (innings_of (book_of k)) p call out q → n ≡ m ++ reads (beat_of call)
-      → Appends s t (shown sheet (innings_of (book_of k)) p call q)
-      → BoardGoes content innings_of sheet k l p q log (log ++ (given call ++ sends ToAll (game_of k) out)) m n s t
-  called call out same fine step times text = record { same = same; goes = rw times (one call out fine step text) }
+  called : {l : Board B g} {p q : BoardTurn} {a b : Logs} (call : BoardCall) (out : List Message) → SameMatch innings_of k l → All IsMessage out
+      → TurnStep sheet (game_of k) (innings_of (book_of k)) p call out q → b.passed ≡ a.passed ++ (given call ++ sends ToAll (game_of k) out) → b.typed ≡ a.typed
+      → b.readings ≡ a.readings ++ reads (beat_of call) → Appends a.told b.told (shown sheet (innings_of (book_of k)) p call q)
+      → BoardGoes content innings_of sheet k l p q a b
+  called call out same fine step passed types times text = record { same = same; goes = one call out fine step passed (rw (types, append-nil)) times text }
 
-  module _ {turns had taken : ℕ} {telling : Telling} {ticking : Ticking} {noted : List Notice} {seen : List Sight} {log : List Passed} {m : List ℕ} {s : Option (List ℕ)} where
+  module _ {turns had taken : ℕ} {telling : Telling} {ticking : Ticking} {noted : List Notice} {seen : List Sight} {a : Logs} where
     -- it was given bytes
     pub given_to : {l : Board B g} (bytes : List ℕ) (answer : Result What BoardRefusal) {later : Telling} {heard : Ticking} {notes : List Notice}
         → IsInTime ticking → heard ≡ ticking → taken < MOST_TAKEN → SameMatch innings_of k l
         → Takes (book_refusal (innings_of (book_of k))) (game_of k) (state_of content k) bytes answer (state_of content l)
         → later ≡ telling_after telling answer → notes ≡ notices_after telling noted answer
         → BoardGoes content innings_of sheet k l (in_turn content k turns had taken telling ticking noted seen) (in_turn content l turns had (taken + 1) later heard notes seen)
-        log (log ++ Came bytes ∷ []) m m s s
+        a (record a { passed = a.passed ++ Came bytes ∷ [] })
     given_to {l = l} bytes answer beats stands few same takes tells notices =
         called (Given bytes answer) [] same (All-nil IsMessage)
-        (few, (takes, refl), (λ i. in_turn content l turns had (taken + 1) (tells i) (stands i) (notices i) seen), beats) (rw append-nil) (appends_none s)
+        (few, (takes, refl), (λ i. in_turn content l turns had (taken + 1) (tells i) (stands i) (notices i) seen), beats) refl refl (rw append-nil) (appends_none a.told)
 
     -- bytes came that don't open
     pub passed_over : {later : Telling} {passed : Ticking} {notes : List Notice} {after : List Passed} → IsInTime ticking → passed ≡ ticking → taken < MOST_TAKEN
-        → later ≡ telling_unopened telling → notes ≡ notices_unopened telling noted → after ≡ log
+        → later ≡ telling_unopened telling → notes ≡ notices_unopened telling noted → after ≡ a.passed
         → BoardGoes content innings_of sheet k k (in_turn content k turns had taken telling ticking noted seen) (in_turn content k turns had (taken + 1) later passed notes seen)
-        log after m m s s
+        a (record a { passed = after })
     passed_over beats stands few tells notices is =
-        logged (append-nil log ∙ sym is) (called Unopened [] same_here (All-nil IsMessage)
-        (few, (refl, refl), (λ i. in_turn content k turns had (taken + 1) (tells i) (stands i) (notices i) seen), beats) (rw append-nil) (appends_none s))
+        called Unopened [] same_here (All-nil IsMessage)
+        (few, (refl, refl), (λ i. in_turn content k turns had (taken + 1) (tells i) (stands i) (notices i) seen), beats)
+        (rw (is, append-nil)) refl (rw append-nil) (appends_none a.told)
 
     -- it has ticked
-    ticks : {after : List Passed} {said : Ticking} → IsSome ticking.looked → said ≡ record ticking { ticked = ticking.looked } → Asks content k log after
+    ticks : {after : List Passed} {said : Ticking} → IsSome ticking.looked → said ≡ record ticking { ticked = ticking.looked } → Asks content k a.passed after
         → BoardGoes content innings_of sheet k k (in_turn content k turns had taken telling ticking noted seen) (in_turn content k turns had taken telling said noted seen)
-        log after m m s s
+        a (record a { passed = after })
     ticks looked is asked =
-        logged (sym asked.passed) (called Ticked asked.out same_here asked.fine
-        (tt, (asked.step, refl), (λ i. in_turn content k turns had taken telling (is i) noted seen), looked) (rw append-nil) (appends_none s))
+        called Ticked asked.out same_here asked.fine (tt, (asked.step, refl), (λ i. in_turn content k turns had taken telling (is i) noted seen), looked)
+        asked.passed refl (rw append-nil) (appends_none a.told)
 
     -- it has looked at its clock
-    pub looks : {n : List ℕ} {saw : Ticking} (now : ℕ) → IsInTime ticking → n ≡ m ++ now ∷ [] → saw ≡ record ticking { looked = Some now }
+    pub looks : {n : List ℕ} {saw : Ticking} (now : ℕ) → IsInTime ticking → n ≡ a.readings ++ now ∷ [] → saw ≡ record ticking { looked = Some now }
         → BoardGoes content innings_of sheet k k (in_turn content k turns had taken telling ticking noted seen) (in_turn content k turns had taken telling saw noted seen)
-        log log m n s s
+        a (record a { readings = n })
     looks now beats times is =
-        logged (append-nil log) (called (Looked now) [] same_here (All-nil IsMessage)
-        (tt, (refl, refl), (λ i. in_turn content k turns had taken telling (is i) noted seen), beats) times (appends_none s))
+        called (Looked now) [] same_here (All-nil IsMessage) (tt, (refl, refl), (λ i. in_turn content k turns had taken telling (is i) noted seen), beats)
+        (rw append-nil) refl times (appends_none a.told)
 
     -- it has read its clock
-    pub reads_clock : {n : List ℕ} (now : ℕ) → IsInTime ticking → n ≡ m ++ now ∷ []
+    pub reads_clock : {n : List ℕ} (now : ℕ) → IsInTime ticking → n ≡ a.readings ++ now ∷ []
         → BoardGoes content innings_of sheet k k (in_turn content k turns had taken telling ticking noted seen) (in_turn content k turns had taken telling ticking noted seen)
-        log log m n s s
+        a (record a { readings = n })
     reads_clock now beats times =
-        logged (append-nil log) (called (Read now) [] same_here (All-nil IsMessage) (tt, (refl, refl), refl, beats) times (appends_none s))
+        called (Read now) [] same_here (All-nil IsMessage) (tt, (refl, refl), refl, beats) (rw append-nil) refl times (appends_none a.told)
 
     -- its turn is over
     pub turn_over : {t : Option (List ℕ)} {rested : Ticking} {sees : List Sight} → IsSome ticking.looked → IsInTime ticking → rested ≡ record ticking { looked = None }
         → sees ≡ seen ++ unless_stopped telling.is_stopped (sight_at content innings_of sheet k ∷ [])
-        → Appends s t (shown sheet (innings_of (book_of k)) (in_turn content k turns had taken telling ticking noted seen) TurnEnded (at_turn content k (turns + 1) telling rested noted sees))
+        → Appends a.told t (shown sheet (innings_of (book_of k)) (in_turn content k turns had taken telling ticking noted seen) TurnEnded (at_turn content k (turns + 1) telling rested noted sees))
         → BoardGoes content innings_of sheet k k (in_turn content k turns had taken telling ticking noted seen) (at_turn content k (turns + 1) telling rested noted sees)
-        log log m m s t
+        a (record a { told = t })
     turn_over looked beats is sights text =
-        logged (append-nil log) (called TurnEnded [] same_here (All-nil IsMessage)
-        (tt, (refl, refl), (λ i. at_turn content k (turns + 1) telling (is i) noted (sights i)), (looked, beats)) (rw append-nil) text)
+        called TurnEnded [] same_here (All-nil IsMessage)
+        (tt, (refl, refl), (λ i. at_turn content k (turns + 1) telling (is i) noted (sights i)), (looked, beats)) (rw append-nil) refl (rw append-nil) text
 
   -- it has looked at its clock, and ticked
-  pub speaks : {turns had taken : ℕ} {telling : Telling} {ticking : Ticking} {noted : List Notice} {seen : List Sight} {log after : List Passed} {m n : List ℕ} {s : Option (List ℕ)}
-      {said : Ticking} (now : ℕ) → IsInTime ticking → n ≡ m ++ now ∷ [] → said ≡ after_look true ticking now → Asks content k log after
+  pub speaks : {turns had taken : ℕ} {telling : Telling} {ticking : Ticking} {noted : List Notice} {seen : List Sight} {a : Logs} {after : List Passed} {n : List ℕ} {said : Ticking} (now : ℕ) → IsInTime ticking → n ≡ a.readings ++ now ∷ [] → said ≡ after_look true ticking now → Asks content k a.passed after
       → BoardGoes content innings_of sheet k k (in_turn content k turns had taken telling ticking noted seen) (in_turn content k turns had taken telling said noted seen)
-      log after m n s s
+      a (record a { passed = after; readings = n })
   speaks {ticking = ticking} now beats times is asked =
       then (looks {ticking = ticking} now beats times refl) (ticks {ticking = record { ticked = ticking.ticked; looked = Some now }} refl is asked)
 
   -- nothing is seen of its clock
-  pub unread : {turns had taken : ℕ} {telling : Telling} {ticking saw : Ticking} {noted : List Notice} {seen : List Sight} {log : List Passed} {m : List ℕ} {s : Option (List ℕ)}
-      → saw ≡ ticking
+  pub unread : {turns had taken : ℕ} {telling : Telling} {ticking saw : Ticking} {noted : List Notice} {seen : List Sight} {a : Logs} → saw ≡ ticking
       → BoardGoes content innings_of sheet k k (in_turn content k turns had taken telling ticking noted seen) (in_turn content k turns had taken telling saw noted seen)
-      log log m m s s
+      a a
   unread is = rw is rests
 
-  module _ {l : Board B g} {E : Type 0} {a b : List Passed} {i j : List ℕ} {s t : Option (List ℕ)} {from to : ℕ} {telling : Telling} {ticking : Ticking}
+  module _ {l : Board B g} {E : Type 0} {from to : ℕ} {telling : Telling} {ticking : Ticking}
       {noted notes : List Notice} {seen sees : List Sight} where
     -- a write failed
-    pub stopped : {last : BoardTurn} (p : BoardTurn) (r : Result (Unit {0}) E) (fault : E) → IsErrAnd r (λ e. e ≡ fault) → last.board ≡ state_of content l → last.notices ≡ notes → last.seen ≡ sees
-        → BoardGoes content innings_of sheet k l (at_turn content k from telling ticking noted seen) last a b i j None None
-        → (runs : BoardRuns content innings_of sheet k l a b i j s t from to telling ticking noted notes seen sees r) × OnOk r (runs.last ≡ p)
-    stopped p (Ok done) fault h is notices sights v = absurd h
-    stopped {last = last} p (Err e) fault h is notices sights v = (record { last = last; is = is; noticed = notices; sighted = sights; goes = v; whole = tt }, tt)
+    pub stopped : (a b : Logs) {last : BoardTurn} (p : BoardTurn) (r : Result (Unit {0}) E) (fault : E) → IsErrAnd r (λ e. e ≡ fault) → last.board ≡ state_of content l → last.notices ≡ notes → last.seen ≡ sees
+        → BoardGoes content innings_of sheet k l (at_turn content k from telling ticking noted seen) last (record a { told = None }) (record b { told = None })
+        → (runs : BoardRuns content innings_of sheet k l a b from to telling ticking noted notes seen sees r) × OnOk r (runs.last ≡ p)
+    stopped a b p (Ok done) fault h is notices sights v = absurd h
+    stopped a b {last = last} p (Err e) fault h is notices sights v = (record { last = last; is = is; noticed = notices; sighted = sights; goes = v; whole = tt }, tt)
 
     -- all turns are over
-    pub finished : {later : Telling} {rested : Ticking} (r : Result (Unit {0}) E)
-        → BoardGoes content innings_of sheet k l (at_turn content k from telling ticking noted seen) (at_turn content l to later rested notes sees) a b i j s t
-        → (runs : BoardRuns content innings_of sheet k l a b i j s t from to telling ticking noted notes seen sees r)
+    pub finished : {a b : Logs} {later : Telling} {rested : Ticking} (r : Result (Unit {0}) E)
+        → BoardGoes content innings_of sheet k l (at_turn content k from telling ticking noted seen) (at_turn content l to later rested notes sees) a b
+        → (runs : BoardRuns content innings_of sheet k l a b from to telling ticking noted notes seen sees r)
         × OnOk r (runs.last ≡ at_turn content l to later rested notes sees)
     finished {later = later} {rested = rested} (Ok done) v =
         (record { last = at_turn content l to later rested notes sees; is = refl; noticed = refl; sighted = refl; goes = v; whole = refl }, refl)
@@ -189,59 +189,67 @@ module _ {B : Type 0} {g : _} {content : B → List Entry} {innings_of : B → �
         (record { last = at_turn content l to later rested notes sees; is = refl; noticed = refl; sighted = refl; goes = silent v; whole = tt }, tt)
 
     -- turns that are over
-    pub whole_turns : (p : BoardTurn) (r : Result (Unit {0}) E)
-        (runs : BoardRuns content innings_of sheet k l a b i j s t from to telling ticking noted notes seen sees r) → OnOk r (runs.last ≡ p)
-        → OnOk r (BoardGoes content innings_of sheet k l (at_turn content k from telling ticking noted seen) p a b i j s t)
-    whole_turns p (Ok done) runs e = subst (λ (p : BoardTurn). BoardGoes content innings_of sheet k l (at_turn content k from telling ticking noted seen) p a b i j s t) e runs.goes
+    pub whole_turns : {a b : Logs} (p : BoardTurn) (r : Result (Unit {0}) E)
+        (runs : BoardRuns content innings_of sheet k l a b from to telling ticking noted notes seen sees r) → OnOk r (runs.last ≡ p)
+        → OnOk r (BoardGoes content innings_of sheet k l (at_turn content k from telling ticking noted seen) p (known_where r a) (known_where r b))
+    whole_turns {a = a} {b = b} p (Ok done) runs e = subst (λ (p : BoardTurn). BoardGoes content innings_of sheet k l (at_turn content k from telling ticking noted seen) p a b) e runs.goes
     whole_turns p (Err fault) runs e = tt
 
   -- what is shown at first comes before a run, and a reading of the clock
-  shown_first : {E : Type 0} {noted : List Notice} {seen : List Sight} {a : List Passed} {i j : List ℕ} (r : Result (Unit {0}) E) (s t : Option (List ℕ)) (text : List ℕ) (now : ℕ)
-      → j ≡ i ++ now ∷ [] → Appends s t text
-      → BoardGoes content innings_of sheet k k (at_turn content k 0 untold unticked noted seen) (at_turn content k 0 untold unticked noted seen) a a i j
-      (known r (with_text s text)) (known r t)
-  shown_first (Ok done) s t text now times first =
+  shown_first : {E : Type 0} {noted : List Notice} {seen : List Sight} (a : Logs) {readings : List ℕ} (r : Result (Unit {0}) E) (t : Option (List ℕ)) (text : List ℕ) (now : ℕ)
+      → readings ≡ a.readings ++ now ∷ [] → Appends a.told t text
+      → BoardGoes content innings_of sheet k k (at_turn content k 0 untold unticked noted seen) (at_turn content k 0 untold unticked noted seen)
+      (known_where r (with_told a text)) (known_where r (record a { readings = readings; told = t }))
+  shown_first a (Ok done) t text now times first =
       then (record {
         same = same_here;
-        goes = record { moments = []; run = tt; last = refl; passed = rw append-nil; inputs = refl; readings = rw append-nil; printed = told_first s t text first };
+        goes = record { moments = []; run = tt; last = refl; logs = none_logged (told_first a.told t text first) };
       }) (reads_clock {ticking = unticked} now tt times)
-  shown_first (Err fault) s t text now times first = reads_clock {ticking = unticked} now tt times
+  shown_first a (Err fault) t text now times first = reads_clock {ticking = unticked} now tt times
 
-  pub runs_on : {l : Board B g} {E : Type 0} {a b : List Passed} {i j o : List ℕ} {t u : Option (List ℕ)} {to : ℕ} {noted notes : List Notice} {seen sees : List Sight}
-      (r : Result (Unit {0}) E) (s : Option (List ℕ)) (text : List ℕ) (now : ℕ) → j ≡ i ++ now ∷ [] → Appends s t text
-      → BoardRuns content innings_of sheet k l a b j o t u 0 to untold unticked noted notes seen sees r
-      → BoardRuns content innings_of sheet k l a b i o (with_text s text) u 0 to untold unticked noted notes seen sees r
-  runs_on {t = t} r s text now times first v =
-      record { last = v.last; is = v.is; noticed = v.noticed; sighted = v.sighted; goes = then (shown_first r s t text now times first) v.goes; whole = v.whole }
+  pub runs_on : {l : Board B g} {E : Type 0} (a : Logs) {b : Logs} {readings : List ℕ} {t : Option (List ℕ)} {to : ℕ} {noted notes : List Notice} {seen sees : List Sight}
+      (r : Result (Unit {0}) E) (text : List ℕ) (now : ℕ) → readings ≡ a.readings ++ now ∷ [] → Appends a.told t text
+      → BoardRuns content innings_of sheet k l (record a { readings = readings; told = t }) b 0 to untold unticked noted notes seen sees r
+      → BoardRuns content innings_of sheet k l (with_told a text) b 0 to untold unticked noted notes seen sees r
+  runs_on a {t = t} r text now times first v =
+      record { last = v.last; is = v.is; noticed = v.noticed; sighted = v.sighted; goes = then (shown_first a r t text now times first) v.goes; whole = v.whole }
 
   -- its first lines are printed and its book is handed over, and then it runs
-  pub lives_on : {l : Board B g} {E : Type 0} {a b : List Passed} {i j o : List ℕ} {t u : Option (List ℕ)} {to : ℕ} {noted notes : List Notice} {seen had sees : List Sight}
-      (r : Result (Unit {0}) E) (s : Option (List ℕ)) (now : ℕ) → j ≡ i ++ now ∷ [] → Appends s t (board_text sheet (innings_of (book_of k)) (history_of (content (book_of k))))
-      → had ≡ seen ++ sight_at content innings_of sheet k ∷ [] → BoardRuns content innings_of sheet k l a b j o t u 0 to untold unticked noted notes had sees r
-      → BoardLives content innings_of sheet k l a b i o s u to noted notes seen sees r
-  lives_on {l = l} {a = a} {b = b} {j = j} {o = o} {t = t} {u = u} {to = to} {noted = noted} {notes = notes} {sees = sees} r s now times text is v =
+  pub lives_on : {l : Board B g} {E : Type 0} (a : Logs) {b : Logs} {readings : List ℕ} {t : Option (List ℕ)} {to : ℕ} {noted notes : List Notice} {seen had sees : List Sight}
+      (r : Result (Unit {0}) E) (now : ℕ) → readings ≡ a.readings ++ now ∷ [] → Appends a.told t (board_text sheet (innings_of (book_of k)) (history_of (content (book_of k))))
+      → had ≡ seen ++ sight_at content innings_of sheet k ∷ []
+      → BoardRuns content innings_of sheet k l (record a { readings = readings; told = t }) b 0 to untold unticked noted notes had sees r
+      → BoardLives content innings_of sheet k l a b to noted notes seen sees r
+  lives_on {l = l} a {b = b} {readings = readings} {t = t} {to = to} {noted = noted} {notes = notes} {sees = sees} r now times text is v =
       record {
         first = sight_at content innings_of sheet k ∷ [];
         shows_first = inl refl;
-        runs = runs_on r s _ now times text
-            (subst (λ (xs : List Sight). BoardRuns content innings_of sheet k l a b j o t u 0 to untold unticked noted notes xs sees r) is v);
+        runs = runs_on a r _ now times text
+            (subst (λ (xs : List Sight). BoardRuns content innings_of sheet k l (record a { readings = readings; told = t }) b 0 to untold unticked noted notes xs sees r) is v);
       }
 
   -- or that failed
-  pub not_begun : {E failed : Type 0} {a : List Passed} {i j : List ℕ} {s t : Option (List ℕ)} {to : ℕ} {noted : List Notice} {seen sees : List Sight}
-      (r : Result (Unit {0}) E) (fault : E) (now : ℕ) → IsErrAnd r (λ e. e ≡ fault) → j ≡ i ++ now ∷ []
-      → (sees ≡ seen ++ sight_at content innings_of sheet k ∷ []) ⊎ ((sees ≡ seen) × failed) → BoardLives content innings_of sheet k k a a i j s t to noted noted seen sees r
-  not_begun (Ok done) fault now h times seen = absurd h
-  not_begun {noted = noted} {seen = seen} (Err e) fault now h times (inl is) =
+  pub not_begun : {E failed : Type 0} (a : Logs) {readings : List ℕ} {t : Option (List ℕ)} {to : ℕ} {noted : List Notice} {seen sees : List Sight}
+      (r : Result (Unit {0}) E) (fault : E) (now : ℕ) → IsErrAnd r (λ e. e ≡ fault) → readings ≡ a.readings ++ now ∷ []
+      → (sees ≡ seen ++ sight_at content innings_of sheet k ∷ []) ⊎ ((sees ≡ seen) × failed)
+      → BoardLives content innings_of sheet k k a (record a { readings = readings; told = t }) to noted noted seen sees r
+  not_begun a (Ok done) fault now h times seen = absurd h
+  not_begun a {readings = readings} {t = t} {noted = noted} {seen = seen} (Err e) fault now h times (inl is) =
       let first : List Sight = sight_at content innings_of sheet k ∷ [] in
       let last = at_turn content k 0 untold unticked noted (seen ++ first) in
-      record { first = first; shows_first = inl refl; runs = (stopped {last = last} last (Err e) fault h refl refl (sym is) (reads_clock {ticking = unticked} now tt times)).0 }
-  not_begun {noted = noted} {seen = seen} (Err e) fault now h times (inr is) =
+      record {
+        first = first;
+        shows_first = inl refl;
+        runs = (stopped _ (record a { readings = readings; told = t }) {last = last} last (Err e) fault h refl refl (sym is) (reads_clock {ticking = unticked} now tt times)).0;
+      }
+  not_begun a {readings = readings} {t = t} {noted = noted} {seen = seen} (Err e) fault now h times (inr is) =
       let last = at_turn content k 0 untold unticked noted (seen ++ []) in
       record {
         first = [];
         shows_first = inr (refl, refl);
-        runs = (stopped {last = last} last (Err e) fault h refl refl (append-nil seen ∙ sym is.0) (reads_clock {ticking = unticked} now tt times)).0;
+        runs =
+            (stopped _ (record a { readings = readings; told = t }) {last = last} last (Err e) fault h refl refl (append-nil seen ∙ sym is.0)
+            (reads_clock {ticking = unticked} now tt times)).0;
       }
 
 -- where that went well the book was handed over

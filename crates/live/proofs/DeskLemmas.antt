@@ -26,21 +26,21 @@ use Rattle.desk.specs.Desk.{SameOwner, disk_of, game_of, rules_of, state_of, vie
 use Rattle.desk.specs.Takes.{Takes}
 use Rattle.links.specs.Passed.{Passed, Came, Sent, sends, sent_to}
 use Rattle.links.specs.declared.link.Receivers.TheVariants.{ToAll, ToOne}
-use Rattle.live.specs.Runs.{Goes, Kind}
+use Rattle.live.specs.Runs.{Goes, Kind, Logs}
 use Rattle.station_texts.specs.Saying.{ComesTo, SaysEntry}
 use Rattle.links.specs.Typing.{Input, Line, End}
 use Rattle.links.specs.declared.aside.Aside.{Aside}
 use Rattle.live.specs.Asides.{aside_text}
 use Rattle.station_texts.specs.Texts.{came_text, reminder_text, said_text, unopened_text, warned_after, warned_reminded, warned_unopened}
 use Rattle.live.specs.LostLines.{end_given, end_here}
-use Rattle.live.specs.Ends.{Course, course_of, end_of, ending, further, known_at, known_to, turns_after}
+use Rattle.live.specs.Ends.{Course, course_of, end_of, ending, further, known_at, known_in, known_until, turns_after}
 use Rattle.live.specs.Desks.{Blames, disks_of, Calls, DeskCall, DeskGoes, DeskProcess, DeskStep, Given, FitsLongest, MayCall, MayRemind, Looked, Read, Reminded, Ticked, ToldAside, TurnEnded, Typed}
 use Rattle.live.specs.Desks.{TypingEnded, Unopened, after_call, beat_of, course_after, desk_kind, entry_in, given, innings_of, kind_of, loss_in, own_line, process_of, receivers_of, told_of, typed}
 use Rattle.live.specs.Ticks.{IsInTime, MayBeat, Ticking, after_look, reads}
 use Rattle.live.specs.declared.ends.DeskEnd.{DeskEnd}
 use Rattle.station_texts.specs.declared.{reminder.Reminder.Reminder, said.Said.Said, warned.Warned.Warned}
 use Rattle.live.proofs.LostLemmas.{heard_ends}
-use Rattle.live.proofs.RunLemmas.{both, one, stays, unsaid}
+use Rattle.live.proofs.RunLemmas.{both, one, retold, stays, unsaid}
 use Rattle.live.proofs.TellingLemmas.{came_course, came_nothing, said_course, said_nothing}
 
 -- no device call failed
@@ -78,14 +78,13 @@ module _ {S B D : Type 0} {g : Files S D} {h : Disks D} {b : Books B} where
   kind_stays : (sheet : Sheet) (k l : Desk S B D g h b) → SameOwner k l → kind_of sheet l ≡ kind_of sheet k
   kind_stays sheet k l x = λ i. kind_with (file_view g.contents h.seen h.images) h.faults g.room sheet (x.desk i) (x.game i) (x.innings_a_side i) (x.cap i)
 
-  pub rests : {sheet : Sheet} {k : Desk S B D g h b} {p : DeskProcess D} {a : List Passed} {x : List Input} {m : List ℕ} {s : Option (List ℕ)} → DeskGoes sheet k k p p a a x x m m s s
+  pub rests : {sheet : Sheet} {k : Desk S B D g h b} {p : DeskProcess D} {a : Logs} → DeskGoes sheet k k p p a a
   rests {k = k} = record { same = same_here k; goes = stays }
 
-  module _ {sheet : Sheet} {k l : Desk S B D g h b} {p q : DeskProcess D} {a b' : List Passed} {x y : List Input} {i j : List ℕ} {s t : Option (List ℕ)} where
-    pub then : {m : Desk S B D g h b} {r : DeskProcess D} {c : List Passed} {z : List Input} {o : List ℕ} {u : Option (List ℕ)}
-        → DeskGoes sheet k l p q a b' x y i j s t → DeskGoes sheet l m q r b' c y z j o t u → DeskGoes sheet k m p r a c x z i o s u
-    then {r = r} {c = c} {z = z} {o = o} {u = u} v w =
-        let next = subst (λ kind. Goes kind q r b' c y z j o t u) (kind_stays sheet k l v.same) w.goes in
+  module _ {sheet : Sheet} {k l : Desk S B D g h b} {p q : DeskProcess D} {a c : Logs} where
+    pub then : {m : Desk S B D g h b} {r : DeskProcess D} {e : Logs} → DeskGoes sheet k l p q a c → DeskGoes sheet l m q r c e → DeskGoes sheet k m p r a e
+    then {r = r} {e = e} v w =
+        let next = subst (λ kind. Goes kind q r c e) (kind_stays sheet k l v.same) w.goes in
         record {
           same = record {
             desk = w.same.desk ∙ v.same.desk;
@@ -96,70 +95,66 @@ module _ {S B D : Type 0} {g : Files S D} {h : Disks D} {b : Books B} where
           goes = both v.goes next;
         }
 
-    pub silent : DeskGoes sheet k l p q a b' x y i j s t → DeskGoes sheet k l p q a b' x y i j None None
+    pub silent : DeskGoes sheet k l p q a c → DeskGoes sheet k l p q (record a { told = None }) (record c { told = None })
     silent v = record { same = v.same; goes = unsaid v.goes }
 
     -- the same log
-    pub logged : {c : List Passed} → b' ≡ c → DeskGoes sheet k l p q a b' x y i j s t → DeskGoes sheet k l p q a c x y i j s t
+    pub logged : {after : List Passed} → c.passed ≡ after → DeskGoes sheet k l p q a c → DeskGoes sheet k l p q a (record c { passed = after })
     logged e v = rw (← e) v
 
     -- a flush leaves what was written
-    pub kept : {u : Option (List ℕ)} → DeskGoes sheet k l p q a b' x y i j s t → Keeps t u → DeskGoes sheet k l p q a b' x y i j s u
+    pub kept : {u : Option (List ℕ)} → DeskGoes sheet k l p q a c → Keeps c.told u → DeskGoes sheet k l p q a (record c { told = u })
     kept {u = u} v w =
         let z = v.goes in
-        let text = appends_kept s t u _ z.printed w in
-        record { same = v.same; goes = record { moments = z.moments; run = z.run; last = z.last; passed = z.passed; inputs = z.inputs; readings = z.readings; printed = text } }
+        let text = appends_kept a.told c.told u _ z.logs.printed w in
+        record { same = v.same; goes = record { moments = z.moments; run = z.run; last = z.last; logs = retold z.logs text } }
 
   -- one call
-  called : {sheet : Sheet} {k l : Desk S B D g h b} (call : DeskCall) {warned : Warned} {turns : ℕ} {ticking : Ticking} {q : DeskProcess D}
-      {log before after : List Passed} {x y : List Input} {m n : List ℕ} {s t : Option (List ℕ)}
-      → MayCall (process_of k warned turns ticking further) call → MayBeat ticking (beat_of call) → Calls sheet k l call before after
-      → before ≡ log ++ given call → y ≡ x ++ typed call → n ≡ m ++ reads (beat_of call)
+  called : {sheet : Sheet} {k l : Desk S B D g h b} (call : DeskCall) {warned : Warned} {turns : ℕ} {ticking : Ticking} {q : DeskProcess D} {a c : Logs} {before : List Passed}
+      → MayCall (process_of k warned turns ticking further) call → MayBeat ticking (beat_of call) → Calls sheet k l call before c.passed
+      → before ≡ a.passed ++ given call → c.typed ≡ a.typed ++ typed call → c.readings ≡ a.readings ++ reads (beat_of call)
       → q ≡ after_call (process_of k warned turns ticking further) call (state_of l)
-      → Appends s t (told_of sheet (innings_of k) (process_of k warned turns ticking further) call q)
-      → DeskGoes sheet k l (process_of k warned turns ticking further) q log after x y m n s t
-  called {sheet = sheet} {k = k} {l = l} call {warned = warned} {turns = turns} {ticking = ticking} {q = q} {log = log} {after = after} {x = x} {m = m} {s = s} {t = t}
-      may beats c came types times is text =
-      let kind = kind_of sheet k in
-      let p = process_of k warned turns ticking further in
-      let out = sends (receivers_of call) (game_of k) c.out in
-      let all : Goes kind p q log (log ++ (given call ++ out)) x (x ++ typed call) m (m ++ reads (beat_of call)) s t =
-      rw is (one call c.out c.fine (refl, c.step, c.blame, refl, may, beats) (rw is at text)) in
-      let path : after ≡ log ++ (given call ++ out) = c.passed ∙ (ap (λ (xs : List Passed). xs ++ out) came ∙ append_assoc log (given call) _) in
-      record { same = c.same; goes = rw (types, times, path) all }
+      → Appends a.told c.told (told_of sheet (innings_of k) (process_of k warned turns ticking further) call q)
+      → DeskGoes sheet k l (process_of k warned turns ticking further) q a c
+  called {k = k} call {a = a} may beats calls came types times is text =
+      let out = sends (receivers_of call) (game_of k) calls.out in
+      let path = calls.passed ∙ (ap (λ (xs : List Passed). xs ++ out) came ∙ append_assoc a.passed (given call) out) in
+      record { same = calls.same; goes = rw is (one call calls.out calls.fine (refl, calls.step, calls.blame, refl, may, beats) path types times (rw is at text)) }
 
-  module _ {sheet : Sheet} {k l : Desk S B D g h b} {warned : Warned} {turns : ℕ} {ticking : Ticking} {x : List Input} {m : List ℕ} {s : Option (List ℕ)} where
+  module _ {sheet : Sheet} {k l : Desk S B D g h b} {warned : Warned} {turns : ℕ} {ticking : Ticking} {a : Logs} where
     -- its scorer typed a line
-    pub says : {line : List ℕ} (answer : Said) {course : Course} {before after : List Passed} {y : List Input} {t : Option (List ℕ)}
-        → IsInTime ticking → Calls sheet k l (Typed line answer) before after
-        → y ≡ x ++ Line line ∷ [] → course ≡ end_of answer
-        → Appends s t (said_text sheet (innings_of k) (state_of k).seat.position (own_line (state_of k)) (state_of k).seat.theirs warned.of_silence (state_of l).book answer)
-        → DeskGoes sheet k l (process_of k warned turns ticking further) (process_of l warned turns ticking course) before after x y m m s t
+    pub says : {line : List ℕ} (answer : Said) {course : Course} {after : List Passed} {y : List Input} {t : Option (List ℕ)}
+        → IsInTime ticking → Calls sheet k l (Typed line answer) a.passed after
+        → y ≡ a.typed ++ Line line ∷ [] → course ≡ end_of answer
+        → Appends a.told t (said_text sheet (innings_of k) (state_of k).seat.position (own_line (state_of k)) (state_of k).seat.theirs warned.of_silence (state_of l).book answer)
+        → DeskGoes sheet k l (process_of k warned turns ticking further) (process_of l warned turns ticking course) a
+        (record a { passed = after; typed = y; told = t })
     says answer beats c types is text = called (Typed _ answer) {ticking = ticking} tt beats c (rw append-nil) types (rw append-nil) (rw is) text
 
     -- a line at which the process ends
-    pub says_last : {line : List ℕ} (answer : Said) (end : DeskEnd) {before after : List Passed} {y : List Input} → IsInTime ticking
-        → Calls sheet k l (Typed line answer) before after → y ≡ x ++ Line line ∷ [] → end_of answer ≡ Err end
-        → DeskGoes sheet k l (process_of k warned turns ticking further) (process_of l warned turns ticking (ending end)) before after x y m m s s
+    pub says_last : {line : List ℕ} (answer : Said) (end : DeskEnd) {after : List Passed} {y : List Input} → IsInTime ticking
+        → Calls sheet k l (Typed line answer) a.passed after → y ≡ a.typed ++ Line line ∷ [] → end_of answer ≡ Err end
+        → DeskGoes sheet k l (process_of k warned turns ticking further) (process_of l warned turns ticking (ending end)) a
+        (record a { passed = after; typed = y })
     says_last answer end beats c types e =
         says answer beats c types (said_course answer end e)
-        (said_nothing sheet (innings_of k) (state_of k).seat.position (own_line (state_of k)) (state_of k).seat.theirs warned.of_silence (state_of l).book answer end s e)
+        (said_nothing sheet (innings_of k) (state_of k).seat.position (own_line (state_of k)) (state_of k).seat.theirs warned.of_silence (state_of l).book answer end a.told e)
 
     -- bytes came
-    pub hears : {bytes : List ℕ} (what : What) {course : Course} {later : Warned} {heard : Ticking} {log before after : List Passed} {t : Option (List ℕ)}
+    pub hears : {bytes : List ℕ} (what : What) {course : Course} {later : Warned} {heard : Ticking} {before after : List Passed} {t : Option (List ℕ)}
         → IsInTime ticking → heard ≡ ticking → Calls sheet k l (Given bytes what) before after
-        → before ≡ log ++ Came bytes ∷ [] → later ≡ warned_after warned (loss_in (state_of k) bytes what) what → course ≡ end_here (state_of k).seat bytes what
-        → Appends s t (came_text sheet (innings_of k) (state_of k).seat.position.place (own_line (state_of k)) (entry_in bytes) (state_of l).book warned (loss_in (state_of k) bytes what) what)
-        → DeskGoes sheet k l (process_of k warned turns ticking further) (process_of l later turns heard course) log after x x m m s t
+        → before ≡ a.passed ++ Came bytes ∷ [] → later ≡ warned_after warned (loss_in (state_of k) bytes what) what → course ≡ end_here (state_of k).seat bytes what
+        → Appends a.told t (came_text sheet (innings_of k) (state_of k).seat.position.place (own_line (state_of k)) (entry_in bytes) (state_of l).book warned (loss_in (state_of k) bytes what) what)
+        → DeskGoes sheet k l (process_of k warned turns ticking further) (process_of l later turns heard course) a (record a { passed = after; told = t })
     hears what beats same c came tells is text = called (Given _ what) {ticking = ticking} tt beats c came (rw append-nil) (rw append-nil) (rw (tells, same, is)) text
 
     -- bytes at which the process ends
-    pub hears_last : {bytes : List ℕ} (what : What) (end : DeskEnd) {later : Warned} {heard : Ticking} {log before after : List Passed} → IsInTime ticking
-        → heard ≡ ticking → Calls sheet k l (Given bytes what) before after → before ≡ log ++ Came bytes ∷ [] → later ≡ warned_after warned (loss_in (state_of k) bytes what) what → end_here (state_of k).seat bytes what ≡ Err end
-        → DeskGoes sheet k l (process_of k warned turns ticking further) (process_of l later turns heard (ending end)) log after x x m m s s
+    pub hears_last : {bytes : List ℕ} (what : What) (end : DeskEnd) {later : Warned} {heard : Ticking} {before after : List Passed} → IsInTime ticking
+        → heard ≡ ticking → Calls sheet k l (Given bytes what) before after → before ≡ a.passed ++ Came bytes ∷ [] → later ≡ warned_after warned (loss_in (state_of k) bytes what) what → end_here (state_of k).seat bytes what ≡ Err end
+        → DeskGoes sheet k l (process_of k warned turns ticking further) (process_of l later turns heard (ending end)) a (record a { passed = after })
     hears_last {bytes = bytes} what end beats same c came tells e =
         hears what beats same c came tells (came_course _ what end e)
-        (came_nothing sheet (innings_of k) (state_of k).seat.position.place (own_line (state_of k)) (entry_in bytes) (state_of l).book warned _ _ what end s e)
+        (came_nothing sheet (innings_of k) (state_of k).seat.position.place (own_line (state_of k)) (entry_in bytes) (state_of l).book warned _ _ what end a.told e)
 
   unmoved : {sheet : Sheet} {k : Desk S B D g h b} (call : DeskCall) {log : List Passed}
       → DeskStep sheet (view_of k) (game_of k) (innings_of k) (state_of k) call [] (state_of k) → (IsErrOf (course_after (state_of k) call) DeskEnd.Device → ⊥)
@@ -173,68 +168,70 @@ module _ {S B D : Type 0} {g : Files S D} {h : Disks D} {b : Books B} where
     blame = λ runs. blameless (course_after (state_of k) call) _ _ n refl;
   }
 
-  module _ {sheet : Sheet} {k : Desk S B D g h b} {warned : Warned} {turns : ℕ} {ticking : Ticking} {log : List Passed} {x : List Input} {m : List ℕ} {s : Option (List ℕ)} where
+  module _ {sheet : Sheet} {k : Desk S B D g h b} {warned : Warned} {turns : ℕ} {ticking : Ticking} {a : Logs} where
     -- bytes came that don't open
     pub passes : {later : Warned} {passed : Ticking} {course : Course} {t : Option (List ℕ)} → IsInTime ticking → passed ≡ ticking
-        → later ≡ warned_unopened warned → course ≡ further → Appends s t (unopened_text warned)
-        → DeskGoes sheet k k (process_of k warned turns ticking further) (process_of k later turns passed course) log log x x m m s t
+        → later ≡ warned_unopened warned → course ≡ further → Appends a.told t (unopened_text warned)
+        → DeskGoes sheet k k (process_of k warned turns ticking further) (process_of k later turns passed course) a (record a { told = t })
     passes beats same tells is text =
         called Unopened {ticking = ticking} tt beats (unmoved Unopened (refl, refl) (λ e. (cc))) (rw append-nil) (rw append-nil) (rw append-nil) (rw (tells, same, is)) text
 
     -- its scorer is told of the other desk
     pub reminds : (reminder : Reminder) {later : Warned} {told : Ticking} {course : Course} {t : Option (List ℕ)} → IsInTime ticking → told ≡ ticking
         → MayRemind (process_of k warned turns ticking further) reminder
-        → later ≡ warned_reminded warned reminder → course ≡ further → Appends s t (reminder_text (state_of k).seat.position.place reminder)
-        → DeskGoes sheet k k (process_of k warned turns ticking further) (process_of k later turns told course) log log x x m m s t
+        → later ≡ warned_reminded warned reminder → course ≡ further → Appends a.told t (reminder_text (state_of k).seat.position.place reminder)
+        → DeskGoes sheet k k (process_of k warned turns ticking further) (process_of k later turns told course) a (record a { told = t })
     reminds reminder beats same may tells is text =
         called (Reminded reminder) {ticking = ticking} may beats (unmoved (Reminded reminder) (refl, refl) (λ e. (cc))) (rw append-nil) (rw append-nil) (rw append-nil)
         (rw (tells, same, is)) text
 
     -- its scorer is told of lines that it isn't given
-    pub tells_aside : (aside : Aside) {course : Course} {y : List Input} {t : Option (List ℕ)} → IsInTime ticking → y ≡ x → course ≡ further → Appends s t (aside_text sheet.columns aside)
-        → DeskGoes sheet k k (process_of k warned turns ticking further) (process_of k warned turns ticking course) log log x y m m s t
+    pub tells_aside : (aside : Aside) {course : Course} {y : List Input} {t : Option (List ℕ)} → IsInTime ticking → y ≡ a.typed → course ≡ further → Appends a.told t (aside_text sheet.columns aside)
+        → DeskGoes sheet k k (process_of k warned turns ticking further) (process_of k warned turns ticking course) a
+        (record a { typed = y; told = t })
     tells_aside aside beats types is text =
         called (ToldAside aside) {ticking = ticking} tt beats (unmoved (ToldAside aside) (refl, refl) (λ e. (cc))) (rw append-nil) (rw (append-nil, types)) (rw append-nil) (rw is) text
 
     -- its scorer types no more
-    pub typing_over : {y : List Input} → IsInTime ticking → y ≡ x ++ End ∷ []
-        → DeskGoes sheet k k (process_of k warned turns ticking further) (process_of k warned turns ticking (Err DeskEnd.NoMoreLines)) log log x y m m s s
+    pub typing_over : {y : List Input} → IsInTime ticking → y ≡ a.typed ++ End ∷ []
+        → DeskGoes sheet k k (process_of k warned turns ticking further) (process_of k warned turns ticking (Err DeskEnd.NoMoreLines)) a
+        (record a { typed = y })
     typing_over beats types =
-        called TypingEnded {ticking = ticking} tt beats (unmoved TypingEnded (refl, refl) (λ e. (cc))) (rw append-nil) types (rw append-nil) refl (appends_none s)
+        called TypingEnded {ticking = ticking} tt beats (unmoved TypingEnded (refl, refl) (λ e. (cc))) (rw append-nil) types (rw append-nil) refl (appends_none a.told)
 
     -- its turn is over
     pub turn_over : {rested : Ticking} → IsSome ticking.looked → IsInTime ticking → rested ≡ record ticking { looked = None }
-        → DeskGoes sheet k k (process_of k warned turns ticking further) (process_of k warned (turns + 1) rested further) log log x x m m s s
+        → DeskGoes sheet k k (process_of k warned turns ticking further) (process_of k warned (turns + 1) rested further) a a
     turn_over looked beats is =
-        called TurnEnded {ticking = ticking} tt (looked, beats) (unmoved TurnEnded (refl, refl) (λ e. (cc))) (rw append-nil) (rw append-nil) (rw append-nil) (rw is) (appends_none s)
+        called TurnEnded {ticking = ticking} tt (looked, beats) (unmoved TurnEnded (refl, refl) (λ e. (cc))) (rw append-nil) (rw append-nil) (rw append-nil) (rw is) (appends_none a.told)
 
     -- it has ticked
-    ticks : {after : List Passed} {said : Ticking} → IsSome ticking.looked → said ≡ record ticking { ticked = ticking.looked } → Calls sheet k k Ticked log after
-        → DeskGoes sheet k k (process_of k warned turns ticking further) (process_of k warned turns said further) log after x x m m s s
-    ticks looked is c = called Ticked {ticking = ticking} tt looked c (rw append-nil) (rw append-nil) (rw append-nil) (rw is) (appends_none s)
+    ticks : {after : List Passed} {said : Ticking} → IsSome ticking.looked → said ≡ record ticking { ticked = ticking.looked } → Calls sheet k k Ticked a.passed after
+        → DeskGoes sheet k k (process_of k warned turns ticking further) (process_of k warned turns said further) a (record a { passed = after })
+    ticks looked is c = called Ticked {ticking = ticking} tt looked c (rw append-nil) (rw append-nil) (rw append-nil) (rw is) (appends_none a.told)
 
     -- it has looked at its clock
-    pub looks : {n : List ℕ} {seen : Ticking} (now : ℕ) → IsInTime ticking → n ≡ m ++ now ∷ [] → seen ≡ record ticking { looked = Some now }
-        → DeskGoes sheet k k (process_of k warned turns ticking further) (process_of k warned turns seen further) log log x x m n s s
+    pub looks : {n : List ℕ} {seen : Ticking} (now : ℕ) → IsInTime ticking → n ≡ a.readings ++ now ∷ [] → seen ≡ record ticking { looked = Some now }
+        → DeskGoes sheet k k (process_of k warned turns ticking further) (process_of k warned turns seen further) a (record a { readings = n })
     looks now beats times is =
-        called (Looked now) {ticking = ticking} tt beats (unmoved (Looked now) (refl, refl) (λ e. (cc))) (rw append-nil) (rw append-nil) times (rw is) (appends_none s)
+        called (Looked now) {ticking = ticking} tt beats (unmoved (Looked now) (refl, refl) (λ e. (cc))) (rw append-nil) (rw append-nil) times (rw is) (appends_none a.told)
 
     -- nothing is seen of its clock
     pub unread : {seen : Ticking} → seen ≡ ticking
-        → DeskGoes sheet k k (process_of k warned turns ticking further) (process_of k warned turns seen further) log log x x m m s s
+        → DeskGoes sheet k k (process_of k warned turns ticking further) (process_of k warned turns seen further) a a
     unread is = rw is rests
 
     -- it has read its clock
-    pub reads_clock : {n : List ℕ} {seen : Ticking} (now : ℕ) → IsInTime ticking → n ≡ m ++ now ∷ [] → seen ≡ ticking
-        → DeskGoes sheet k k (process_of k warned turns ticking further) (process_of k warned turns seen further) log log x x m n s s
+    pub reads_clock : {n : List ℕ} {seen : Ticking} (now : ℕ) → IsInTime ticking → n ≡ a.readings ++ now ∷ [] → seen ≡ ticking
+        → DeskGoes sheet k k (process_of k warned turns ticking further) (process_of k warned turns seen further) a (record a { readings = n })
     reads_clock now beats times is =
-        called (Read now) {ticking = ticking} tt beats (unmoved (Read now) (refl, refl) (λ e. (cc))) (rw append-nil) (rw append-nil) times (rw is) (appends_none s)
+        called (Read now) {ticking = ticking} tt beats (unmoved (Read now) (refl, refl) (λ e. (cc))) (rw append-nil) (rw append-nil) times (rw is) (appends_none a.told)
 
-  module _ {sheet : Sheet} {k : Desk S B D g h b} {warned : Warned} {turns : ℕ} {ticking : Ticking} {log : List Passed} {x : List Input} {m : List ℕ} {s : Option (List ℕ)} where
+  module _ {sheet : Sheet} {k : Desk S B D g h b} {warned : Warned} {turns : ℕ} {ticking : Ticking} {a : Logs} where
     -- it has looked at its clock, and ticked
-    pub speaks : {after : List Passed} {n : List ℕ} {said : Ticking} (now : ℕ) → IsInTime ticking → n ≡ m ++ now ∷ [] → said ≡ after_look true ticking now
-        → Calls sheet k k Ticked log after
-        → DeskGoes sheet k k (process_of k warned turns ticking further) (process_of k warned turns said further) log after x x m n s s
+    pub speaks : {after : List Passed} {n : List ℕ} {said : Ticking} (now : ℕ) → IsInTime ticking → n ≡ a.readings ++ now ∷ [] → said ≡ after_look true ticking now
+        → Calls sheet k k Ticked a.passed after
+        → DeskGoes sheet k k (process_of k warned turns ticking further) (process_of k warned turns said further) a (record a { passed = after; readings = n })
     speaks now beats times is c = then (looks {ticking = ticking} now beats times refl) (ticks {ticking = record { ticked = ticking.ticked; looked = Some now }} refl is c)
 
   -- ---- the calls themselves
@@ -323,36 +320,35 @@ module _ {S B D : Type 0} {g : Files S D} {h : Disks D} {b : Books B} where
 
   -- ---- runs whose text is known only where no write failed
 
-  module _ {sheet : Sheet} {k l : Desk S B D g h b} {p : DeskProcess D} {a b' : List Passed} {x y : List Input} {i j : List ℕ} where
+  module _ {sheet : Sheet} {k l : Desk S B D g h b} {p : DeskProcess D} {a c : Logs} where
     -- what was told so far is known only where a later write didn't fail
-    pub muted : {T : Type 0} (r : Result T DeskEnd) {q : DeskProcess D} {s t : Option (List ℕ)} → DeskGoes sheet k l p q a b' x y i j s t
-        → DeskGoes sheet k l p q a b' x y i j (known_at r s) (known_at r t)
+    pub muted : {T : Type 0} (r : Result T DeskEnd) {q : DeskProcess D} → DeskGoes sheet k l p q a c → DeskGoes sheet k l p q (known_in r a) (known_in r c)
     muted (Err DeskEnd.Write) v = silent v
     muted r v = v
 
-    -- an answer that is passed on
-    pub passed_on : {T : Type 0} (r : Result T DeskEnd) (met : DeskEnd) (s t : Option (List ℕ)) {later : Warned} {turns : ℕ} {ticking : Ticking}
-        → IsErrAnd r (λ end. end ≡ met)
-        → DeskGoes sheet k l p (process_of l later turns ticking (ending met)) a b' x y i j (known_to met s) (known_to met t)
-        → DeskGoes sheet k l p (process_of l later turns ticking (course_of r)) a b' x y i j (known_at r s) (known_at r t)
-    passed_on (Ok value) met s t e v = absurd e
-    passed_on (Err end) met s t e v = rw e v
-
     -- a turn is over
-    pub turn_done : {warned : Warned} {turns : ℕ} {ticking rested : Ticking} {s t u : Option (List ℕ)} → IsSome ticking.looked → IsInTime ticking
-        → rested ≡ record ticking { looked = None } → DeskGoes sheet k l p (process_of l warned turns ticking further) a b' x y i j s t → Keeps t u
-        → DeskGoes sheet k l p (process_of l warned (turns + 1) rested further) a b' x y i j s u
+    pub turn_done : {warned : Warned} {turns : ℕ} {ticking rested : Ticking} {u : Option (List ℕ)} → IsSome ticking.looked → IsInTime ticking
+        → rested ≡ record ticking { looked = None } → DeskGoes sheet k l p (process_of l warned turns ticking further) a c → Keeps c.told u
+        → DeskGoes sheet k l p (process_of l warned (turns + 1) rested further) a (record c { told = u })
     turn_done {ticking = ticking} looked beats is v w = then (kept v w) (turn_over {ticking = ticking} looked beats is)
 
     -- its flush failed
-    pub not_flushed : {T : Type 0} (r : Result T DeskEnd) (met : DeskEnd) {warned : Warned} {turns : ℕ} {ticking : Ticking} {s t : Option (List ℕ)} (u : Option (List ℕ))
-        → IsErrAnd r (λ end. end ≡ met) → met ≡ DeskEnd.Write → DeskGoes sheet k l p (process_of l warned turns ticking further) a b' x y i j s t
-        → DeskGoes sheet k l p (process_of l warned (turns_after turns r) ticking (course_of r)) a b' x y i j (known_at r s) (known_at r u)
+    pub not_flushed : {T : Type 0} (r : Result T DeskEnd) (met : DeskEnd) {warned : Warned} {turns : ℕ} {ticking : Ticking} (u : Option (List ℕ))
+        → IsErrAnd r (λ end. end ≡ met) → met ≡ DeskEnd.Write → DeskGoes sheet k l p (process_of l warned turns ticking further) a c
+        → DeskGoes sheet k l p (process_of l warned (turns_after turns r) ticking (course_of r)) (known_in r a) (record c { told = known_at r u })
     not_flushed (Ok value) met u e w v = absurd e
     not_flushed (Err end) met u e w v = rw (e, w) (silent v)
 
+  -- an answer that is passed on
+  pub passed_on : {sheet : Sheet} {k l : Desk S B D g h b} {p : DeskProcess D} (a c : Logs) {T : Type 0} (r : Result T DeskEnd) (met : DeskEnd)
+      {later : Warned} {turns : ℕ} {ticking : Ticking} → IsErrAnd r (λ end. end ≡ met)
+      → DeskGoes sheet k l p (process_of l later turns ticking (ending met)) (known_until met a) (known_until met c)
+      → DeskGoes sheet k l p (process_of l later turns ticking (course_of r)) (known_in r a) (known_in r c)
+  passed_on a c (Ok value) met e v = absurd e
+  passed_on a c (Err end) met e v = rw e v
+
 -- an answer that is passed on in a turn
-pub turn_passed_on : {T : Type 0} (r : Result T DeskEnd) (met : DeskEnd) (turns : ℕ) (P : ℕ → Course → (Option (List ℕ) → Option (List ℕ)) → Type 0)
-    → IsErrAnd r (λ end. end ≡ met) → P turns (ending met) (known_to met) → P (turns_after turns r) (course_of r) (known_at r)
+pub turn_passed_on : {T : Type 0} (r : Result T DeskEnd) (met : DeskEnd) (turns : ℕ) (P : ℕ → Course → (Logs → Logs) → Type 0)
+    → IsErrAnd r (λ end. end ≡ met) → P turns (ending met) (known_until met) → P (turns_after turns r) (course_of r) (known_in r)
 turn_passed_on (Ok value) met turns P h x = absurd h
 turn_passed_on (Err end) met turns P h x = rw h x

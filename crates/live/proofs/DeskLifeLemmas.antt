@@ -1,5 +1,5 @@
 -- A desk that has begun and run has lived.
-use Rattle.std.proofs.Common.{◌≡◌, ◌<◌, ◌∙◌, Err, List, Option, Result, length, refl, subst, ℕ}
+use Rattle.std.proofs.Common.{◌≡◌, ◌<◌, ◌∙◌, Err, List, Result, length, refl, subst, ℕ}
 use Rattle.corrections.specs.declared.book_of.BookOf.{Ghosts as Books}
 use Rattle.entry_log.specs.Disk.{Faults}
 use Rattle.entry_log.specs.declared.{disk.Disk.Ghosts as Disks, slots_of.SlotsOf.Ghosts as Files}
@@ -17,11 +17,9 @@ use Rattle.live.specs.declared.desk_life.LifeEnd.TheVariants.{NotBegun}
 use Rattle.screen.specs.Sights.{DeskSight}
 use Rattle.live.specs.DeskSights.{IsShown, IsShownFrom}
 use Rattle.live.specs.Desks.{DeskRuns, DiskView, FitsLongest, desk_kind, innings_of, kind_of, own_line}
-use Rattle.live.specs.Ends.{known_at}
-use Rattle.links.specs.Passed.{Passed}
-use Rattle.live.specs.Runs.{Goes, with_text}
+use Rattle.live.specs.Ends.{known_in}
+use Rattle.live.specs.Runs.{Goes, Logs, with_told}
 use Rattle.station_texts.specs.Texts.{greeting}
-use Rattle.links.specs.Typing.{Input}
 use Rattle.live.specs.declared.ends.DeskEnd.{DeskEnd}
 
 -- disks of this cap
@@ -55,16 +53,15 @@ module _ {S B D : Type 0} {g : Files S D} {h : Disks D} {b : Books B} (k : Desk 
         (Opened (state_of k), begins_here disk creates opens, subst P own.same_game here)
 
 module _ {S B D : Type 0} {g : Files S D} {h : Disks D} {b : Books B} {k l : Desk S B D g h b} {sheet : Sheet} {d : DeskId} {innings : ℕ}
-    {before after : List Passed} {typed types : List Input} {times later : List ℕ} {told tells : Option (List ℕ)} {turns : ℕ} {end : Result (Unit {0}) DeskEnd} where
+    {before after : Logs} {turns : ℕ} {end : Result (Unit {0}) DeskEnd} where
   -- the run of a desk that is of this match is one of the desk that was opened in it
-  ran : (most : ℕ) → IsDeskOf d sheet.game innings k → h.cap (disk_of k) ≡ most → DeskRuns sheet k l before after typed types times later told tells turns end
+  ran : (most : ℕ) → IsDeskOf d sheet.game innings k → h.cap (disk_of k) ≡ most → DeskRuns sheet k l before after turns end
       → Follows sheet (file_view g.contents h.seen h.images d sheet.game) (disks_with h.faults g.room most) innings (Opened (state_of k))
-      before after typed types times later told tells turns (ended end)
+      before after turns (ended end)
   ran most own cap_is r =
       let P : ℕ → Type 0 = λ game.
       Goes (desk_kind sheet (file_view g.contents h.seen h.images d game) (disks_with h.faults g.room most) game innings) (fresh (state_of k)) r.last
-      before after typed types times later
-      (known_at end (with_text told (greeting sheet innings (state_of k).book (state_of k).seat.position (own_line (state_of k))))) (known_at end tells) in
+      (known_in end (with_told before (greeting sheet innings (state_of k).book (state_of k).seat.position (own_line (state_of k))))) (known_in end after) in
       let here : P (game_of k) = rw (← own.same_desk, ← own.innings_a_side, ← cap_is) r.goes.goes in
       (end, r.last, refl, subst P own.same_game here, r.ended)
 
@@ -72,21 +69,21 @@ module _ {S B D : Type 0} {g : Files S D} {h : Disks D} {b : Books B} {k l : Des
   pub begun_ran : (disk : D) {game : ℕ} → game ≡ sheet.game
       → (length (h.seen disk) ≡ 0 → Creates (file_view g.contents h.seen h.images d game) d (state_of k))
       → (0 < length (h.seen disk) → Opens (file_view g.contents h.seen h.images d game) (book_refusal innings) d disk (Opened (state_of k)))
-      → IsDeskOf d game innings k → h.cap (disk_of k) ≡ h.cap disk → DeskRuns sheet k l before after typed types times later told tells turns end
+      → IsDeskOf d game innings k → h.cap (disk_of k) ≡ h.cap disk → DeskRuns sheet k l before after turns end
       → DeskLives (file_view g.contents h.seen h.images d sheet.game) h.seen (disks_with h.faults g.room (h.cap disk)) sheet innings d disk
-      before after typed types times later told tells turns (ended end)
+      before after turns (ended end)
   begun_ran disk is creates opens own cap_is r =
       record { opening = Opened (state_of k); begins = begins_here k sheet innings is disk creates opens; follows = ran (h.cap disk) (own_here k sheet innings is own) cap_is r }
 
 -- one that was refused
 pub not_begun : {D : Type 0} (view : ℕ → FileView D) (seen : D → List ℕ) (disks : DiskView D) (why : OpenRefusal) (left : D) (sheet : Sheet) (d : DeskId)
-    (game innings : ℕ) (disk : D) (log : List Passed) (typed : List Input) (times : List ℕ) (told : Option (List ℕ)) (turns : ℕ) → game ≡ sheet.game
+    (game innings : ℕ) (disk : D) (logs : Logs) (turns : ℕ) → game ≡ sheet.game
     → (0 < length (seen disk) → Opens (view game) (book_refusal innings) d disk (NotOpened (open_cause why) left))
-    → DeskLives (view sheet.game) seen disks sheet innings d disk log log typed typed times times told told turns (Err (NotBegun why))
-not_begun view seen disks why left sheet d game innings disk log typed times told turns is opens = record {
+    → DeskLives (view sheet.game) seen disks sheet innings d disk logs logs turns (Err (NotBegun why))
+not_begun view seen disks why left sheet d game innings disk logs turns is opens = record {
   opening = NotOpened (open_cause why) left;
   begins = (λ none. tt, λ some. rw (← is) (opens some));
-  follows = (why, refl, refl, refl, refl, refl, refl);
+  follows = (why, refl, refl, refl);
 }
 
 -- of one that was refused nothing is shown

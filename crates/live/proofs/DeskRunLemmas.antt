@@ -10,17 +10,16 @@ use Rattle.entry_log.specs.declared.{disk.Disk.Ghosts as Disks, slots_of.SlotsOf
 use Rattle.agree_core.specs.Desks.{DeskState}
 use Rattle.desk.specs.declared.desk.Desk.{Desk}
 use Rattle.desk.specs.Desk.{disk_of, game_of, state_of, view_of}
-use Rattle.links.specs.Passed.{Passed}
-use Rattle.live.specs.Runs.{with_text}
-use Rattle.links.specs.Typing.{Input}
+use Rattle.live.specs.Runs.{Logs, with_told}
 use Rattle.station_texts.specs.Texts.{greeting, unwarned}
 use Rattle.live.specs.Ticks.{Ticking, unticked}
-use Rattle.live.specs.Ends.{Course, end_told, ending, further, known_to, written}
+use Rattle.live.specs.Ends.{Course, end_told, ending, further, known_until, written}
 use Rattle.live.specs.Desks.{DeskGoes, DeskProcess, DeskRuns, Ended, FitsLongest, disks_of, innings_of, own_line, process_of}
 use Rattle.live.specs.declared.ends.DeskEnd.{DeskEnd}
 use Rattle.station_texts.specs.declared.warned.Warned.{Warned}
 use Rattle.live.proofs.DeskLemmas.{kept, muted, rests, same_here, silent, then}
 use Rattle.live.proofs.EndLemmas.{answer_blames, run_blames}
+use Rattle.live.proofs.RunLemmas.{none_logged}
 use Rattle.live.proofs.TellingLemmas.{told_first}
 
 ended_at : {Disk : Type 0} (met : DeskEnd) (turns : ℕ) (last : DeskProcess Disk) → last.course ≡ ending met → Ended turns (Err met) last
@@ -35,48 +34,38 @@ module _ {S B D : Type 0} {g : Files S D} {h : Disks D} {b : Books B} where
   greeting_of sheet k = greeting sheet (innings_of k) (state_of k).book (state_of k).seat.position (own_line (state_of k))
 
   -- the greeting couldn't be told
-  pub not_greeted : {sheet : Sheet} {k : Desk S B D g h b} {turns : ℕ} {a : List Passed} {x : List Input} {m : List ℕ} {s t : Option (List ℕ)}
-      (r : Result (Unit {0}) DeskEnd) (met : DeskEnd) → IsErrAnd r (λ end. end ≡ met) → met ≡ DeskEnd.Write → DeskRuns sheet k k a a x x m m s t turns r
+  pub not_greeted : {sheet : Sheet} {k : Desk S B D g h b} {turns : ℕ} {a : Logs} {t : Option (List ℕ)}
+      (r : Result (Unit {0}) DeskEnd) (met : DeskEnd) → IsErrAnd r (λ end. end ≡ met) → met ≡ DeskEnd.Write → DeskRuns sheet k k a (record a { told = t }) turns r
   not_greeted (Ok done) met e w = absurd e
   not_greeted {k = k} (Err end) met e w =
       rw (e, w) (record { last = process_of k unwarned 0 unticked further; is = refl; goes = rests; ended = λ q. (cc) })
 
 module _ {S B D : Type 0} {g : Files S D} {h : Disks D} {b : Books B} {sheet : Sheet} {k l : Desk S B D g h b} where
-  module _ {warned : Warned} {n : ℕ} {ticking : Ticking} {a b' : List Passed} {x y : List Input} {i j : List ℕ} {t u : Option (List ℕ)}
-      (s : Option (List ℕ)) (first : Appends s t (greeting_of sheet k))
-      (v : DeskGoes sheet k l (process_of k unwarned 0 unticked further) (process_of l warned n ticking further) a b' x y i j t u) where
+  module _ {warned : Warned} {n : ℕ} {ticking : Ticking} {t : Option (List ℕ)} {c : Logs} (a : Logs) (first : Appends a.told t (greeting_of sheet k))
+      (v : DeskGoes sheet k l (process_of k unwarned 0 unticked further) (process_of l warned n ticking further) (record a { told = t }) c) where
     -- the greeting comes first
-    greeted : DeskGoes sheet k l (process_of k unwarned 0 unticked further) (process_of l warned n ticking further) a b' x y i j (with_text s (greeting_of sheet k)) u
+    greeted : DeskGoes sheet k l (process_of k unwarned 0 unticked further) (process_of l warned n ticking further) (with_told a (greeting_of sheet k)) c
     greeted = then (record {
       same = same_here k;
-      goes = record {
-        moments = [];
-        run = tt;
-        last = refl;
-        passed = rw append-nil;
-        inputs = rw append-nil;
-        readings = rw append-nil;
-        printed = told_first s t (greeting_of sheet k) first;
-      };
+      goes = record { moments = []; run = tt; last = refl; logs = none_logged (told_first a.told t (greeting_of sheet k) first) };
     }) v
 
     -- all turns are over
-    pub all_over : (turns : ℕ) → n ≡ turns → DeskRuns sheet k l a b' x y i j s u turns (Ok tt)
+    pub all_over : (turns : ℕ) → n ≡ turns → DeskRuns sheet k l a c turns (Ok tt)
     all_over turns e = record { last = process_of l warned n ticking further; is = refl; goes = greeted; ended = (refl, e) }
 
     -- a turn ended the process
-    pub cut_short : {m : Desk S B D g h b} {later : Warned} {o turns : ℕ} {at : Ticking} {c : List Passed} {z : List Input} {times : List ℕ} {w : Option (List ℕ)}
-        (r : Result (Unit {0}) DeskEnd) (met : DeskEnd) → IsErrAnd r (λ end. end ≡ met)
-        → DeskGoes sheet l m (process_of l warned n ticking further) (process_of m later o at (ending met)) b' c y z j times (known_to met u) (known_to met w)
-        → DeskRuns sheet k m a c x z i times s w turns r
-    cut_short (Ok done) met e after = absurd e
-    cut_short {m = m} {later = later} {o = o} {turns = turns} {at = at} (Err end) met e after =
+    pub cut_short : {m : Desk S B D g h b} {later : Warned} {o turns : ℕ} {at : Ticking} (e : Logs) (r : Result (Unit {0}) DeskEnd) (met : DeskEnd)
+        → IsErrAnd r (λ end. end ≡ met)
+        → DeskGoes sheet l m (process_of l warned n ticking further) (process_of m later o at (ending met)) (known_until met c) (known_until met e)
+        → DeskRuns sheet k m a e turns r
+    cut_short e (Ok done) met is after = absurd is
+    cut_short {m = m} {later = later} {o = o} {turns = turns} {at = at} e (Err end) met is after =
         let failed : Result (Unit {0}) DeskEnd = Err met in
         let last = process_of m later o at (ending met) in
-        rw e (record { last = last; is = refl; goes = then (muted failed greeted) after; ended = ended_at met turns last refl })
+        rw is (record { last = last; is = refl; goes = then (muted failed greeted) after; ended = ended_at met turns last refl })
 
-  module _ {a b' : List Passed} {x y : List Input} {i j : List ℕ} {s t : Option (List ℕ)} {turns : ℕ} (r : Result (Unit {0}) DeskEnd)
-      (v : DeskRuns sheet k l a b' x y i j s t turns r) where
+  module _ {a c : Logs} {turns : ℕ} (r : Result (Unit {0}) DeskEnd) (v : DeskRuns sheet k l a c turns r) where
     -- a run blames the disk only where it failed in the run
     pub blames : (state_of k).failed ≡ false → BlamesDisk DeskEnd.Device (FitsLongest g.room (h.cap (disk_of k))) r (h.faults (disk_of k)) (h.faults (disk_of l))
     blames sound =
@@ -87,18 +76,18 @@ module _ {S B D : Type 0} {g : Files S D} {h : Disks D} {b : Books B} {sheet : S
         answer_blames turns r v.last (h.faults (disk_of k)) (h.faults (disk_of l)) v.ended here
 
     -- an end that isn't the disk's, and then a write that failed
-    unwritten : {u : Option (List ℕ)} → (v.last.course ≡ Err DeskEnd.Device → ⊥) → DeskRuns sheet k l a b' x y i j s u turns (Err DeskEnd.Write)
+    unwritten : {u : Option (List ℕ)} → (v.last.course ≡ Err DeskEnd.Device → ⊥) → DeskRuns sheet k l a (record c { told = u }) turns (Err DeskEnd.Write)
     unwritten n = record { last = v.last; is = v.is; goes = silent v.goes; ended = n }
 
   -- the last flush leaves what was written
-  flushed : {a b' : List Passed} {x y : List Input} {i j : List ℕ} {s t u : Option (List ℕ)} {turns : ℕ} (r : Result (Unit {0}) DeskEnd)
-      → DeskRuns sheet k l a b' x y i j s t turns r → Keeps t u → DeskRuns sheet k l a b' x y i j s u turns r
+  flushed : {a c : Logs} {u : Option (List ℕ)} {turns : ℕ} (r : Result (Unit {0}) DeskEnd) → DeskRuns sheet k l a c turns r → Keeps c.told u
+      → DeskRuns sheet k l a (record c { told = u }) turns r
   flushed (Err DeskEnd.Write) v w = record { last = v.last; is = v.is; goes = v.goes; ended = v.ended }
   flushed r v w = record { last = v.last; is = v.is; goes = kept v.goes w; ended = v.ended }
 
   -- a run and its last flush
-  pub told_last : {a b' : List Passed} {x y : List Input} {i j : List ℕ} {s t u : Option (List ℕ)} {turns : ℕ} (answer : Result (Unit {0}) WriteFailed) (r r' : Course)
-      → r' ≡ end_told r (written answer) → DeskRuns sheet k l a b' x y i j s t turns r → Keeps t u → DeskRuns sheet k l a b' x y i j s u turns r'
+  pub told_last : {a c : Logs} {u : Option (List ℕ)} {turns : ℕ} (answer : Result (Unit {0}) WriteFailed) (r r' : Course)
+      → r' ≡ end_told r (written answer) → DeskRuns sheet k l a c turns r → Keeps c.told u → DeskRuns sheet k l a (record c { told = u }) turns r'
   told_last (Err fault) (Ok over) r' e v w =
       rw e (unwritten (Ok over) v (λ q. let path : further ≡ Err DeskEnd.Device = sym v.ended.0 ∙ q in (cc)))
   told_last (Err fault) (Err DeskEnd.Write) r' e v w = rw e (unwritten (Err DeskEnd.Write) v v.ended)

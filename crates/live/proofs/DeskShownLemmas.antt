@@ -7,14 +7,12 @@ use Rattle.agree_core.specs.Desks.{DeskState}
 use Rattle.cards.specs.Sheet.{Sheet}
 use Rattle.desk.specs.declared.desk.Desk.{Desk}
 use Rattle.desk.specs.Desk.{state_of}
-use Rattle.links.specs.Passed.{Passed}
-use Rattle.links.specs.Typing.{Input}
 use Rattle.station_texts.specs.declared.warned.Warned.{Warned}
 use Rattle.screen.specs.Sights.{DeskSight}
 use Rattle.live.specs.DeskSights.{IsSeen, IsShown, desk_sight}
 use Rattle.live.specs.Desks.{DeskCall, DeskGoes, DeskProcess, innings_of, kind_of, process_of}
 use Rattle.live.specs.Ends.{Course, further}
-use Rattle.live.specs.Runs.{Kind}
+use Rattle.live.specs.Runs.{Kind, Logs}
 use Rattle.station_texts.specs.Texts.{unwarned}
 use Rattle.live.specs.Ticks.{Ticking, unticked}
 
@@ -25,9 +23,9 @@ none_shown kind sheet innings goes_on k page = ([], All-nil (IsSeen kind sheet i
 
 module _ {S B D Page : Type 0} {g : Files S D} {h : Disks D} {b : Books B} {goes_on : Page → DeskSight → Page → Type 0} {sheet : Sheet} {k l : Desk S B D g h b} where
   -- and what is seen of the desk to which its process has gone
-  pub then_shown : {old page new : Page} {warned : Warned} {turns : ℕ} {ticking : Ticking} {course : Course} {a c : List Passed} {x y : List Input} {i j : List ℕ} {s t : Option (List ℕ)}
+  pub then_shown : {old page new : Page} {warned : Warned} {turns : ℕ} {ticking : Ticking} {course : Course} {a c : Logs}
       → IsShown (kind_of sheet k) sheet (innings_of k) goes_on (state_of k) old page
-      → DeskGoes sheet k l (process_of k unwarned 0 unticked further) (process_of l warned turns ticking course) a c x y i j s t
+      → DeskGoes sheet k l (process_of k unwarned 0 unticked further) (process_of l warned turns ticking course) a c
       → goes_on page (desk_sight sheet (innings_of l) (state_of l)) new
       → IsShown (kind_of sheet k) sheet (innings_of k) goes_on (state_of k) old new
   then_shown {page = page} shown goes on =

@@ -7,7 +7,7 @@ use Rattle.wire.specs.Layout.{IsMessage}
 use Rattle.streams.proofs.Appending.{appends_both, appends_none}
 use Rattle.links.specs.Passed.{Passed}
 use Rattle.links.specs.Typing.{Input}
-use Rattle.live.specs.Runs.{Goes, Kind, Moment, Run, last_of, passed_at, passed_in, printed_in, read_in, typed_in}
+use Rattle.live.specs.Runs.{Goes, Kind, Logs, LogsGrow, Moment, Run, last_of, passed_at, passed_in, printed_in, read_in, typed_in}
 use Rattle.live.specs.Ticks.{reads}
 
 module _ {State Call : Type 0} (kind : Kind State Call) where
@@ -43,22 +43,27 @@ module _ {State Call : Type 0} (kind : Kind State Call) where
       ap (λ x. printed_in kind k (ns ++ ms) ++ kind.prints x n.call n.after) (last_both k ns ms)
       ∙ (ap (λ xs. xs ++ here) (printed_both k ns ms) ∙ append_assoc (printed_in kind k ms) (printed_in kind (last_of k ms) ns) here)
 
+-- nothing but what is told
+pub none_logged : {State Call : Type 0} {kind : Kind State Call} {k : State} {a : Logs} {t : Option (List ℕ)} → Appends a.told t [] → LogsGrow kind k [] a (record a { told = t })
+none_logged text = record { passed = rw append-nil; inputs = rw append-nil; readings = rw append-nil; printed = text }
+
+-- another text is told
+pub retold : {State Call : Type 0} {kind : Kind State Call} {k : State} {ms : List (Moment State Call)} {a b : Logs} {s t : Option (List ℕ)} → LogsGrow kind k ms a b
+    → Appends s t (printed_in kind k ms) → LogsGrow kind k ms (record a { told = s }) (record b { told = t })
+retold logs text = record { passed = logs.passed; inputs = logs.inputs; readings = logs.readings; printed = text }
+
 -- nothing happens
-pub stays : {State Call : Type 0} {kind : Kind State Call} {k : State} {a : List Passed} {x : List Input} {r : List ℕ} {s : Option (List ℕ)} → Goes kind k k a a x x r r s s
-stays {s = s} = record {
+pub stays : {State Call : Type 0} {kind : Kind State Call} {k : State} {a : Logs} → Goes kind k k a a
+stays {a = a} = record {
   moments = [];
   run = tt;
   last = refl;
-  passed = rw append-nil;
-  inputs = rw append-nil;
-  readings = rw append-nil;
-  printed = appends_none s;
+  logs = none_logged (appends_none a.told);
 }
 
-module _ {State Call : Type 0} {kind : Kind State Call} {k l : State} {a b : List Passed} {x y : List Input} {p q : List ℕ} {s t : Option (List ℕ)} where
-  pub both : {m : State} {c : List Passed} {z : List Input} {r : List ℕ} {u : Option (List ℕ)} → Goes kind k l a b x y p q s t → Goes kind l m b c y z q r t u
-      → Goes kind k m a c x z p r s u
-  both {u = u} g h =
+module _ {State Call : Type 0} {kind : Kind State Call} {k l : State} {a b : Logs} where
+  pub both : {m : State} {c : Logs} → Goes kind k l a b → Goes kind l m b c → Goes kind k m a c
+  both {c = c} g h =
       let ms = g.moments in
       let ns = h.moments in
       let from : Run kind (last_of k ms) ns = rw g.last h.run in
@@ -66,26 +71,27 @@ module _ {State Call : Type 0} {kind : Kind State Call} {k l : State} {a b : Lis
         moments = ns ++ ms;
         run = run_both kind k ns ms g.run from;
         last = last_both kind k ns ms ∙ (ap (λ q. last_of q ns) g.last ∙ h.last);
-        passed = rw (h.passed, g.passed, passed_both kind ns ms, append_assoc);
-        inputs = rw (h.inputs, g.inputs, typed_both kind ns ms, append_assoc);
-        readings = rw (h.readings, g.readings, read_both kind ns ms, append_assoc);
-        printed = rw (printed_both kind k ns ms, g.last) (appends_both s t u (printed_in kind k ms) (printed_in kind l ns) g.printed h.printed);
+        logs = record {
+          passed = rw (h.logs.passed, g.logs.passed, passed_both kind ns ms, append_assoc);
+          inputs = rw (h.logs.inputs, g.logs.inputs, typed_both kind ns ms, append_assoc);
+          readings = rw (h.logs.readings, g.logs.readings, read_both kind ns ms, append_assoc);
+          printed =
+              rw (printed_both kind k ns ms, g.last)
+              (appends_both a.told b.told c.told (printed_in kind k ms) (printed_in kind l ns) g.logs.printed h.logs.printed);
+        };
       }
 
   -- of what was written nothing is said
-  pub unsaid : Goes kind k l a b x y p q s t → Goes kind k l a b x y p q None None
-  unsaid g = record { moments = g.moments; run = g.run; last = g.last; passed = g.passed; inputs = g.inputs; readings = g.readings; printed = tt }
+  pub unsaid : Goes kind k l a b → Goes kind k l (record a { told = None }) (record b { told = None })
+  unsaid g = record { moments = g.moments; run = g.run; last = g.last; logs = retold g.logs tt }
 
--- one call
-pub one : {State Call : Type 0} {kind : Kind State Call} {k l : State} {a : List Passed} {x : List Input} {p : List ℕ} {s t : Option (List ℕ)} (call : Call) (out : List Message)
-    → All IsMessage out → kind.Step k call out l → Appends s t (kind.prints k call l)
-    → Goes kind k l a (a ++ passed_at kind call out) x (x ++ kind.typed call) p (p ++ reads (kind.beat call)) s t
-one {l = l} call out fine step prints = record {
-  moments = record { call = call; out = out; after = l } ∷ [];
-  run = (tt, fine, step);
-  last = refl;
-  passed = refl;
-  inputs = refl;
-  readings = refl;
-  printed = prints;
-}
+  -- one call
+  pub one : (call : Call) (out : List Message) → All IsMessage out → kind.Step k call out l → b.passed ≡ a.passed ++ passed_at kind call out
+      → b.typed ≡ a.typed ++ kind.typed call → b.readings ≡ a.readings ++ reads (kind.beat call) → Appends a.told b.told (kind.prints k call l)
+      → Goes kind k l a b
+  one call out fine step passed types times prints = record {
+    moments = record { call = call; out = out; after = l } ∷ [];
+    run = (tt, fine, step);
+    last = refl;
+    logs = record { passed = passed; inputs = types; readings = times; printed = prints };
+  }

@@ -15,7 +15,7 @@ use Rattle.board.specs.Takes.{Takes}
 use Rattle.station_texts.specs.Notices.{notices_after, notices_unopened, telling_after, telling_unopened, untold}
 use Rattle.links.specs.Passed.{Passed, Came, sends}
 use Rattle.links.specs.declared.link.Receivers.TheVariants.{ToAll}
-use Rattle.live.specs.Runs.{Goes, Kind, known, with_text}
+use Rattle.live.specs.Runs.{Goes, Kind, Logs, known_where, with_told}
 use Rattle.live.specs.Sights.{Sight, sight_of}
 use Rattle.live.specs.Ticks.{Beat, Look, MayBeat, Other, Reading, Tick, Ticking, TurnEnd, after_beat, unticked}
 use Rattle.links.specs.declared.link.TheConstants.{MOST_TAKEN}
@@ -169,26 +169,23 @@ module _ {B : Type 0} {g : _} (content : B → List Entry) where
 
 module _ {B : Type 0} {g : _} (content : B → List Entry) (innings_of : B → ℕ) where
   -- from a board's turn on there is a run to another turn of the board of the same match
-  pub record BoardGoes
-      (sheet : Sheet) (old new : Board B g) (k l : BoardTurn) (before after : List Passed) (times later : List ℕ)
-      (told tells : Option (List ℕ)) : Type 0 where
+  pub record BoardGoes (sheet : Sheet) (old new : Board B g) (k l : BoardTurn) (before after : Logs) : Type 0 where
     pub same : SameMatch innings_of old new
-    pub goes : Goes (board_kind sheet (game_of old) (innings_of (book_of old))) k l before after [] [] times later told tells
+    pub goes : Goes (board_kind sheet (game_of old) (innings_of (book_of old))) k l before after
 
   -- A board's process from the beginning of a turn, at which it has told this, to that of another one. Unless a write
   -- failed, all turns between them are over, and the six lines were printed at the end of each in which the book has
   -- grown. What it told of what it can't take are just the notices that were handed on, and what it handed to be shown is
   -- just its book at the end of each turn, but once both desks' votes were refused.
   pub record BoardRuns
-      {E : Type 0} (sheet : Sheet) (old new : Board B g) (before after : List Passed) (times later : List ℕ)
-      (told tells : Option (List ℕ)) (from to : ℕ) (telling : Telling) (ticking : Ticking) (noted notes : List Notice)
-      (seen sees : List Sight) (result : Result (Unit {0}) E) : Type 0 where
+      {E : Type 0} (sheet : Sheet) (old new : Board B g) (before after : Logs) (from to : ℕ) (telling : Telling)
+      (ticking : Ticking) (noted notes : List Notice) (seen sees : List Sight) (result : Result (Unit {0}) E) : Type 0 where
     pub last : BoardTurn
     pub is : last.board ≡ state_of content new
     pub noticed : last.notices ≡ notes
     pub sighted : last.seen ≡ sees
-    pub goes : BoardGoes sheet old new (at_turn content old from telling ticking noted seen) last before after times later
-        (known result told) (known result tells)
+    pub goes : BoardGoes sheet old new (at_turn content old from telling ticking noted seen) last
+        (known_where result before) (known_where result after)
     pub whole : OnOk result (last ≡ at_turn content new to last.telling last.ticking notes sees)
 
   -- a board's book, as it is handed to be shown
@@ -199,11 +196,9 @@ module _ {B : Type 0} {g : _} (content : B → List Entry) (innings_of : B → �
   -- at a reading of its clock, and then it runs for so many turns. Where one of these failed, it ends, and of the text
   -- nothing is said.
   pub record BoardLives
-      {E : Type 0} (sheet : Sheet) (old new : Board B g) (before after : List Passed) (times later : List ℕ)
-      (told tells : Option (List ℕ)) (turns : ℕ) (noted notes : List Notice) (seen sees : List Sight)
-      (result : Result (Unit {0}) E) : Type 0 where
+      {E : Type 0} (sheet : Sheet) (old new : Board B g) (before after : Logs) (turns : ℕ) (noted notes : List Notice)
+      (seen sees : List Sight) (result : Result (Unit {0}) E) : Type 0 where
     pub first : List Sight
     pub shows_first : (first ≡ sight_at sheet old ∷ []) ⊎ ((first ≡ []) × IsErr result)
-    pub runs : BoardRuns sheet old new before after times later
-        (with_text told (board_text sheet (innings_of (book_of old)) (history_of (content (book_of old))))) tells
-        0 turns untold unticked noted notes (seen ++ first) sees result
+    pub runs : BoardRuns sheet old new
+        (with_told before (board_text sheet (innings_of (book_of old)) (history_of (content (book_of old))))) after 0 turns untold unticked noted notes (seen ++ first) sees result

@@ -1,5 +1,5 @@
 -- A desk's process, from its beginning on a disk to its end.
-use Rattle.std.specs.Prelude.{◌≡◌, ◌<◌, ℕ, List, length, Option, Result, Ok, Err}
+use Rattle.std.specs.Prelude.{◌≡◌, ◌<◌, ℕ, List, length, Result, Ok, Err}
 use Rattle.corrections.specs.Refusal.{book_refusal}
 use Rattle.agree_core.specs.declared.messages.DeskId.{DeskId}
 use Rattle.agree_core.specs.Desks.{DeskState}
@@ -11,12 +11,10 @@ use Rattle.desk.specs.Answers.{open_cause}
 use Rattle.live.specs.declared.{desk_life.LifeEnd.LifeEnd, ends.DeskEnd.DeskEnd}
 use Rattle.live.specs.declared.desk_life.LifeEnd.TheVariants.{Ended as EndedSo, NotBegun}
 use Rattle.live.specs.Desks.{DeskProcess, DiskView, Ended, desk_kind, own_line}
-use Rattle.live.specs.Ends.{further, known_at}
-use Rattle.links.specs.Passed.{Passed}
-use Rattle.live.specs.Runs.{Goes, with_text}
+use Rattle.live.specs.Ends.{further, known_in}
+use Rattle.live.specs.Runs.{Goes, Logs, with_told}
 use Rattle.station_texts.specs.Texts.{greeting, unwarned}
 use Rattle.live.specs.Ticks.{unticked}
-use Rattle.links.specs.Typing.{Input}
 
 -- a desk's process at its beginning
 abbrev pub fresh : {Disk : Type 0} → DeskState Disk → DeskProcess Disk
@@ -43,25 +41,21 @@ ended (Err end) = Err (EndedSo end)
 -- What followed, with this sheet: the desk that was opened told its scorer where it stands, and then there was a run of
 -- it; or, where none was, nothing passed, was typed, was read of the clock or was told.
 abbrev pub Follows :
-    {Disk : Type 0} → Sheet → FileView Disk → DiskView Disk → ℕ → Opening Disk → List Passed → List Passed
-    → List Input → List Input → List ℕ → List ℕ → Option (List ℕ) → Option (List ℕ) → ℕ → Result (Unit {0}) LifeEnd
+    {Disk : Type 0} → Sheet → FileView Disk → DiskView Disk → ℕ → Opening Disk → Logs → Logs → ℕ → Result (Unit {0}) LifeEnd
     → Type 0
-Follows sheet view disks innings (Opened k) before after typed types times later told tells turns result =
+Follows sheet view disks innings (Opened k) before after turns result =
     (end : Result (Unit {0}) DeskEnd) × (last : DeskProcess _) × (result ≡ ended end)
-    × Goes (desk_kind sheet view disks sheet.game innings) (fresh k) last before after typed types times later
-    (known_at end (with_text told (greeting sheet innings k.book k.seat.position (own_line k))))
-    (known_at end tells)
+    × Goes (desk_kind sheet view disks sheet.game innings) (fresh k) last
+    (known_in end (with_told before (greeting sheet innings k.book k.seat.position (own_line k)))) (known_in end after)
     × Ended turns end last
-Follows sheet view disks innings (NotOpened cause left) before after typed types times later told tells turns result =
-    (why : OpenRefusal) × (open_cause why ≡ cause) × (result ≡ Err (NotBegun why))
-    × (after ≡ before) × (types ≡ typed) × (later ≡ times) × (tells ≡ told)
+Follows sheet view disks innings (NotOpened cause left) before after turns result =
+    (why : OpenRefusal) × (open_cause why ≡ cause) × (result ≡ Err (NotBegun why)) × (after ≡ before)
 
 -- The process of this desk on a disk, where this is what the disk shows of its file, what a read gives, and what is told
 -- of its failures: how it began, and what followed.
 pub record DeskLives
     {Disk : Type 0} (view : FileView Disk) (seen : Disk → List ℕ) (disks : DiskView Disk) (sheet : Sheet) (innings : ℕ)
-    (d : DeskId) (disk : Disk) (before after : List Passed) (typed types : List Input) (times later : List ℕ)
-    (told tells : Option (List ℕ)) (turns : ℕ) (result : Result (Unit {0}) LifeEnd) : Type 0 where
+    (d : DeskId) (disk : Disk) (before after : Logs) (turns : ℕ) (result : Result (Unit {0}) LifeEnd) : Type 0 where
   pub opening : Opening Disk
   pub begins : BeginsOn view seen innings d disk opening
-  pub follows : Follows sheet view disks innings opening before after typed types times later told tells turns result
+  pub follows : Follows sheet view disks innings opening before after turns result

@@ -22,12 +22,12 @@ use Rattle.station_texts.specs.declared.{reminder.Reminder.Reminder, said.Said.S
 use Rattle.live.specs.declared.ends.DeskEnd.TheVariants.{NoMoreLines, Device, Write}
 use Rattle.station_texts.specs.declared.reminder.Reminder.TheVariants.{HasWritten, IsHeard, IsMissed}
 use Rattle.live.specs.Asides.{aside_text}
-use Rattle.live.specs.Ends.{Course, end_of, further, known_at}
+use Rattle.live.specs.Ends.{Course, end_of, further, known_in}
 use Rattle.live.specs.LostLines.{end_here, shows_loss}
 use Rattle.links.specs.Passed.{Passed, Came, sends}
 use Rattle.links.specs.declared.link.Receivers.{Receivers}
 use Rattle.links.specs.declared.link.Receivers.TheVariants.{ToAll, ToOne}
-use Rattle.live.specs.Runs.{Goes, Kind, with_text}
+use Rattle.live.specs.Runs.{Goes, Kind, Logs, with_told}
 use Rattle.station_texts.specs.Saying.{Types}
 use Rattle.live.specs.Ticks.{Beat, Look, MayBeat, Other, Reading, Tick, Ticking, TurnEnd, after_beat, unticked}
 use Rattle.station_texts.specs.Texts.{came_text, greeting, reminder_text, said_text, unopened_text, unwarned, warned_after, warned_reminded, warned_unopened}
@@ -224,21 +224,18 @@ module _ {S B D : Type 0} {g : Files S D} {h : Disks D} {b : Books B} where
     pub blame : Blames (disks_of old) (state_of old) call (state_of new)
 
   -- from a desk's process on there is a run to another one of the same desk
-  pub record DeskGoes
-      (sheet : Sheet) (old new : Desk S B D g h b) (k l : DeskProcess D) (before after : List Passed)
-      (typed types : List Input) (times later : List ℕ) (told tells : Option (List ℕ)) : Type 0 where
+  pub record DeskGoes (sheet : Sheet) (old new : Desk S B D g h b) (k l : DeskProcess D) (before after : Logs) : Type 0 where
     pub same : SameOwner old new
-    pub goes : Goes (kind_of sheet old) k l before after typed types times later told tells
+    pub goes : Goes (kind_of sheet old) k l before after
 
   -- A desk's process: the scorer is told where the desk stands, and then there is a run from its first turn on.
   pub record DeskRuns
-      (sheet : Sheet) (old new : Desk S B D g h b) (before after : List Passed) (typed types : List Input)
-      (times later : List ℕ) (told tells : Option (List ℕ)) (turns : ℕ) (result : Result (Unit {0}) DeskEnd) : Type 0 where
+      (sheet : Sheet) (old new : Desk S B D g h b) (before after : Logs) (turns : ℕ) (result : Result (Unit {0}) DeskEnd)
+      : Type 0 where
     pub last : DeskProcess D
     pub is : last.desk ≡ state_of new
-    pub goes : DeskGoes sheet old new (process_of old unwarned 0 unticked further) last before after typed types
-        times later
-        (known_at result (with_text told
+    pub goes : DeskGoes sheet old new (process_of old unwarned 0 unticked further) last
+        (known_in result (with_told before
         (greeting sheet (innings_of old) (state_of old).book (state_of old).seat.position (own_line (state_of old)))))
-        (known_at result tells)
+        (known_in result after)
     pub ended : Ended turns result last

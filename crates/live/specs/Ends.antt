@@ -4,6 +4,7 @@ use Rattle.wire.specs.declared.what.What.{What}
 use Rattle.desk.specs.declared.refusal.Refusal.{Refusal}
 use Rattle.streams.specs.declared.watched.WriteFailed.{WriteFailed}
 use Rattle.live.specs.declared.ends.DeskEnd.{DeskEnd}
+use Rattle.live.specs.Runs.{Logs}
 use Rattle.station_texts.specs.declared.said.Said.{Said}
 use Rattle.live.specs.declared.ends.DeskEnd.TheVariants.{Quit, Device, Write}
 
@@ -44,6 +45,13 @@ known_to end told = told
 abbrev pub known_at : {T : Type 0} → Result T DeskEnd → Option (List ℕ) → Option (List ℕ)
 known_at (Ok value) told = told
 known_at (Err end) told = known_to end told
+
+-- the same of all logs
+abbrev pub known_until : DeskEnd → Logs → Logs
+known_until end logs = record logs { told = known_to end logs.told }
+
+abbrev pub known_in : {T : Type 0} → Result T DeskEnd → Logs → Logs
+known_in result logs = record logs { told = known_at result logs.told }
 
 -- a failed write of what the scorer is told
 abbrev pub written : Result (Unit {0}) WriteFailed → Course

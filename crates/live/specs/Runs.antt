@@ -18,6 +18,25 @@ abbrev pub with_text : Option (List ℕ) → List ℕ → Option (List ℕ)
 with_text None text = None
 with_text (Some told) text = Some (told ++ text)
 
+-- what has passed at a station's link, what was typed there, what its clock has shown, and what its writer tells
+pub record Logs : Type 0 where
+  pub passed : List Passed
+  pub typed : List Input
+  pub readings : List ℕ
+  pub told : Option (List ℕ)
+
+-- once the writer has written this too
+abbrev pub with_told : Logs → List ℕ → Logs
+with_told logs text = record logs { told = with_text logs.told text }
+
+-- of the writer nothing, where a write failed
+abbrev pub known_where : {T E : Type 0} → Result T E → Logs → Logs
+known_where result logs = record logs { told = known result logs.told }
+
+-- of a station at which nothing is typed
+abbrev pub untyped : List Passed → List ℕ → Option (List ℕ) → Logs
+untyped passed readings told = record { passed = passed; typed = []; readings = readings; told = told }
+
 -- a call of a station with its answer, the messages that it handed out, and the station after it
 pub record Moment (State Call : Type 0) : Type 0 where
   pub call : Call
@@ -72,16 +91,17 @@ module _ {State Call : Type 0} where
   printed_in kind k [] = []
   printed_in kind k (m ∷ ms) = printed_in kind k ms ++ kind.prints (last_of k ms) m.call m.after
 
-  -- Between two states of a station, of its link's log, of its scorer's typing, of its clock and of its writer there is a
-  -- run: its datagrams are just those that passed, its lines just those that were typed, its times just those that were
-  -- read, and its texts just those that were written.
-  pub record Goes
-      (kind : Kind State Call) (k l : State) (before after : List Passed) (typed types : List Input)
-      (times later : List ℕ) (told tells : Option (List ℕ)) : Type 0 where
+  -- The logs have grown by these moments of a station: its datagrams are just those that passed, its lines just those that
+  -- were typed, its times just those that were read, and its texts just those that were written.
+  pub record LogsGrow (kind : Kind State Call) (k : State) (moments : List (Moment State Call)) (before after : Logs) : Type 0 where
+    pub passed : after.passed ≡ before.passed ++ passed_in kind moments
+    pub inputs : after.typed ≡ before.typed ++ typed_in kind moments
+    pub readings : after.readings ≡ before.readings ++ read_in kind moments
+    pub printed : Appends before.told after.told (printed_in kind k moments)
+
+  -- between two states of a station and of its logs there is a run
+  pub record Goes (kind : Kind State Call) (k l : State) (before after : Logs) : Type 0 where
     pub moments : List (Moment State Call)
     pub run : Run kind k moments
     pub last : last_of k moments ≡ l
-    pub passed : after ≡ before ++ passed_in kind moments
-    pub inputs : types ≡ typed ++ typed_in kind moments
-    pub readings : later ≡ times ++ read_in kind moments
-    pub printed : Appends told tells (printed_in kind k moments)
+    pub logs : LogsGrow kind k moments before after

@@ -6,6 +6,7 @@ ghost use Rattle.cards.specs.Board.{board as board_text};
 ghost use Rattle.streams.specs.Watched.{Prints, has_failed, stream_of};
 ghost use Rattle.board.specs.Board.{book_of};
 ghost use Rattle.live.specs.Boards.{BoardLives, sight_at};
+ghost use Rattle.live.specs.Runs.{untyped};
 
 use crate::board_loop::run_board;
 use crate::shows::Shows;
@@ -48,8 +49,8 @@ pub fn keep_board<B: BookOf, L: Link, C: Clock, N: Notices, W: Sink, S: Shows<B>
     turns: u64,
 ) -> Result<(), WriteFailed>
     ensures lives { BoardLives B.content B.innings_a_side sheet.now board.old board.new
-        (L.log link.old) (L.log link.new) (C.readings clock.old) (C.readings clock.new)
-        (W.contents (stream_of out.old)) (W.contents (stream_of out.new)) turns
+        (untyped (L.log link.old) (C.readings clock.old) (W.contents (stream_of out.old)))
+        (untyped (L.log link.new) (C.readings clock.new) (W.contents (stream_of out.new))) turns
         (N.told notices.old) (N.told notices.new) (S.seen state.old) (S.seen state.new) result }
     ensures failed { OnErr result (has_failed out.new ≡ true ⊎ S.failed state.new ≡ true) }
 {

@@ -10,9 +10,10 @@ ghost use Rattle.board.specs.Board.{book_of, game_of};
 ghost use Rattle.live.specs.Boards.{BoardGoes, BoardRuns, at_turn, grown, in_turn};
 ghost use Rattle.station_texts.specs.Notices.{notices_unopened, telling_unopened, untold};
 ghost use Rattle.live.specs.Paces.{ticking_of};
+ghost use Rattle.live.specs.Runs.{Logs, untyped};
 ghost use Rattle.live.specs.Sights.{Sight};
 ghost use Rattle.live.specs.Ticks.{unticked};
-ghost use Rattle.links.specs.Passed.{Came, Passed};
+ghost use Rattle.links.specs.Passed.{Came};
 ghost use Rattle.links.specs.declared.link.TheConstants.{MOST_TAKEN};
 ghost use Rattle.station_texts.specs.declared.notices.Notice.{Notice};
 ghost use Rattle.wire.specs.Layout.{IsMessage};
@@ -50,7 +51,7 @@ fn say<B: BookOf, L: Link, C: Clock>(
         BoardGoes B.content B.innings_a_side sheet board.now board.now
         (in_turn B.content board.now turns had taken telling (ticking_of pace.old) notices seen)
         (in_turn B.content board.now turns had taken telling (ticking_of pace.new) notices seen)
-        (L.log link.old) (L.log link.new) (C.readings clock.old) (C.readings clock.new) shown shown }
+        (untyped (L.log link.old) (C.readings clock.old) shown) (untyped (L.log link.new) (C.readings clock.new) shown) }
     ensures looked { IsSome (ticking_of pace.new).looked }
 {
     let now = clock.millis();
@@ -72,12 +73,12 @@ fn give<B: BookOf, N: Notices>(
     now: u64,
 )
     requires { ForOk read IsMessage }
-    ensures goes { (bytes : List ℕ) (sheet : Sheet) (shown : Option (List ℕ)) (seen : List Sight) (log : List Passed) (times : List ℕ) (turns had taken : ℕ) →
+    ensures goes { (bytes : List ℕ) (sheet : Sheet) (logs : Logs) (seen : List Sight) (turns had taken : ℕ) →
         Reads (game_of board.old) bytes read → taken < MOST_TAKEN →
         BoardGoes B.content B.innings_a_side sheet board.old board.new
         (in_turn B.content board.old turns had taken between.old.telling (ticking_of between.old.pace) (N.told notices.old) seen)
         (in_turn B.content board.new turns had (taken + 1) between.new.telling (ticking_of between.new.pace) (N.told notices.new) seen)
-        log (log ++ Came bytes ∷ []) times times shown shown }
+        logs (record logs { passed = logs.passed ++ Came bytes ∷ [] }) }
     ensures ticking { ticking_of between.new.pace ≡ ticking_of between.old.pace }
 {
     let at = board.position();
@@ -112,13 +113,13 @@ fn take_next<B: BookOf, L: Link, C: Clock, N: Notices>(
         BoardGoes B.content B.innings_a_side sheet board.old board.new
         (in_turn B.content board.old turns had taken between.old.telling (ticking_of between.old.pace) (N.told notices.old) seen)
         (in_turn B.content board.new turns had (taken + 1) between.new.telling (ticking_of between.new.pace) (N.told notices.new) seen)
-        (L.log link.old) (L.log link.new) (C.readings clock.old) (C.readings clock.new) shown shown }
+        (untyped (L.log link.old) (C.readings clock.old) shown) (untyped (L.log link.new) (C.readings clock.new) shown) }
     ensures none { result ≡ false →
         (sheet : Sheet) (shown : Option (List ℕ)) (seen : List Sight) (turns had taken : ℕ) →
         BoardGoes B.content B.innings_a_side sheet board.old board.new
         (in_turn B.content board.old turns had taken between.old.telling (ticking_of between.old.pace) (N.told notices.old) seen)
         (in_turn B.content board.new turns had taken between.new.telling (ticking_of between.new.pace) (N.told notices.new) seen)
-        (L.log link.old) (L.log link.new) (C.readings clock.old) (C.readings clock.new) shown shown }
+        (untyped (L.log link.old) (C.readings clock.old) shown) (untyped (L.log link.new) (C.readings clock.new) shown) }
     ensures looked { IsSome (ticking_of between.new.pace).looked }
 {
     let wait = say(board, link, clock, &mut between.pace);
@@ -149,7 +150,7 @@ fn take_all<B: BookOf, L: Link, C: Clock, N: Notices>(
         BoardGoes B.content B.innings_a_side sheet board.old board.new
         (in_turn B.content board.old turns had 0 between.old.telling (ticking_of between.old.pace) (N.told notices.old) seen)
         (in_turn B.content board.new turns had taken between.new.telling (ticking_of between.new.pace) (N.told notices.new) seen)
-        (L.log link.old) (L.log link.new) (C.readings clock.old) (C.readings clock.new) shown shown }
+        (untyped (L.log link.old) (C.readings clock.old) shown) (untyped (L.log link.new) (C.readings clock.new) shown) }
     ensures looked { IsSome (ticking_of between.new.pace).looked }
 {
     between.pace.set_waits(true);
@@ -191,8 +192,8 @@ fn turn<B: BookOf, L: Link, C: Clock, N: Notices, W: Sink, S: Shows<B>>(
     between: &mut Between,
 ) -> Result<(), WriteFailed>
     ensures runs { (turns : ℕ) → (runs : BoardRuns B.content B.innings_a_side sheet.now board.old board.new
-        (L.log link.old) (L.log link.new) (C.readings clock.old) (C.readings clock.new)
-        (W.contents (stream_of out.old)) (W.contents (stream_of out.new)) turns (turns + 1)
+        (untyped (L.log link.old) (C.readings clock.old) (W.contents (stream_of out.old)))
+        (untyped (L.log link.new) (C.readings clock.new) (W.contents (stream_of out.new))) turns (turns + 1)
         between.old.telling (ticking_of between.old.pace) (N.told notices.old) (N.told notices.new)
         (S.seen state.old) (S.seen state.new) result)
         × OnOk result (runs.last ≡ at_turn B.content board.new (turns + 1)
@@ -225,8 +226,8 @@ pub fn run_board<B: BookOf, L: Link, C: Clock, N: Notices, W: Sink, S: Shows<B>>
     turns: u64,
 ) -> Result<(), WriteFailed>
     ensures runs { BoardRuns B.content B.innings_a_side sheet.now board.old board.new
-        (L.log link.old) (L.log link.new) (C.readings clock.old) (C.readings clock.new)
-        (W.contents (stream_of out.old)) (W.contents (stream_of out.new)) 0 turns
+        (untyped (L.log link.old) (C.readings clock.old) (W.contents (stream_of out.old)))
+        (untyped (L.log link.new) (C.readings clock.new) (W.contents (stream_of out.new))) 0 turns
         untold unticked (N.told notices.old) (N.told notices.new) (S.seen state.old) (S.seen state.new) result }
     ensures failed { OnErr result (has_failed out.new ≡ true ⊎ S.failed state.new ≡ true) }
 {

@@ -4,7 +4,7 @@ ghost use Rattle.std.specs.Prelude.{◌≡◌, [], true, false, Err, IfErr, OnOk
 ghost use Rattle.entry_log.specs.Blame.{BlamesDisk};
 ghost use Rattle.agree_core.specs.Openings.{Opening};
 ghost use Rattle.vote_store.specs.View.{file_view};
-ghost use Rattle.streams.specs.Watched.{Prints, TellsFailure, has_failed, stream_of};
+ghost use Rattle.streams.specs.Watched.{Prints, TellsFailure, has_failed};
 ghost use Rattle.desk.specs.Desk.{disk_of, state_of};
 ghost use Rattle.live.specs.declared.desk_life.LifeEnd.TheVariants.{Ended};
 ghost use Rattle.live.specs.DeskLife.{BeginsOn, DeskLives};
@@ -12,6 +12,7 @@ ghost use Rattle.live.specs.DeskSights.{IsShown, IsShownFrom, desk_sight};
 ghost use Rattle.live.specs.Desks as desks;
 ghost use Rattle.live.specs.Desks.{DeskRuns, FitsLongest, desk_kind, innings_of, kind_of};
 ghost use Rattle.live.specs.Ends.{end_told};
+ghost use Rattle.live.specs.Outside.{logs_of};
 ghost use Rattle.station_texts.specs.Texts.{greeting};
 
 use crate::begin::begin_desk;
@@ -19,6 +20,7 @@ use crate::between::Between;
 use crate::desk_loop::turn;
 use crate::ends::{DeskEnd, told};
 use crate::hearing::own_line;
+use crate::outside::Outside;
 use crate::pace::Pace;
 use crate::peer::Peer;
 use agree_core::DeskId;
@@ -77,29 +79,25 @@ fn take_turns<S: SlotsOf, B: BookOf + Drop, L: Link, K: Keys, C: Clock, W: Sink,
     desk: &mut Desk<S, B>,
     own: DeskId,
     sheet: &MatchSheet,
-    link: &mut L,
-    keys: &mut K,
-    clock: &mut C,
-    out: &mut Watched<W>,
+    outside: &mut Outside<L, K, C, W>,
     page: &mut P,
     turns: u64,
 ) -> Result<(), DeskEnd>
-    ensures runs { DeskRuns sheet.now desk.old desk.new (L.log link.old) (L.log link.new)
-        (K.inputs keys.old) (K.inputs keys.new) (C.readings clock.old) (C.readings clock.new)
-        (W.contents (stream_of out.old)) (W.contents (stream_of out.new)) turns result }
+    ensures runs { DeskRuns sheet.now desk.old desk.new (logs_of L.log K.inputs C.readings W.contents outside.old)
+        (logs_of L.log K.inputs C.readings W.contents outside.new) turns result }
     ensures shown { IsShown (kind_of sheet.now desk.old) sheet.now (innings_of desk.old) P.goes_on
         (state_of desk.old) page.old page.new }
-    ensures failed { result ≡ Err DeskEnd.Write → has_failed out.new ≡ true }
+    ensures failed { result ≡ Err DeskEnd.Write → has_failed outside.new.out ≡ true }
 {
-    greet(desk, sheet, out)?;
+    greet(desk, sheet, &mut outside.out)?;
     let mut between = Between {
         pace: Pace::new(),
-        peer: Peer::new(own, clock.millis()),
+        peer: Peer::new(own, outside.clock.millis()),
         warned: Warned::NOTHING,
     };
     for number in 0..turns {
-        turn(alloc, desk, sheet, link, keys, clock, out, &mut between)?;
-        show(desk, sheet, keys, page);
+        turn(alloc, desk, sheet, outside, &mut between)?;
+        show(desk, sheet, &outside.keys, page);
     }
     Ok(())
 }
@@ -126,26 +124,22 @@ pub fn run_desk<S: SlotsOf, B: BookOf + Drop, L: Link, K: Keys, C: Clock, W: Sin
     desk: &mut Desk<S, B>,
     own: DeskId,
     sheet: &MatchSheet,
-    link: &mut L,
-    keys: &mut K,
-    clock: &mut C,
-    out: &mut Watched<W>,
+    outside: &mut Outside<L, K, C, W>,
     page: &mut P,
     turns: u64,
 ) -> Result<(), DeskEnd>
-    ensures runs { DeskRuns sheet.now desk.old desk.new (L.log link.old) (L.log link.new)
-        (K.inputs keys.old) (K.inputs keys.new) (C.readings clock.old) (C.readings clock.new)
-        (W.contents (stream_of out.old)) (W.contents (stream_of out.new)) turns result }
+    ensures runs { DeskRuns sheet.now desk.old desk.new (logs_of L.log K.inputs C.readings W.contents outside.old)
+        (logs_of L.log K.inputs C.readings W.contents outside.new) turns result }
     ensures shown { IsShown (kind_of sheet.now desk.old) sheet.now (innings_of desk.old) P.goes_on
         (state_of desk.old) page.old page.new }
     // `Device` is answered exactly where the disk failed in this run.
     ensures blame { (state_of desk.old).failed ≡ false →
         BlamesDisk DeskEnd.Device (FitsLongest S.room (S.Disk.cap (disk_of desk.old))) result
         (S.Disk.faults (disk_of desk.old)) (S.Disk.faults (disk_of desk.new)) }
-    ensures failed { result ≡ Err DeskEnd.Write → has_failed out.new ≡ true }
+    ensures failed { result ≡ Err DeskEnd.Write → has_failed outside.new.out ≡ true }
 {
-    let end = take_turns(alloc, desk, own, sheet, link, keys, clock, out, page, turns);
-    end_told(end, told(out.flush()))
+    let end = take_turns(alloc, desk, own, sheet, outside, page, turns);
+    end_told(end, told(outside.out.flush()))
 }
 
 /// A desk's process: it begins on this disk, on a new file where that has no byte, and runs for so many turns, with an
@@ -166,10 +160,7 @@ pub fn keep_desk<
     desk: DeskId,
     book: B,
     sheet: &MatchSheet,
-    link: &mut L,
-    keys: &mut K,
-    clock: &mut C,
-    out: &mut Watched<W>,
+    outside: &mut Outside<L, K, C, W>,
     page: &mut P,
     turns: u64,
 ) -> Result<(), LifeEnd>
@@ -178,21 +169,19 @@ where
     requires empty { B.content book ≡ [] }
     ensures lives { DeskLives (file_view S.contents S.Disk.seen S.Disk.images desk sheet.now.game) S.Disk.seen
         (record { faults = S.Disk.faults; FitsLongest = FitsLongest S.room (S.Disk.cap disk) })
-        sheet.now (B.innings_a_side book) desk disk (L.log link.old) (L.log link.new)
-        (K.inputs keys.old) (K.inputs keys.new) (C.readings clock.old) (C.readings clock.new)
-        (W.contents (stream_of out.old)) (W.contents (stream_of out.new)) turns result }
+        sheet.now (B.innings_a_side book) desk disk
+        (logs_of L.log K.inputs C.readings W.contents outside.old)
+        (logs_of L.log K.inputs C.readings W.contents outside.new) turns result }
     ensures shown { (opening : Opening S.Disk)
         × BeginsOn (file_view S.contents S.Disk.seen S.Disk.images desk sheet.now.game) S.Disk.seen (B.innings_a_side book)
         desk disk opening
         × IsShownFrom (desk_kind sheet.now (file_view S.contents S.Disk.seen S.Disk.images desk sheet.now.game)
         (record { faults = S.Disk.faults; FitsLongest = FitsLongest S.room (S.Disk.cap disk) }) sheet.now.game
         (B.innings_a_side book)) sheet.now (B.innings_a_side book) P.goes_on opening page.old page.new }
-    ensures failed { result ≡ Err (Ended DeskEnd.Write) → has_failed out.new ≡ true }
+    ensures failed { result ≡ Err (Ended DeskEnd.Write) → has_failed outside.new.out ≡ true }
 {
     match begin_desk::<S, B>(alloc, disk, desk, sheet.game(), book) {
-        Ok(mut begun) => match run_desk(
-            alloc, &mut begun, desk, sheet, link, keys, clock, out, page, turns,
-        ) {
+        Ok(mut begun) => match run_desk(alloc, &mut begun, desk, sheet, outside, page, turns) {
             Ok(()) => Ok(()),
             Err(end) => Err(LifeEnd::Ended(end)),
         },

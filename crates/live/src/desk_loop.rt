@@ -1,21 +1,22 @@
 //! A desk's turn: a line of its scorer, and what that comes to; then what comes.
 
-ghost use Rattle.std.specs.Prelude.{◌≡◌, ℕ, List, true, Err, IfSome, IsSome, OnOk, is_some};
+ghost use Rattle.std.specs.Prelude.{◌≡◌, ℕ, true, Err, IfSome, IsSome, OnOk, is_some};
 ghost use Rattle.notation.specs.Written.{IsEntry};
-ghost use Rattle.streams.specs.Watched.{has_failed, stream_of};
+ghost use Rattle.streams.specs.Watched.{has_failed};
 ghost use Rattle.desk.specs.Desk.{last_entry, own_votes, state_of};
 ghost use Rattle.live.specs.Desks as desks;
 ghost use Rattle.live.specs.Desks.{Calls, DeskGoes, process_of};
 ghost use Rattle.live.specs.Ends as ends;
-ghost use Rattle.live.specs.Ends.{course_of, further, known_at, turns_after};
+ghost use Rattle.live.specs.Ends.{course_of, further, known_in, turns_after};
+ghost use Rattle.live.specs.Outside.{logs_of};
 ghost use Rattle.live.specs.Paces.{ticking_of};
 ghost use Rattle.live.specs.Ticks.{IsInTime, Ticking};
-ghost use Rattle.links.specs.Typing.{Input};
 
 use crate::aside::tell_aside;
 use crate::between::Between;
 use crate::ends::{DeskEnd, told};
 use crate::hearing::{own_line, take_all};
+use crate::outside::Outside;
 use crate::reminding::remind;
 use agree_core::Message;
 use cards::MatchSheet;
@@ -29,7 +30,7 @@ use station_texts::said::{Said, entry_said};
 use station_texts::texts::print_said;
 use station_texts::warned::Warned;
 use std::alloc::Global;
-use streams::{Sink, Watched};
+use streams::Sink;
 
 /// Where a desk stands, as far as its scorer's lines ask.
 fn stand_of<S: SlotsOf, B: BookOf + Drop>(desk: &Desk<S, B>) -> Stand
@@ -89,21 +90,18 @@ fn end_of(said: &Said) -> Result<(), DeskEnd>
 }
 
 /// Takes a line that was typed, if there is one, and tells the scorer, who was told this of a peer, what it came to.
-fn take_line<S: SlotsOf, B: BookOf + Drop, L: Link, K: Keys, W: Sink>(
+fn take_line<S: SlotsOf, B: BookOf + Drop, L: Link, K: Keys, C: Clock, W: Sink>(
     alloc: Global,
     desk: &mut Desk<S, B>,
     sheet: &MatchSheet,
-    link: &mut L,
-    keys: &mut K,
-    out: &mut Watched<W>,
+    outside: &mut Outside<L, K, C, W>,
     warned: Warned,
 ) -> Result<(), DeskEnd>
-    ensures goes { (turns : ℕ) (ticking : Ticking) (times : List ℕ) → IsInTime ticking →
-        DeskGoes sheet.now desk.old desk.new
+    ensures goes { (turns : ℕ) (ticking : Ticking) → IsInTime ticking → DeskGoes sheet.now desk.old desk.new
         (process_of desk.old warned turns ticking further) (process_of desk.new warned turns ticking (course_of result))
-        (L.log link.old) (L.log link.new) (K.inputs keys.old) (K.inputs keys.new) times times
-        (known_at result (W.contents (stream_of out.old))) (known_at result (W.contents (stream_of out.new))) }
-    ensures failed { result ≡ Err DeskEnd.Write → has_failed out.new ≡ true }
+        (known_in result (logs_of L.log K.inputs C.readings W.contents outside.old))
+        (known_in result (logs_of L.log K.inputs C.readings W.contents outside.new)) }
+    ensures failed { result ≡ Err DeskEnd.Write → has_failed outside.new.out ≡ true }
 {
     let mut buffer = [0; LINE_ROOM];
     let stand = stand_of(desk);
@@ -113,40 +111,40 @@ fn take_line<S: SlotsOf, B: BookOf + Drop, L: Link, K: Keys, W: Sink>(
         own: own_line(desk),
         other: desk.noted(),
     };
-    let count = match keys.line(stand, &mut buffer) {
+    let count = match outside.keys.line(stand, &mut buffer) {
         Typed::Nothing => return Ok(()),
         Typed::Ended => return Err(DeskEnd::NoMoreLines),
         Typed::Line(count) => count,
-        Typed::Aside(aside) => return tell_aside(out, sheet, &aside),
+        Typed::Aside(aside) => return tell_aside(&mut outside.out, sheet, &aside),
     };
     let line = &buffer[..count];
-    let said = pen(alloc, desk, sheet, line, stand, last, link);
+    let said = pen(alloc, desk, sheet, line, stand, last, &mut outside.link);
     if let Err(end) = end_of(&said) {
         return Err(end);
     }
     let is_silent = warned.of_silence;
+    let out = &mut outside.out;
     told(print_said(out, sheet, at, both, is_silent, &said, desk.book()))
 }
 
 /// Takes what came in a turn, and tells the scorer what is due of the other desk.
-fn listen<S: SlotsOf, B: BookOf + Drop, L: Link, C: Clock, W: Sink>(
+fn listen<S: SlotsOf, B: BookOf + Drop, L: Link, K: Keys, C: Clock, W: Sink>(
     desk: &mut Desk<S, B>,
     sheet: &MatchSheet,
-    link: &mut L,
-    clock: &mut C,
-    out: &mut Watched<W>,
+    outside: &mut Outside<L, K, C, W>,
     between: &mut Between,
 ) -> Result<(), DeskEnd>
-    ensures goes { (typed : List Input) (turns : ℕ) → DeskGoes sheet.now desk.old desk.new
+    ensures goes { (turns : ℕ) → DeskGoes sheet.now desk.old desk.new
         (process_of desk.old between.old.warned turns (ticking_of between.old.pace) further)
         (process_of desk.new between.new.warned turns (ticking_of between.new.pace) (course_of result))
-        (L.log link.old) (L.log link.new) typed typed (C.readings clock.old) (C.readings clock.new)
-        (known_at result (W.contents (stream_of out.old))) (known_at result (W.contents (stream_of out.new))) }
+        (known_in result (logs_of L.log K.inputs C.readings W.contents outside.old))
+        (known_in result (logs_of L.log K.inputs C.readings W.contents outside.new)) }
     ensures looked { IsSome (ticking_of between.new.pace).looked }
-    ensures failed { result ≡ Err DeskEnd.Write → has_failed out.new ≡ true }
+    ensures failed { result ≡ Err DeskEnd.Write → has_failed outside.new.out ≡ true }
 {
-    take_all(desk, sheet, link, clock, out, between)?;
-    remind(desk, out, between, clock.millis())
+    take_all(desk, sheet, outside, between)?;
+    let now = outside.clock.millis();
+    remind(desk, &mut outside.out, between, now)
 }
 
 /// What a turn does before what it has told is handed on: it takes a line of the scorer, and then what came.
@@ -154,30 +152,25 @@ fn act<S: SlotsOf, B: BookOf + Drop, L: Link, K: Keys, C: Clock, W: Sink>(
     alloc: Global,
     desk: &mut Desk<S, B>,
     sheet: &MatchSheet,
-    link: &mut L,
-    keys: &mut K,
-    clock: &mut C,
-    out: &mut Watched<W>,
+    outside: &mut Outside<L, K, C, W>,
     between: &mut Between,
 ) -> Result<(), DeskEnd>
     ensures goes { (turns : ℕ) → DeskGoes sheet.now desk.old desk.new
         (process_of desk.old between.old.warned turns (ticking_of between.old.pace) further)
         (process_of desk.new between.new.warned turns (ticking_of between.new.pace) (course_of result))
-        (L.log link.old) (L.log link.new) (K.inputs keys.old) (K.inputs keys.new)
-        (C.readings clock.old) (C.readings clock.new)
-        (known_at result (W.contents (stream_of out.old))) (known_at result (W.contents (stream_of out.new))) }
+        (known_in result (logs_of L.log K.inputs C.readings W.contents outside.old))
+        (known_in result (logs_of L.log K.inputs C.readings W.contents outside.new)) }
     ensures looked { OnOk result (IsSome (ticking_of between.new.pace).looked) }
-    ensures failed { result ≡ Err DeskEnd.Write → has_failed out.new ≡ true }
+    ensures failed { result ≡ Err DeskEnd.Write → has_failed outside.new.out ≡ true }
 {
     let at = desk.position();
     let votes = desk.votes();
-    take_line(alloc, desk, sheet, link, keys, out, between.warned)?;
+    take_line(alloc, desk, sheet, outside, between.warned)?;
     let has_voted = desk.votes() != votes;
-    between
-        .pace
-        .note(desk.position() != at, has_voted, clock.millis());
-    between.pace.set_waits(!keys.has_more());
-    listen(desk, sheet, link, clock, out, between)
+    let now = outside.clock.millis();
+    between.pace.note(desk.position() != at, has_voted, now);
+    between.pace.set_waits(!outside.keys.has_more());
+    listen(desk, sheet, outside, between)
 }
 
 /// A desk's turn: it takes a line of its scorer, looks at the clock and says what is due, and takes what came.
@@ -185,22 +178,18 @@ pub(crate) fn turn<S: SlotsOf, B: BookOf + Drop, L: Link, K: Keys, C: Clock, W: 
     alloc: Global,
     desk: &mut Desk<S, B>,
     sheet: &MatchSheet,
-    link: &mut L,
-    keys: &mut K,
-    clock: &mut C,
-    out: &mut Watched<W>,
+    outside: &mut Outside<L, K, C, W>,
     between: &mut Between,
 ) -> Result<(), DeskEnd>
     ensures goes { (turns : ℕ) → DeskGoes sheet.now desk.old desk.new
         (process_of desk.old between.old.warned turns (ticking_of between.old.pace) further)
         (process_of desk.new between.new.warned (turns_after turns result) (ticking_of between.new.pace) (course_of result))
-        (L.log link.old) (L.log link.new) (K.inputs keys.old) (K.inputs keys.new)
-        (C.readings clock.old) (C.readings clock.new)
-        (known_at result (W.contents (stream_of out.old))) (known_at result (W.contents (stream_of out.new))) }
-    ensures failed { result ≡ Err DeskEnd.Write → has_failed out.new ≡ true }
+        (known_in result (logs_of L.log K.inputs C.readings W.contents outside.old))
+        (known_in result (logs_of L.log K.inputs C.readings W.contents outside.new)) }
+    ensures failed { result ≡ Err DeskEnd.Write → has_failed outside.new.out ≡ true }
 {
-    act(alloc, desk, sheet, link, keys, clock, out, between)?;
-    told(out.flush())?;
+    act(alloc, desk, sheet, outside, between)?;
+    told(outside.out.flush())?;
     between.pace.end_turn();
     Ok(())
 }

@@ -1,7 +1,7 @@
 //! What a desk hears, what that shows of lines that one of both desks' files lacks, and what its scorer is told of it; and what
 //! it says unasked.
 
-ghost use Rattle.std.specs.Prelude.{◌≡◌, ◌==◌, ◌+◌, ◌++◌, ◌∷◌, [], ◌&&◌, not, if◌then◌else◌, ℕ, List, Option, true, Err, IfSome, IsSome, Some};
+ghost use Rattle.std.specs.Prelude.{◌≡◌, ◌==◌, ◌+◌, ◌++◌, ◌∷◌, [], ◌&&◌, not, if◌then◌else◌, ℕ, List, true, Err, IfSome, IsSome, Some};
 ghost use Rattle.std.specs.Io.KnownBytes.{Appends};
 ghost use Rattle.std.specs.Result.{ForOk};
 ghost use Rattle.std.specs.Str.{bytes_eq};
@@ -14,11 +14,12 @@ ghost use Rattle.desk.specs.Answers.{replied};
 ghost use Rattle.desk.specs.Desk.{disk_of, game_of, state_of};
 ghost use Rattle.live.specs.Desks as desks;
 ghost use Rattle.live.specs.Desks.{Calls, DeskGoes, Given, Ticked, process_of};
-ghost use Rattle.live.specs.Ends.{course_of, further, known_at};
+ghost use Rattle.live.specs.Ends.{course_of, further, known_at, known_in};
 ghost use Rattle.live.specs.LostLines as lost;
+ghost use Rattle.live.specs.Outside.{logs_of};
 ghost use Rattle.live.specs.Paces.{ticking_of};
-ghost use Rattle.links.specs.Passed.{Came, Passed, sent_to};
-ghost use Rattle.links.specs.Typing.{Input};
+ghost use Rattle.live.specs.Runs.{Logs};
+ghost use Rattle.links.specs.Passed.{Came, sent_to};
 ghost use Rattle.links.specs.declared.link.Receivers.TheVariants.{ToOne};
 ghost use Rattle.notation.specs.Code.{code};
 ghost use Rattle.notation.specs.Written.{IsEntry};
@@ -28,13 +29,14 @@ ghost use Rattle.wire.specs.Reading.{Reads};
 
 use crate::between::Between;
 use crate::ends::{DeskEnd, end_at, told};
+use crate::outside::Outside;
 use crate::pace::Pace;
 use agree_core::{Heard, Message, Position};
 use cards::MatchSheet;
 use corrections::BookOf;
 use desk::Desk;
 use entry_log::SlotsOf;
-use links::{Arrival, Clock, Link, MOST_TAKEN, ROOM, send_each};
+use links::{Arrival, Clock, Keys, Link, MOST_TAKEN, ROOM, send_each};
 use notation::Entry;
 use station_texts::both::Both;
 use station_texts::news::{print_came, print_unopened};
@@ -267,12 +269,12 @@ fn hear<S: SlotsOf, B: BookOf + Drop, L: Link, W: Sink>(
     now: u64,
 ) -> Result<(), DeskEnd>
     requires { ForOk read.now IsMessage }
-    ensures goes { (bytes : List ℕ) (log : List Passed) (typed : List Input) (times : List ℕ) (turns : ℕ) →
-        Reads (game_of desk.old) bytes read.now → L.log link.old ≡ log ++ Came bytes ∷ [] → DeskGoes sheet.now desk.old desk.new
+    ensures goes { (bytes : List ℕ) (logs : Logs) (turns : ℕ) →
+        Reads (game_of desk.old) bytes read.now → L.log link.old ≡ logs.passed ++ Came bytes ∷ [] → DeskGoes sheet.now desk.old desk.new
         (process_of desk.old between.old.warned turns (ticking_of between.old.pace) further)
         (process_of desk.new between.new.warned turns (ticking_of between.new.pace) (course_of result))
-        log (L.log link.new) typed typed times times
-        (known_at result (W.contents (stream_of out.old))) (known_at result (W.contents (stream_of out.new))) }
+        (record logs { told = known_at result (W.contents (stream_of out.old)) })
+        (record logs { passed = L.log link.new; told = known_at result (W.contents (stream_of out.new)) }) }
     ensures ticking { ticking_of between.new.pace ≡ ticking_of between.old.pace }
     ensures failed { result ≡ Err DeskEnd.Write → has_failed out.new ≡ true }
 {
@@ -336,11 +338,11 @@ fn say<S: SlotsOf, B: BookOf + Drop, L: Link, C: Clock>(
     clock: &mut C,
     pace: &mut Pace,
 ) -> u64
-    ensures goes { (sheet : Sheet) (typed : List Input) (warned : Warned) (turns : ℕ) (told : Option (List ℕ)) →
-        DeskGoes sheet desk.now desk.now
+    ensures goes { (sheet : Sheet) (logs : Logs) (warned : Warned) (turns : ℕ) → DeskGoes sheet desk.now desk.now
         (process_of desk.now warned turns (ticking_of pace.old) further)
         (process_of desk.now warned turns (ticking_of pace.new) further)
-        (L.log link.old) (L.log link.new) typed typed (C.readings clock.old) (C.readings clock.new) told told }
+        (record logs { passed = L.log link.old; readings = C.readings clock.old })
+        (record logs { passed = L.log link.new; readings = C.readings clock.new }) }
     ensures looked { IsSome (ticking_of pace.new).looked }
 {
     let now = clock.millis();
@@ -355,22 +357,26 @@ fn say<S: SlotsOf, B: BookOf + Drop, L: Link, C: Clock>(
 
 /// Says what is due, and takes the next datagram. The first one of a turn is waited for, until something is due. It answers
 /// whether one was taken.
-fn take_next<S: SlotsOf, B: BookOf + Drop, L: Link, C: Clock, W: Sink>(
+fn take_next<S: SlotsOf, B: BookOf + Drop, L: Link, K: Keys, C: Clock, W: Sink>(
     desk: &mut Desk<S, B>,
     sheet: &MatchSheet,
-    link: &mut L,
-    clock: &mut C,
-    out: &mut Watched<W>,
+    outside: &mut Outside<L, K, C, W>,
     between: &mut Between,
 ) -> Result<bool, DeskEnd>
-    ensures goes { (typed : List Input) (turns : ℕ) → DeskGoes sheet.now desk.old desk.new
+    ensures goes { (turns : ℕ) → DeskGoes sheet.now desk.old desk.new
         (process_of desk.old between.old.warned turns (ticking_of between.old.pace) further)
         (process_of desk.new between.new.warned turns (ticking_of between.new.pace) (course_of result))
-        (L.log link.old) (L.log link.new) typed typed (C.readings clock.old) (C.readings clock.new)
-        (known_at result (W.contents (stream_of out.old))) (known_at result (W.contents (stream_of out.new))) }
+        (known_in result (logs_of L.log K.inputs C.readings W.contents outside.old))
+        (known_in result (logs_of L.log K.inputs C.readings W.contents outside.new)) }
     ensures looked { IsSome (ticking_of between.new.pace).looked }
-    ensures failed { result ≡ Err DeskEnd.Write → has_failed out.new ≡ true }
+    ensures failed { result ≡ Err DeskEnd.Write → has_failed outside.new.out ≡ true }
 {
+    let Outside {
+        link,
+        clock,
+        out,
+        ..
+    } = outside;
     let wait = say(desk, link, clock, &mut between.pace);
     let mut buffer = [0; ROOM];
     match link.take_message(desk.game(), &mut buffer, wait) {
@@ -388,24 +394,22 @@ fn take_next<S: SlotsOf, B: BookOf + Drop, L: Link, C: Clock, W: Sink>(
 }
 
 /// Takes what came in a turn.
-pub(crate) fn take_all<S: SlotsOf, B: BookOf + Drop, L: Link, C: Clock, W: Sink>(
+pub(crate) fn take_all<S: SlotsOf, B: BookOf + Drop, L: Link, K: Keys, C: Clock, W: Sink>(
     desk: &mut Desk<S, B>,
     sheet: &MatchSheet,
-    link: &mut L,
-    clock: &mut C,
-    out: &mut Watched<W>,
+    outside: &mut Outside<L, K, C, W>,
     between: &mut Between,
 ) -> Result<(), DeskEnd>
-    ensures goes { (typed : List Input) (turns : ℕ) → DeskGoes sheet.now desk.old desk.new
+    ensures goes { (turns : ℕ) → DeskGoes sheet.now desk.old desk.new
         (process_of desk.old between.old.warned turns (ticking_of between.old.pace) further)
         (process_of desk.new between.new.warned turns (ticking_of between.new.pace) (course_of result))
-        (L.log link.old) (L.log link.new) typed typed (C.readings clock.old) (C.readings clock.new)
-        (known_at result (W.contents (stream_of out.old))) (known_at result (W.contents (stream_of out.new))) }
+        (known_in result (logs_of L.log K.inputs C.readings W.contents outside.old))
+        (known_in result (logs_of L.log K.inputs C.readings W.contents outside.new)) }
     ensures looked { IsSome (ticking_of between.new.pace).looked }
-    ensures failed { result ≡ Err DeskEnd.Write → has_failed out.new ≡ true }
+    ensures failed { result ≡ Err DeskEnd.Write → has_failed outside.new.out ≡ true }
 {
     for taken in 0..MOST_TAKEN {
-        if !take_next(desk, sheet, link, clock, out, between)? {
+        if !take_next(desk, sheet, outside, between)? {
             break;
         }
     }

@@ -13,6 +13,7 @@ mod desk_loop;
 mod ends;
 pub mod hearing;
 mod laws;
+mod outside;
 mod pace;
 mod peer;
 mod reminding;
@@ -28,5 +29,6 @@ pub use laws::{
     both_lines_are_told, nothing_is_asked_in_vain, reminders_come_once, stations_are_never_silent,
     the_other_is_hidden,
 };
+pub use outside::Outside;
 pub use shows::Shows;
 pub use sight_log::SightLog;

@@ -1,6 +1,6 @@
 //! What a desk tells its scorer of the other desk, by the clock.
 
-ghost use Rattle.std.specs.Prelude.{◌≡◌, ℕ, List, Err, true, false, is_some};
+ghost use Rattle.std.specs.Prelude.{◌≡◌, ℕ, Err, true, false, is_some};
 ghost use Rattle.std.specs.Io.KnownBytes.{Appends};
 ghost use Rattle.cards.specs.Sheet.{Sheet};
 ghost use Rattle.streams.specs.Watched.{has_failed, stream_of};
@@ -8,9 +8,8 @@ ghost use Rattle.desk.specs.Desk.{state_of};
 ghost use Rattle.live.specs.Desks.{DeskGoes, process_of};
 ghost use Rattle.live.specs.Ends.{course_of, further, known_at};
 ghost use Rattle.live.specs.Paces.{ticking_of};
-ghost use Rattle.links.specs.Passed.{Passed};
+ghost use Rattle.live.specs.Runs.{Logs};
 ghost use Rattle.station_texts.specs.Texts.{reminder_text, warned_reminded};
-ghost use Rattle.links.specs.Typing.{Input};
 
 use crate::between::Between;
 use crate::ends::{DeskEnd, told};
@@ -58,12 +57,11 @@ fn remind_of_writing<S: SlotsOf, B: BookOf + Drop, W: Sink>(
     between: &mut Between,
     now: u64,
 ) -> Result<(), DeskEnd>
-    ensures goes { (sheet : Sheet) (log : List Passed) (typed : List Input) (times : List ℕ) (turns : ℕ) →
-        DeskGoes sheet desk.now desk.now
+    ensures goes { (sheet : Sheet) (logs : Logs) (turns : ℕ) → DeskGoes sheet desk.now desk.now
         (process_of desk.now between.old.warned turns (ticking_of between.old.pace) further)
         (process_of desk.now between.new.warned turns (ticking_of between.new.pace) (course_of result))
-        log log typed typed times times
-        (known_at result (W.contents (stream_of out.old))) (known_at result (W.contents (stream_of out.new))) }
+        (record logs { told = known_at result (W.contents (stream_of out.old)) })
+        (record logs { told = known_at result (W.contents (stream_of out.new)) }) }
     ensures pace { between.new.pace ≡ between.old.pace }
     ensures failed { result ≡ Err DeskEnd.Write → has_failed out.new ≡ true }
 {
@@ -86,12 +84,11 @@ fn remind_of_silence<S: SlotsOf, B: BookOf + Drop, W: Sink>(
     between: &mut Between,
     now: u64,
 ) -> Result<(), DeskEnd>
-    ensures goes { (sheet : Sheet) (log : List Passed) (typed : List Input) (times : List ℕ) (turns : ℕ) →
-        DeskGoes sheet desk.now desk.now
+    ensures goes { (sheet : Sheet) (logs : Logs) (turns : ℕ) → DeskGoes sheet desk.now desk.now
         (process_of desk.now between.old.warned turns (ticking_of between.old.pace) further)
         (process_of desk.now between.new.warned turns (ticking_of between.new.pace) (course_of result))
-        log log typed typed times times
-        (known_at result (W.contents (stream_of out.old))) (known_at result (W.contents (stream_of out.new))) }
+        (record logs { told = known_at result (W.contents (stream_of out.old)) })
+        (record logs { told = known_at result (W.contents (stream_of out.new)) }) }
     ensures pace { between.new.pace ≡ between.old.pace }
     ensures failed { result ≡ Err DeskEnd.Write → has_failed out.new ≡ true }
 {
@@ -116,12 +113,11 @@ pub fn remind<S: SlotsOf, B: BookOf + Drop, W: Sink>(
     between: &mut Between,
     now: u64,
 ) -> Result<(), DeskEnd>
-    ensures goes { (sheet : Sheet) (log : List Passed) (typed : List Input) (times : List ℕ) (turns : ℕ) →
-        DeskGoes sheet desk.now desk.now
+    ensures goes { (sheet : Sheet) (logs : Logs) (turns : ℕ) → DeskGoes sheet desk.now desk.now
         (process_of desk.now between.old.warned turns (ticking_of between.old.pace) further)
         (process_of desk.now between.new.warned turns (ticking_of between.new.pace) (course_of result))
-        log log typed typed times times
-        (known_at result (W.contents (stream_of out.old))) (known_at result (W.contents (stream_of out.new))) }
+        (record logs { told = known_at result (W.contents (stream_of out.old)) })
+        (record logs { told = known_at result (W.contents (stream_of out.new)) }) }
     ensures pace { between.new.pace ≡ between.old.pace }
     ensures failed { result ≡ Err DeskEnd.Write → has_failed out.new ≡ true }
 {

@@ -6,7 +6,7 @@ use cards::{MatchSheet, plain_sheet};
 use corrections::Book;
 use desk::Desk;
 use entry_log::{MemDisk, Slots};
-use live::run_desk;
+use live::{Outside, run_desk};
 use screen::RowsAlone;
 use std::alloc::Global;
 use std::process::Abort;
@@ -73,26 +73,28 @@ fn run<'a>(
     rt: &impl Abort,
     alloc: Global,
     world: &'a World,
-    link: &mut Timed<'_>,
-    keyboard: &mut Keyboard<'_>,
+    link: Timed<'a>,
+    keys: Keyboard<'a>,
     turns: u64,
-) -> Screen<'a> {
+) -> (Screen<'a>, Timed<'a>) {
     let sheet = sheet(rt, alloc);
     let mut desk = new_desk(rt, alloc);
-    let mut out = Watched::new(Screen::new(alloc, world));
-    let mut clock = Hand::new(world);
+    let mut outside = Outside {
+        link,
+        keys,
+        clock: Hand::new(world),
+        out: Watched::new(Screen::new(alloc, world)),
+    };
     let answer = run_desk(
         alloc,
         &mut desk,
         DeskId::A,
         &sheet,
-        link,
-        keyboard,
-        &mut clock,
-        &mut out,
+        &mut outside,
         &mut RowsAlone,
         turns,
     );
     assert!(rt; answer.is_ok());
-    out.into_inner()
+    let Outside { link, out, .. } = outside;
+    (out.into_inner(), link)
 }

@@ -1,6 +1,5 @@
 -- What the processes of `live` state is part of a station's life.
-use Rattle.std.proofs.Common.{arith, Result, ◌≡◌, ◌⊎◌, ℕ, List, [], ◌∷◌, ◌++◌, ap, append-nil, inl, inr, refl, sym, ◌∙◌, subst}
-use Rattle.std.specs.Io.KnownBytes.{Appends}
+use Rattle.std.proofs.Common.{arith, Result, ◌≡◌, ◌⊎◌, ℕ, List, [], ◌∷◌, ◌++◌, ap, inl, inr, refl, sym, ◌∙◌, subst}
 use Rattle.notation.specs.declared.entry.Entry.{Entry}
 use Rattle.corrections.specs.CleanList.{history_of}
 use Rattle.corrections.specs.declared.book_of.BookOf.{Ghosts as Books}
@@ -24,34 +23,27 @@ use Rattle.live.specs.Boards as boards
 use Rattle.live.specs.Boards.{BoardTurn, board_kind}
 use Rattle.station_texts.specs.Notices.{untold}
 use Rattle.live.specs.Runs as own
-use Rattle.live.specs.Runs.{with_text}
+use Rattle.live.specs.Runs.{LogsGrow, known_where, with_told}
 use Rattle.live.specs.Sights.{Sight, sight_of}
 use Rattle.live.specs.Ticks.{unticked}
 use Rattle.live.specs.DeskLife.{BeginsOn, Follows}
 use Rattle.live.specs.Desks.{DeskCall, DeskProcess, DiskView, FitsLongest}
 use Rattle.processes.specs.Printing.{HandsBook}
 use Rattle.processes.specs.Lives.{IsLife}
-use Rattle.processes.specs.Stations.{BeginningIsStage, BoardLifeIsProcess, DeskLifeIsLife, DeskRunIsStage, ToldOf, process_kind, process_stages}
+use Rattle.processes.specs.Stations.{BeginningIsStage, BoardLifeIsProcess, DeskLifeIsLife, DeskRunIsStage, ProcessLogs, process_kind, process_stages}
 
 module _ {S B D : Type 0} {g : Files S D} {h : Disks D} {b : Books B} where
   pub beginning : (made : Result (Desk S B D g h b) (OpenRefusal × D)) → BeginningIsStage made
   beginning made = grind arith
 
   pub desk_run : (old new : Desk S B D g h b) → DeskRunIsStage old new
-  desk_run old new sheet before after typed types times later told tells turns result r =
-      let goes = r.goes.goes in (
-        goes.moments,
-        (g.room, h.cap (disk_of old), goes.run),
-        ap (λ (p : DeskProcess D). Running p.desk) goes.last ∙ ap Running r.is,
-        goes.passed,
-        goes.inputs,
-        goes.readings,
-        goes.printed,
-      )
+  desk_run old new sheet before after turns result r =
+      let goes = r.goes.goes in
+      (goes.moments, (g.room, h.cap (disk_of old), goes.run), ap (λ (p : DeskProcess D). Running p.desk) goes.last ∙ ap Running r.is, goes.logs)
 
 module _ {Disk : Type 0} (seen : Disk → List ℕ) (images : Disk → Images) (faults : Disk → Faults) where
   pub desk_life : DeskLifeIsLife seen images faults
-  desk_life contents d x votes disk sheet innings room cap before after typed types times later told tells turns result down l =
+  desk_life contents d x votes disk sheet innings room cap before after turns result down l =
       lived l.opening l.begins l.follows
     where
       view : FileVersion → FileView Disk
@@ -61,22 +53,18 @@ module _ {Disk : Type 0} (seen : Disk → List ℕ) (images : Disk → Images) (
       disks = record { faults = faults; FitsLongest = FitsLongest room cap }
 
       lived : (opening : Opening Disk) → BeginsOn (view x.version) seen innings d disk opening
-          → Follows sheet (view x.version) disks innings opening before after typed types times later told tells turns result
+          → Follows sheet (view x.version) disks innings opening before after turns result
           → (opening : Opening Disk) × (calls : List (own.Moment (DeskProcess Disk) DeskCall))
           × IsLife view seen faults d sheet.game innings x (process_stages sheet opening calls)
-          × (after ≡ before ++ own.passed_in (process_kind (view x.version) disks sheet innings) calls)
-          × (types ≡ typed ++ own.typed_in (process_kind (view x.version) disks sheet innings) calls)
-          × (later ≡ times ++ own.read_in (process_kind (view x.version) disks sheet innings) calls)
-          × ToldOf (view x.version) disks sheet innings opening calls told tells result
+          × ProcessLogs (view x.version) disks sheet innings opening calls before after result
       lived (Opened k) begins f =
           let goes = f.3 in
-          (Opened k, goes.moments, ((tt, (votes, disk, down, begins)), (refl, (room, cap, goes.run))), goes.passed, goes.inputs, goes.readings, (f.0, f.2, goes.printed))
-      lived (NotOpened cause left) begins f =
-          (NotOpened cause left, [], (tt, (votes, disk, down, begins)), f.3 ∙ sym (append-nil before), f.4 ∙ sym (append-nil typed), f.5 ∙ sym (append-nil times), f.6)
+          (Opened k, goes.moments, ((tt, (votes, disk, down, begins)), (refl, (room, cap, goes.run))), (f.0, f.2, goes.logs))
+      lived (NotOpened cause left) begins f = (NotOpened cause left, [], (tt, (votes, disk, down, begins)), f.3)
 
 module _ {B : Type 0} {g : _} (content : B → List Entry) (innings_of : B → ℕ) where
   pub board_life : (old new : Board B g) → BoardLifeIsProcess content innings_of old new
-  board_life old new sheet before after times later told tells turns noted notes seen sees result new_board r =
+  board_life old new sheet before after turns noted notes seen sees result new_board r =
       let goes = r.runs.goes.goes in
       let innings = innings_of (board.book_of old) in
       let kind = board_kind sheet (board.game_of old) innings in
@@ -90,10 +78,8 @@ module _ {B : Type 0} {g : _} (content : B → List Entry) (innings_of : B → �
         ),
         subst (λ (k : BoardState). (λ (t : BoardTurn). t.board) (own.last_of (from k) goes.moments) ≡ board.state_of content new) new_board
             (ap (λ (t : BoardTurn). t.board) goes.last ∙ r.runs.is),
-        goes.passed,
-        goes.readings,
-        subst (λ (k : BoardState). Appends (own.known result (with_text told (board_text sheet innings (history_of k.book)))) (own.known result tells)
-            (own.printed_in kind (from k) goes.moments)) new_board goes.printed,
+        subst (λ (k : BoardState). LogsGrow kind (from k) goes.moments (known_where result (with_told before (board_text sheet innings (history_of k.book))))
+            (known_where result after)) new_board goes.logs,
         refl,
         subst (λ (k : BoardState). sees ≡ (λ (t : BoardTurn). t.seen) (own.last_of (from k) goes.moments)) new_board
             (sym r.runs.sighted ∙ sym (ap (λ (t : BoardTurn). t.seen) goes.last)),

@@ -1,6 +1,5 @@
 -- What the processes of `live` state is part of a station's life.
-use Rattle.std.specs.Prelude.{◌≡◌, ◌<◌, ℕ, List, [], ◌∷◌, ◌++◌, length, Option, Result, IfOk}
-use Rattle.std.specs.Io.KnownBytes.{Appends}
+use Rattle.std.specs.Prelude.{◌≡◌, ◌<◌, ℕ, List, [], ◌∷◌, length, Result, IfOk}
 use Rattle.notation.specs.declared.entry.Entry.{Entry}
 use Rattle.corrections.specs.declared.book_of.BookOf.{Ghosts as Books}
 use Rattle.entry_log.specs.Disk.{Faults, Images}
@@ -26,12 +25,10 @@ use Rattle.desk.specs.Desk.{game_of, opening, state_of, view_of}
 use Rattle.live.specs.Boards as boards
 use Rattle.live.specs.Boards.{BoardTurn, board_kind}
 use Rattle.live.specs.Desks.{DeskCall, DeskProcess, DeskRuns, DiskView, FitsLongest, desk_kind, innings_of, kind_of}
-use Rattle.live.specs.Ends.{known_at}
-use Rattle.links.specs.Passed.{Passed}
+use Rattle.live.specs.Ends.{known_in}
 use Rattle.live.specs.Runs as own
-use Rattle.live.specs.Runs.{with_text}
+use Rattle.live.specs.Runs.{Logs, LogsGrow, known_where, with_told}
 use Rattle.live.specs.Sights.{Sight}
-use Rattle.links.specs.Typing.{Input}
 use Rattle.live.specs.declared.{desk_life.LifeEnd.LifeEnd, ends.DeskEnd.DeskEnd}
 use Rattle.station_texts.specs.declared.notices.Notice.{Notice}
 use Rattle.live.specs.DeskLife.{BeginsOn, DeskLives, ended, fresh}
@@ -55,16 +52,13 @@ module _ {S B D : Type 0} {g : Files S D} {h : Disks D} {b : Books B} where
   -- stands at first, each is of the book that the desk has after its call.
   abbrev pub DeskRunIsStage : (old new : Desk S B D g h b) → Type 0
   DeskRunIsStage old new =
-      (sheet : Sheet) (before after : List Passed) (typed types : List Input) (times later : List ℕ)
-      (told tells : Option (List ℕ)) (turns : ℕ) (result : Result (Unit {0}) DeskEnd)
-      → DeskRuns sheet old new before after typed types times later told tells turns result
+      (sheet : Sheet) (before after : Logs) (turns : ℕ) (result : Result (Unit {0}) DeskEnd)
+      → DeskRuns sheet old new before after turns result
       → (ms : List (own.Moment (DeskProcess D) DeskCall))
       × RunsFrom sheet (view_of old) h.faults (game_of old) (innings_of old) (state_of old) ms
       × (after_calls (state_of old) ms ≡ Running (state_of new))
-      × (after ≡ before ++ own.passed_in (kind_of sheet old) ms) × (types ≡ typed ++ own.typed_in (kind_of sheet old) ms)
-      × (later ≡ times ++ own.read_in (kind_of sheet old) ms)
-      × Appends (known_at result (with_text told (greeting_of sheet (innings_of old) (state_of old))))
-      (known_at result tells) (own.printed_in (kind_of sheet old) (fresh (state_of old)) ms)
+      × LogsGrow (kind_of sheet old) (fresh (state_of old)) ms
+      (known_in result (with_told before (greeting_of sheet (innings_of old) (state_of old)))) (known_in result after)
 
 module _ {Disk : Type 0} where
   -- the stages of one process of a desk: its beginning, and its calls where that opened the desk
@@ -77,15 +71,13 @@ module _ {Disk : Type 0} where
     abbrev pub process_kind : own.Kind (DeskProcess Disk) DeskCall
     process_kind = desk_kind sheet view disks sheet.game innings
 
-    -- what it told its scorer: nothing, where no desk was opened
-    abbrev pub ToldOf :
-        Opening Disk → List (own.Moment (DeskProcess Disk) DeskCall) → Option (List ℕ) → Option (List ℕ)
-        → Result (Unit {0}) LifeEnd → Type 0
-    ToldOf (Opened k) calls told tells result =
+    -- how its logs grew: not at all, where no desk was opened
+    abbrev pub ProcessLogs :
+        Opening Disk → List (own.Moment (DeskProcess Disk) DeskCall) → Logs → Logs → Result (Unit {0}) LifeEnd → Type 0
+    ProcessLogs (Opened k) calls before after result =
         (end : Result (Unit {0}) DeskEnd) × (result ≡ ended end)
-        × Appends (known_at end (with_text told (greeting_of sheet innings k))) (known_at end tells)
-        (own.printed_in process_kind (fresh k) calls)
-    ToldOf (NotOpened cause left) calls told tells result = tells ≡ told
+        × LogsGrow process_kind (fresh k) calls (known_in end (with_told before (greeting_of sheet innings k))) (known_in end after)
+    ProcessLogs (NotOpened cause left) calls before after result = after ≡ before
 
 -- on disks of this kind, of which `seen` is what is read, `images` what a power loss may leave, and `faults` what is told of
 -- their failures
@@ -96,22 +88,15 @@ module _ {Disk : Type 0} (seen : Disk → List ℕ) (images : Disk → Images) (
   abbrev pub DeskLifeIsLife : Type 0
   DeskLifeIsLife =
       (contents : FileVersion → FileContents) (d : DeskId) (x : Node Disk) (votes : List Ballot) (disk : Disk)
-      (sheet : Sheet) (innings : ℕ) (room : ℕ → ℕ) (cap : ℕ) (before after : List Passed) (typed types : List Input)
-      (times later : List ℕ) (told tells : Option (List ℕ)) (turns : ℕ) (result : Result (Unit {0}) LifeEnd) → x.process ≡ Down votes disk
+      (sheet : Sheet) (innings : ℕ) (room : ℕ → ℕ) (cap : ℕ) (before after : Logs) (turns : ℕ) (result : Result (Unit {0}) LifeEnd)
+      → x.process ≡ Down votes disk
       → DeskLives (file_view (contents x.version) seen images d sheet.game) seen
-      (record { faults = faults; FitsLongest = FitsLongest room cap }) sheet innings d disk before after typed types times later
-      told tells turns result
+      (record { faults = faults; FitsLongest = FitsLongest room cap }) sheet innings d disk before after turns result
       → (opening : Opening Disk) × (calls : List (own.Moment (DeskProcess Disk) DeskCall))
       × IsLife (λ version. file_view (contents version) seen images d sheet.game) seen faults d sheet.game innings x
       (process_stages sheet opening calls)
-      × (after ≡ before ++ own.passed_in (process_kind (file_view (contents x.version) seen images d sheet.game)
-      (record { faults = faults; FitsLongest = FitsLongest room cap }) sheet innings) calls)
-      × (types ≡ typed ++ own.typed_in (process_kind (file_view (contents x.version) seen images d sheet.game)
-      (record { faults = faults; FitsLongest = FitsLongest room cap }) sheet innings) calls)
-      × (later ≡ times ++ own.read_in (process_kind (file_view (contents x.version) seen images d sheet.game)
-      (record { faults = faults; FitsLongest = FitsLongest room cap }) sheet innings) calls)
-      × ToldOf (file_view (contents x.version) seen images d sheet.game)
-      (record { faults = faults; FitsLongest = FitsLongest room cap }) sheet innings opening calls told tells result
+      × ProcessLogs (file_view (contents x.version) seen images d sheet.game)
+      (record { faults = faults; FitsLongest = FitsLongest room cap }) sheet innings opening calls before after result
 
 module _ {B : Type 0} {g : _} (content : B → List Entry) (innings_of : B → ℕ) where
   -- From a new board on, by what `keep_board` ensures, a process of a board's life, with this sheet: its datagrams are just
@@ -119,16 +104,13 @@ module _ {B : Type 0} {g : _} (content : B → List Entry) (innings_of : B → �
   -- one of its empty book; and what was handed over to be shown is just what it did.
   abbrev pub BoardLifeIsProcess : (old new : Board B g) → Type 0
   BoardLifeIsProcess old new =
-      (sheet : Sheet) (before after : List Passed) (times later : List ℕ) (told tells : Option (List ℕ)) (turns : ℕ)
-      (noted notes : List Notice) (seen sees : List Sight) (result : Result (Unit {0}) WriteFailed)
+      (sheet : Sheet) (before after : Logs) (turns : ℕ) (noted notes : List Notice) (seen sees : List Sight)
+      (result : Result (Unit {0}) WriteFailed)
       → board.state_of content old ≡ fresh_board
-      → boards.BoardLives content innings_of sheet old new before after times later told tells turns noted notes seen sees result
+      → boards.BoardLives content innings_of sheet old new before after turns noted notes seen sees result
       → (p : BoardProcess) × (p.sheet ≡ sheet) × IsBoardProcess (board.game_of old) (innings_of (board.book_of old)) p
       × ((λ (k : BoardTurn). k.board) (own.last_of (first_turn p) p.calls) ≡ board.state_of content new)
-      × (after ≡ before ++ own.passed_in (board_kind sheet (board.game_of old) (innings_of (board.book_of old))) p.calls)
-      × (later ≡ times ++ own.read_in (board_kind sheet (board.game_of old) (innings_of (board.book_of old))) p.calls)
-      × Appends
-      (own.known result (with_text told (board_text sheet (innings_of (board.book_of old)) (history_of []))))
-      (own.known result tells)
-      (own.printed_in (board_kind sheet (board.game_of old) (innings_of (board.book_of old))) (first_turn p) p.calls)
+      × LogsGrow (board_kind sheet (board.game_of old) (innings_of (board.book_of old))) (first_turn p) p.calls
+      (known_where result (with_told before (board_text sheet (innings_of (board.book_of old)) (history_of []))))
+      (known_where result after)
       × (p.seen ≡ seen ++ p.first) × (sees ≡ (λ (k : BoardTurn). k.seen) (own.last_of (first_turn p) p.calls))

@@ -7,9 +7,9 @@ use wire::SIZE;
 /// then the next.
 fn is_told(rt: &impl Abort, alloc: Global, keys: &[Key], brings: &[Bring], texts: &[(u64, &str)]) {
     let world = World::new();
-    let mut link = Timed::new(alloc, &world, brings);
-    let mut keyboard = Keyboard::new(&world, keys, false);
-    let told = run(rt, alloc, &world, &mut link, &mut keyboard, 150);
+    let link = Timed::new(alloc, &world, brings);
+    let keys = Keyboard::new(&world, keys, false);
+    let (told, _link) = run(rt, alloc, &world, link, keys, 150);
     let mut had = 0;
     for (at, text) in texts {
         let now = told.by(*at);

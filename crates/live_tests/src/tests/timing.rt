@@ -82,9 +82,9 @@ fn sends(
     times: &[u64],
 ) {
     let world = World::new();
-    let mut link = Timed::new(alloc, &world, brings);
-    let mut keyboard = Keyboard::new(&world, keys, false);
-    let _told = run(rt, alloc, &world, &mut link, &mut keyboard, turns);
+    let link = Timed::new(alloc, &world, brings);
+    let keys = Keyboard::new(&world, keys, false);
+    let (_told, link) = run(rt, alloc, &world, link, keys, turns);
     assert_eq!(rt; link.sends.as_slice(), times);
     assert!(rt; !world.was_held.get());
 }
@@ -159,8 +159,8 @@ fn a_new_position_of_a_board(rt: HostRuntime) {
 #[test]
 fn lines_typed_ahead(rt: HostRuntime) {
     let world = World::new();
-    let mut link = Timed::new(rt.alloc(), &world, &[]);
-    let mut keyboard = Keyboard::new(&world, &[], true);
-    let _told = run(&rt, rt.alloc(), &world, &mut link, &mut keyboard, 5);
+    let link = Timed::new(rt.alloc(), &world, &[]);
+    let keys = Keyboard::new(&world, &[], true);
+    let _told = run(&rt, rt.alloc(), &world, link, keys, 5);
     assert_eq!(rt; world.now.get(), 0);
 }

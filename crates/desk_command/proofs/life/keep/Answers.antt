@@ -1,6 +1,8 @@
+use Rattle.live.specs.Outside.{logs_of}
 use Rattle.desk_command.proofs.KeepingLemmas.{lived}
 use Rattle.desk_command.proofs.life.keep.Goals as goal
 
 pub returns : goal.returns
 returns g c =
-    lived _ _ _ _ c.args.sheet.now _ c.args.desk c.args.disk _ _ _ _ _ _ _ _ _ _ c.requires.innings c.requires.untyped c.keep_desk.ensures.lives
+    lived _ _ _ _ c.args.sheet.now _ c.args.desk c.args.disk (logs_of g.L.Link.log g.K.Keys.inputs g.C.Clock.readings g.W.Sink.contents c.args.outside.now) (logs_of g.L.Link.log g.K.Keys.inputs g.C.Clock.readings g.W.Sink.contents c.keep_desk.new.outside) _ _
+    c.requires.innings c.requires.untyped c.keep_desk.ensures.lives

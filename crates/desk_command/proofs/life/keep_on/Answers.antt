@@ -3,7 +3,7 @@ use Rattle.desk_command.proofs.life.keep_on.Goals as goal
 
 pub invariant_of-life : goal.invariant_of-life
 invariant_of-life g c =
-    let ahead = c.keep_on_disk-ended.new.keys in
+    let ahead = c.keep_on_disk-ended.new.outside.keys in
     record {
       kept = ∣ record {
         sheet = c.args.sheet.now;

@@ -2,6 +2,7 @@ use Rattle.streams.specs.Watched.{stream_of}
 use Rattle.live.specs.Boards.{BoardGoes, at_turn}
 use Rattle.station_texts.specs.Notices.{untold}
 use Rattle.live.specs.Paces.{ticking_of}
+use Rattle.live.specs.Runs.{untyped}
 use Rattle.live.specs.Ticks.{unticked}
 use Rattle.live.proofs.board_loop.run_board.Given as goal
 
@@ -10,5 +11,5 @@ invariant-loop-number g l =
     BoardGoes g.B.BookOf.content g.B.BookOf.innings_a_side l.sheet l.initial.board l.board
     (at_turn g.B.BookOf.content l.initial.board 0 untold unticked (g.N.Notices.told l.initial.notices) (g.S.Shows.seen l.initial.state))
     (at_turn g.B.BookOf.content l.board l.number l.between.telling (ticking_of l.between.pace) (g.N.Notices.told l.notices) (g.S.Shows.seen l.state))
-    (g.L.Link.log l.initial.link) (g.L.Link.log l.link) (g.C.Clock.readings l.initial.clock) (g.C.Clock.readings l.clock)
-    (g.W.Sink.contents (stream_of l.initial.out)) (g.W.Sink.contents (stream_of l.out))
+    (untyped (g.L.Link.log l.initial.link) (g.C.Clock.readings l.initial.clock) (g.W.Sink.contents (stream_of l.initial.out)))
+    (untyped (g.L.Link.log l.link) (g.C.Clock.readings l.clock) (g.W.Sink.contents (stream_of l.out)))

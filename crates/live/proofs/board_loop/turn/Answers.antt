@@ -21,7 +21,7 @@ returns-in_err-print_news-clause-runs g c = λ turns.
     let told = g.W.Sink.contents (stream_of c.args.out.now) in
     let seen = g.S.Shows.seen c.args.state.now in
     let took = c.take_all.ensures.goes c.args.sheet.now told seen turns (length (g.B.BookOf.content (book_of c.args.board.now))) in
-    stopped _ c.from_residual.result c.in_err-print_news.field-0.0 c.from_residual.ensures.1 refl refl refl (silent took.1)
+    stopped _ _ _ c.from_residual.result c.in_err-print_news.field-0.0 c.from_residual.ensures.1 refl refl refl (silent took.1)
 
 pub returns-clause-runs : goal.returns-clause-runs
 returns-clause-runs g c = λ turns.

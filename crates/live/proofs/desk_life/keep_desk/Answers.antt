@@ -28,7 +28,7 @@ returns-clause-lives g c =
     let file = g.S.SlotsOf in
     let disks = g.S.Disk.Disk in
     not_begun (file_view file.contents disks.seen disks.images c.args.desk) disks.seen _ c.in-Err.why c.in-Err._disk c.args.sheet.now c.args.desk c.game.result _
-    c.args.disk _ _ _ _ c.args.turns c.game.ensures c.in-Err.ensures.opens
+    c.args.disk _ c.args.turns c.game.ensures c.in-Err.ensures.opens
 
 pub returns-clause-shown : goal.returns-clause-shown
 returns-clause-shown g c =

@@ -1,8 +1,8 @@
-use Rattle.streams.specs.Watched.{stream_of}
 use Rattle.desk.specs.Desk.{state_of}
 use Rattle.live.specs.DeskSights.{IsShown}
 use Rattle.live.specs.Desks.{DeskGoes, innings_of, kind_of, process_of}
 use Rattle.live.specs.Ends.{further}
+use Rattle.live.specs.Outside.{logs_of}
 use Rattle.live.specs.Paces.{ticking_of}
 use Rattle.station_texts.specs.Texts.{unwarned}
 use Rattle.live.specs.Ticks.{unticked}
@@ -12,7 +12,5 @@ abbrev pub invariant-loop-number : goal.invariant-loop-number
 invariant-loop-number g l =
     DeskGoes l.sheet l.initial.desk l.desk
     (process_of l.initial.desk unwarned 0 unticked further) (process_of l.desk l.between.warned l.number (ticking_of l.between.pace) further)
-    (g.L.Link.log l.initial.link) (g.L.Link.log l.link) (g.K.Keys.inputs l.initial.keys) (g.K.Keys.inputs l.keys)
-    (g.C.Clock.readings l.initial.clock) (g.C.Clock.readings l.clock)
-    (g.W.Sink.contents (stream_of l.initial.out)) (g.W.Sink.contents (stream_of l.out))
+    (logs_of g.L.Link.log g.K.Keys.inputs g.C.Clock.readings g.W.Sink.contents l.initial.outside) (logs_of g.L.Link.log g.K.Keys.inputs g.C.Clock.readings g.W.Sink.contents l.outside)
     × IsShown (kind_of l.sheet l.initial.desk) l.sheet (innings_of l.initial.desk) g.P.ShowsDesk.goes_on (state_of l.initial.desk) l.initial.page l.page

@@ -1,8 +1,9 @@
-use Rattle.std.proofs.Common.{List, Option, ap, ℕ}
-use Rattle.streams.specs.Watched.{stream_of}
+use Rattle.std.proofs.Common.{ap, ℕ}
 use Rattle.live.specs.Desks.{DeskGoes, process_of}
 use Rattle.live.specs.Ends.{Course, further}
+use Rattle.live.specs.Outside.{logs_of}
 use Rattle.live.specs.Paces.{Paced, ticking_of}
+use Rattle.live.specs.Runs.{Logs}
 use Rattle.live.proofs.DeskLemmas.{not_flushed, turn_done, turn_passed_on}
 use Rattle.live.proofs.TellingLemmas.{write_failed}
 use Rattle.live.proofs.desk_loop.turn.Goals as goal
@@ -11,14 +12,10 @@ pub returns-in_err-act-clause-goes : goal.returns-in_err-act-clause-goes
 returns-in_err-act-clause-goes g c =
     let old = c.args in
     let new = c.act.new in
-    let out = g.W.Sink.contents (stream_of old.out.now) in
     λ turns. turn_passed_on c.from_residual.result c.in_err-act.field-0.0 turns
-    (λ (after : ℕ) (course : Course) (known : Option (List ℕ) → Option (List ℕ)).
+    (λ (after : ℕ) (course : Course) (known : Logs → Logs).
     DeskGoes old.sheet.now old.desk.now new.desk (process_of old.desk.now old.between.now.warned turns (ticking_of old.between.now.pace) further)
-    (process_of new.desk new.between.warned after (ticking_of new.between.pace) course)
-    (g.L.Link.log old.link.now) (g.L.Link.log new.link) (g.K.Keys.inputs old.keys.now) (g.K.Keys.inputs new.keys)
-    (g.C.Clock.readings old.clock.now) (g.C.Clock.readings new.clock)
-    (known out) (known (g.W.Sink.contents (stream_of new.out))))
+    (process_of new.desk new.between.warned after (ticking_of new.between.pace) course) (known (logs_of g.L.Link.log g.K.Keys.inputs g.C.Clock.readings g.W.Sink.contents old.outside.now)) (known (logs_of g.L.Link.log g.K.Keys.inputs g.C.Clock.readings g.W.Sink.contents new.outside)))
     c.from_residual.ensures.1 (c.in_err-act.ensures.goes turns)
 
 pub returns-in_err-told-clause-goes : goal.returns-in_err-told-clause-goes

@@ -18,7 +18,7 @@ pub returns-clause-ticking : goal.returns-clause-ticking
 returns-clause-ticking g c = ap (λ (p : Paced). p.ticking) c.note.ensures
 
 pub returns-in-Err-clause-goes : goal.returns-in-Err-clause-goes
-returns-in-Err-clause-goes g c = λ bytes log typed times turns reads came.
+returns-in-Err-clause-goes g c = λ bytes logs turns reads came.
     let what = c.take-received.result.what in
     let answer = c.take-received.ensures in
     let calls = taken c.args.sheet.now c.args.desk.now c.take-received.new.self bytes what c.take-received.result.reply _ _
@@ -35,7 +35,7 @@ returns-in-Err-clause-goes g c = λ bytes log typed times turns reads came.
     (sym ends ∙ sym c.end_given.ensures ∙ c.in-Err.is)
 
 pub returns-clause-goes : goal.returns-clause-goes
-returns-clause-goes g c = λ bytes log typed times turns reads came.
+returns-clause-goes g c = λ bytes logs turns reads came.
     let what = c.take-received.result.what in
     let sheet = c.args.sheet.now in
     let desk = c.args.desk.now in

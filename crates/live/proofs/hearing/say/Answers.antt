@@ -5,7 +5,7 @@ use Rattle.live.proofs.DeskLemmas.{looks, speaks}
 use Rattle.live.proofs.hearing.say.Goals as goal
 
 pub returns-then-is_due-clause-goes : goal.returns-then-is_due-clause-goes
-returns-then-is_due-clause-goes g c = λ sheet typed warned turns told.
+returns-then-is_due-clause-goes g c = λ sheet logs warned turns.
     let ticking = ticking_of c.args.pace.now in
     let now = c.millis-now.result in
     let seen = ap (λ (p : Paced). p.ticking) c.take_wait-wait.ensures.pace
@@ -13,7 +13,7 @@ returns-then-is_due-clause-goes g c = λ sheet typed warned turns told.
     speaks {ticking = ticking} now c.args.pace.now.in_time c.millis-now.ensures seen (c.tick.ensures sheet)
 
 pub returns-clause-goes : goal.returns-clause-goes
-returns-clause-goes g c = λ sheet typed warned turns told.
+returns-clause-goes g c = λ sheet logs warned turns.
     let ticking = ticking_of c.args.pace.now in
     let now = c.millis-now.result in
     let seen = ap (λ (p : Paced). p.ticking) c.take_wait-wait.ensures.pace
