@@ -1,5 +1,5 @@
 -- What the processes of `live` state is part of a station's life.
-use Rattle.std.specs.Prelude.{◌≡◌, ◌<◌, ℕ, List, [], ◌∷◌, length, Result, IfOk}
+use Rattle.std.specs.Prelude.{◌≡◌, ◌<◌, ℕ, List, [], ◌∷◌, ◌++◌, length, Result, IfOk}
 use Rattle.notation.specs.declared.entry.Entry.{Entry}
 use Rattle.corrections.specs.declared.book_of.BookOf.{Ghosts as Books}
 use Rattle.entry_log.specs.Disk.{Faults, Images}
