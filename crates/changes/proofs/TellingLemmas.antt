@@ -5,13 +5,14 @@ use Rattle.std.proofs.lemmas.List.{take_all}
 use Rattle.std.specs.Prelude.{◌&&◌, filter, if◌then◌else◌, nat_lt}
 use Rattle.match_laws.specs.History.{one_if}
 use Rattle.std.specs.Io.KnownBytes.{Appends}
+use Rattle.match_laws.specs.declared.standing.Standing.{Standing}
 use Rattle.cards.specs.Sheet.{Sheet}
 use Rattle.cards.specs.Columns.{lines_for}
 use Rattle.streams.specs.declared.watched.Watched.{Watched}
 use Rattle.streams.specs.Watched.{stream_of}
 use Rattle.streams.proofs.Appending.{appends_both}
 use Rattle.changes.specs.declared.change.Change.{Change}
-use Rattle.changes.specs.Stage.{Stage}
+use Rattle.changes.specs.Stage.{ForBoth, Stage}
 use Rattle.changes.specs.Changes.{differs}
 use Rattle.changes.specs.Rows.{row}
 use Rattle.changes.specs.Text.{most}
@@ -50,12 +51,18 @@ module _ (d : Change → Bool) (line : Change → List ℕ) where
   rows-filter t [] = sym (ap (lines_for line) (take_all (most - t) [] (omega arith)))
   rows-filter t (c ∷ cs) = one (d c) t c (filter d cs) (λ k. rows_from d line k cs) (λ k. rows-filter k cs)
 
-pub tells_both : {S E : Type 0} (contents : S → Option (List ℕ)) (old mid new : Watched S) (k : ℕ) (r : Result ℕ E) (s : Sheet) (was now : Stage) (t : ℕ) (xs ys : List Change)
-    → Tells {E = E} contents old mid (Ok k) s was now t xs → Tells contents mid new r s was now k ys → Tells contents old new r s was now t (xs ++ ys)
-tells_both contents old mid new k (Ok m) s was now t xs ys a b =
-    let d = differs was now in
-    let line = row s was now in
-    let whole = sym (rows-append d line t xs ys ∙ ap (λ j. rows_from d line t xs ++ rows_from d line j ys) (sym a.0)) in
+-- of each two stages for which the matches stand
+pub tells_both : {S E : Type 0} {was now : Standing} (contents : S → Option (List ℕ)) (s : Sheet) (old mid new : Watched S) (t k : ℕ) (r : Result ℕ E) (xs ys : List Change)
+    → ForBoth was now (λ w n. Tells {E = E} contents old mid (Ok k) s w n t xs) → ForBoth was now (λ w n. Tells contents mid new r s w n k ys)
+    → ForBoth was now (λ w n. Tells contents old new r s w n t (xs ++ ys))
+tells_both contents s old mid new t k (Ok m) xs ys a b i g stood j h stands =
+    let first = a i g stood j h stands in
+    let second = b i g stood j h stands in
+    let w : Stage = record { innings_a_side = i; history = g } in
+    let v : Stage = record { innings_a_side = j; history = h } in
+    let d = differs w v in
+    let line = row s w v in
+    let whole = sym (rows-append d line t xs ys ∙ ap (λ n. rows_from d line t xs ++ rows_from d line n ys) (sym first.0)) in
     let more = number-append d xs ys in
-    (omega (arith, a.0, b.0, more), subst (Appends (contents (stream_of old)) (contents (stream_of new))) whole (appends_both _ _ _ _ _ a.1 b.1))
-tells_both contents old mid new k (Err why) s was now t xs ys a b = tt
+    (omega (arith, first.0, second.0, more), subst (Appends (contents (stream_of old)) (contents (stream_of new))) whole (appends_both _ _ _ _ _ first.1 second.1))
+tells_both contents s old mid new t k (Err why) xs ys a b i g stood j h stands = tt
