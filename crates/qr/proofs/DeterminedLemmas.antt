@@ -1,8 +1,7 @@
 -- Codewords have one list of modules.
 use Rattle.std.proofs.Common.{◌≡◌, ◌<◌, ◌&&◌, ◌||◌, inl, inr, ℕ, zero, suc, Bool, true, false, cond, not, eqb, List, [], ◌∷◌, ◌++◌, map}
-use Rattle.std.proofs.Common.{length, get_or, refl, ap, sym, subst, ◌∙◌, arith, add-one}
+use Rattle.std.proofs.Common.{get_or, refl, ap, sym, subst, ◌∙◌, arith, add-one}
 use Rattle.std.specs.Prelude.{All, Contains, nat_lt}
-use Rattle.std.specs.List.{list_all, range_with_len}
 use Rattle.std.proofs.lemmas.Bool.{and_parts, cases_Bool, cases_eq, eqb-true, ltb-true}
 use Rattle.std.proofs.lemmas.List.{ext_get_or}
 use Rattle.std.proofs.lemmas.List.Elements.{All-cons, All-contains, All-nil, Contains-append_left, Contains-push}
@@ -14,16 +13,10 @@ abbrev is_passed : ℕ → Bool
 is_passed k = not (is_data k) || (eqb (place (step_of k)) k && nat_lt (step_of k) 1056)
 
 -- the way leads through each module of data
-all_passed : list_all is_passed (range_with_len 0 1089) ≡ true
-all_passed = refl
-
 passed : (k : ℕ) → k < 1089 → is_data k ≡ true → (place (step_of k) ≡ k) × (step_of k < 1056)
 passed k low one =
-    let tested : (not (is_data k) || (eqb (place (step_of k)) k && nat_lt (step_of k) 1056)) ≡ true =
-    holds_at is_passed 0 1089 k (omega arith) (omega arith) all_passed in
-    let both : (eqb (place (step_of k)) k && nat_lt (step_of k) 1056) ≡ true =
-    sym (ap (λ (b : Bool). not b || (eqb (place (step_of k)) k && nat_lt (step_of k) 1056)) one) ∙ tested in
-    let parts = and_parts (eqb (place (step_of k)) k) (nat_lt (step_of k) 1056) both in
+    let tested : is_passed k ≡ true = holds_at is_passed 0 1089 k (omega arith) (omega arith) refl in
+    let parts = and_parts (eqb (place (step_of k)) k) (nat_lt (step_of k) 1056) (rw one at tested) in
     (eqb-true (place (step_of k)) k parts.0, ltb-true (step_of k) 1056 parts.1)
 
 has_place : (n s : ℕ) → s < n → is_data (place s) ≡ true → Contains (data_places n) (place s)
@@ -43,9 +36,7 @@ has_place (suc n) s low one =
 all_same : (f g : ℕ → Bool) (xs : List ℕ) → map f xs ≡ map g xs → All (λ x. f x ≡ g x) xs
 all_same f g [] e = All-nil (λ (x : ℕ). f x ≡ g x)
 all_same f g (x ∷ xs) e =
-    let first : f x ≡ g x = cc in
-    let others : map f xs ≡ map g xs = cc in
-    All-cons (λ (x : ℕ). f x ≡ g x) x xs first (all_same f g xs others)
+    All-cons (λ (x : ℕ). f x ≡ g x) x xs (cc) (all_same f g xs (cc))
 
 same_data : (one other : List Bool) (n k : ℕ) → n ≡ 1056 → k < 1089 → is_data k ≡ true
     → map (unmasked one) (data_places n) ≡ map (unmasked other) (data_places n) → get_or one k false ≡ get_or other k false
@@ -56,15 +47,12 @@ same_data one other n k all low is_one same =
     subst (λ (x : ℕ). Contains (data_places n) x) way.0 (has_place n (step_of k) before (ap is_data way.0 ∙ is_one)) in
     let equal : unmasked one k ≡ unmasked other k =
     All-contains (λ (x : ℕ). unmasked one x ≡ unmasked other x) (data_places n) k (all_same (unmasked one) (unmasked other) (data_places n) same) there in
-    sym (masked_twice k (get_or one k false)) ∙ ap (masked k) equal ∙ masked_twice k (get_or other k false)
+    sym (masked_twice k _) ∙ ap (masked k) equal ∙ masked_twice k _
 
 pub determined : (codewords : List ℕ) (one other : List Bool) → IsPlaced codewords one → IsPlaced codewords other → one ≡ other
-determined codewords one other p q = ext_get_or false one other (p.whole ∙ sym q.whole) each
-  where
-    each : (k : ℕ) → k < length one → get_or one k false ≡ get_or other k false
-    each k inside =
-        let low : k < 1089 = omega (arith, p.whole) in
-        elim (cases_Bool (is_data k)) [
-          | inl is_one ↦ same_data one other 1056 k refl low is_one (p.bits ∙ sym q.bits)
-          | inr fixed ↦ p.pattern k low fixed ∙ sym (q.pattern k low fixed)
-        ]
+determined codewords one other p q = ext_get_or false one other (p.whole ∙ sym q.whole) (λ k inside.
+    let low : k < 1089 = omega (arith, p.whole) in
+    elim (cases_Bool (is_data k)) [
+      | inl is_one ↦ same_data one other 1056 k refl low is_one (p.bits ∙ sym q.bits)
+      | inr fixed ↦ p.pattern k low fixed ∙ sym (q.pattern k low fixed)
+    ])

@@ -1,9 +1,9 @@
 -- The places of data, and a module that is written.
-use Rattle.std.proofs.Common.{◌≡◌, ◌≢◌, ◌+◌, ◌-◌, ◌*◌, ◌/◌, ◌%◌, ◌<◌, ◌≤◌, ℕ, zero, suc, Bool, true, false, cond, not, eqb, List, [], ◌∷◌}
+use Rattle.std.proofs.Common.{◌≡◌, ◌≢◌, ◌+◌, ◌-◌, ◌*◌, ◌/◌, ◌%◌, ◌<◌, ◌≤◌, ℕ, zero, suc, Bool, true, false, cond, eqb, List, [], ◌∷◌}
 use Rattle.std.proofs.Common.{◌++◌, map, set, length, get_or, refl, ap, sym, ◌∙◌, arith, add-one, append-nil, get_or-set_same}
 use Rattle.std.proofs.Common.{get_or-set_other}
 use Rattle.std.specs.Prelude.{◌==◌, nat_lt, if◌then◌else◌}
-use Rattle.std.specs.List.{list_all, range_with_len}
+use Rattle.std.specs.List.{range_with_len}
 use Rattle.std.proofs.lemmas.Bool.{eqb-true}
 use Rattle.std.proofs.lemmas.List.{map-append, map_push}
 use Rattle.std.proofs.lemmas.List.FromFn.{filter_of_map_range_with_len_more, map-range_with_len_more}
@@ -19,11 +19,8 @@ step_of at =
     let down = if pair % 2 == 0 then 32 - at / 33 else at / 33 in
     66 * pair + 2 * down + (right - column)
 
-all_found : list_all (λ n. eqb (step_of (place n)) n) (range_with_len 0 1056) ≡ true
-all_found = refl
-
 found : (n : ℕ) → n < 1056 → step_of (place n) ≡ n
-found n h = eqb-true _ _ (holds_at (λ n. eqb (step_of (place n)) n) 0 1056 n (omega arith) (omega arith) all_found)
+found n h = eqb-true _ _ (holds_at (λ n. eqb (step_of (place n)) n) 0 1056 n (omega arith) (omega arith) refl)
 
 -- no two steps lead to one place
 pub places_differ : (n s : ℕ) → n < s → s < 1056 → place n ≢ place s
@@ -50,30 +47,14 @@ kept modules b s (suc n) within h =
     let old : ℕ → Bool = unmasked modules in
     let here : new (place n) ≡ old (place n) =
     ap (masked (place n)) (get_or-set_other modules (place s) (place n) b false (places_differ n s (omega arith) within)) in
-    let last : map new (cond (is_data (place n)) (place n ∷ []) []) ≡ map old (cond (is_data (place n)) (place n ∷ []) []) =
-    elim (is_data (place n)) as (λ d. map new (cond d (place n ∷ []) []) ≡ map old (cond d (place n ∷ []) [])) [
-      | true ↦ ap (λ (x : Bool). x ∷ []) here
-      | false ↦ refl
-    ] in
-    let next : data_places (suc n) ≡ data_places n ++ cond (is_data (place n)) (place n ∷ []) [] =
-    ap data_places (sym (add-one n)) ∙ places_next n in
-    ap (map new) next
-    ∙ map-append new (data_places n) (cond (is_data (place n)) (place n ∷ []) [])
-    ∙ ap (λ (l : List Bool). l ++ map new (cond (is_data (place n)) (place n ∷ []) [])) (kept modules b s n within (omega arith))
-    ∙ ap (λ (l : List Bool). map old (data_places n) ++ l) last
-    ∙ sym (map-append old (data_places n) (cond (is_data (place n)) (place n ∷ []) []))
-    ∙ ap (map old) (sym next)
-
-not_not : (b : Bool) → not (not b) ≡ b
-not_not true = refl
-not_not false = refl
+    let more = kept modules b s n within (omega arith) in
+    let one = cond (is_data (place n)) (place n ∷ []) [] in
+    let last : map new one ≡ map old one = grind (arith, here) in
+    let parts = λ (f : ℕ → Bool). ap (map f) (ap data_places (sym (add-one n)) ∙ places_next n) ∙ map-append f (data_places n) one in
+    parts new ∙ (λ i. more i ++ last i) ∙ sym (parts old)
 
 pub masked_twice : (at : ℕ) (b : Bool) → masked at (masked at b) ≡ b
-masked_twice at b =
-    elim (at % 2 == 0) as (λ e. (if e then not (if e then not b else b) else (if e then not b else b)) ≡ b) [
-      | true ↦ not_not b
-      | false ↦ refl
-    ]
+masked_twice at b = grind arith
 
 -- one more bit is written
 pub bit_more : (codewords : List ℕ) (modules : List Bool) (bit s : ℕ) → s < 1056 → place s < length modules → is_data (place s) ≡ true
@@ -85,11 +66,8 @@ bit_more codewords modules bit s within inside h so_far =
     let new : ℕ → Bool = unmasked (set modules (place s) b) in
     let here : new (place s) ≡ is_set codewords bit =
     ap (masked (place s)) (get_or-set_same modules (place s) b false inside) ∙ masked_twice (place s) (is_set codewords bit) in
-    ap (map new) (places_more s h)
-    ∙ map_push new (data_places s) (place s)
-    ∙ ap (λ (l : List Bool). l ++ new (place s) ∷ []) (kept modules b s s within (omega arith) ∙ so_far)
-    ∙ ap (λ (x : Bool). map (is_set codewords) (range_with_len 0 bit) ++ x ∷ []) here
-    ∙ sym (map-range_with_len_more (is_set codewords) 0 bit bit (omega arith))
+    rw (places_more s h, map_push new, kept modules b s s within (omega arith), so_far, here)
+    (sym (map-range_with_len_more (is_set codewords) 0 bit bit (omega arith)))
 
 -- and no other module
 pub others_kept : (modules : List Bool) (s at : ℕ) (b : Bool) → is_data (place s) ≡ true → is_data at ≡ false

@@ -1,7 +1,7 @@
 -- Why codewords with their check codewords have the roots that a reader looks for.
-use Rattle.std.proofs.Common.{◌≡◌, ◌+◌, ◌*◌, ◌-◌, ◌/◌, ◌%◌, ◌^◌, ◌<◌, ◌≤◌, inl, inr, ℕ, zero, suc, Bool, true, false, List, [], ◌∷◌, ◌++◌, map}
+use Rattle.std.proofs.Common.{◌≡◌, ◌+◌, ◌*◌, ◌-◌, ◌/◌, ◌%◌, ◌^◌, ◌<◌, ◌≤◌, inl, inr, ℕ, zero, suc, Bool, true, List, [], ◌∷◌, ◌++◌, map}
 use Rattle.std.proofs.Common.{length, get_or, replicate, refl, ap, sym, subst, ◌∙◌, arith, eqb, add-one, bit_xor}
-use Rattle.std.specs.Prelude.{◌==◌, nat_lt, if◌then◌else◌, fold, All}
+use Rattle.std.specs.Prelude.{nat_lt, fold, All}
 use Rattle.std.specs.Int.Bits.{xor_assoc, xor_self, xor_zero_l}
 use Rattle.std.specs.List.{list_all, range_with_len}
 use Rattle.std.proofs.lemmas.Bool.{cases_lt, eqb-true, ltb-true}
@@ -24,28 +24,17 @@ each_byte : (p : ℕ → Bool) (a : ℕ) → a < 256 → list_all p (range_with_
 each_byte p a h all = holds_at p 0 256 a (omega arith) (omega arith) all
 
 xor_crossed : (a b c d : ℕ) → bit_xor (bit_xor a b) (bit_xor c d) ≡ bit_xor (bit_xor a c) (bit_xor b d)
-xor_crossed a b c d =
-    xor_assoc a b (bit_xor c d)
-    ∙ ap (bit_xor a) (sym (xor_assoc b c d) ∙ ap (λ (x : ℕ). bit_xor x d) (xor_comm b c) ∙ xor_assoc c b d)
-    ∙ sym (xor_assoc a c (bit_xor b d))
+xor_crossed a b c d = grind (arith, xor_assoc, xor_comm)
 
 -- twice an element by its lower bits and its highest one
 abbrev doubled_parts : ℕ → ℕ
 doubled_parts a = bit_xor (2 * (a % 128)) (a / 128 * 29)
 
-parts_hold : list_all (λ (a : ℕ). eqb (doubled a) (doubled_parts a)) (range_with_len 0 256) ≡ true
-parts_hold = refl
-
 doubled_is : (a : ℕ) → a < 256 → doubled a ≡ doubled_parts a
-doubled_is a low = eqb-true (doubled a) (doubled_parts a) (each_byte (λ (x : ℕ). eqb (doubled x) (doubled_parts x)) a low parts_hold)
+doubled_is a low = eqb-true (doubled a) (doubled_parts a) (each_byte (λ (x : ℕ). eqb (doubled x) (doubled_parts x)) a low refl)
 
 twice_sum : (a b : ℕ) → 2 * bit_xor a b ≡ bit_xor (2 * a) (2 * b)
-twice_sum a b =
-    sym (shifted (bit_xor a b)) ∙ sym (xor_block 1 a b 0 0 (omega arith) (omega arith))
-    ∙ ap (λ (x : ℕ). bit_xor x (b * 2 ^ 1 + 0)) (shifted a) ∙ ap (bit_xor (2 * a)) (shifted b)
-  where
-    shifted : (x : ℕ) → x * 2 ^ 1 + 0 ≡ 2 * x
-    shifted x = omega arith
+twice_sum a b = grind (arith, xor_block 1 a b 0 0)
 
 highest_sum : (a b : ℕ) → a < 2 → b < 2 → bit_xor a b * 29 ≡ bit_xor (a * 29) (b * 29)
 highest_sum zero b low_a low_b = refl
@@ -56,22 +45,12 @@ highest_sum (suc (suc a)) b low_a low_b = let none : ⊥ = omega arith in absurd
 
 doubled_sum : (a b : ℕ) → a < 256 → b < 256 → doubled (bit_xor a b) ≡ bit_xor (doubled a) (doubled b)
 doubled_sum a b low_a low_b =
-    let bit_a : a / 128 < 2 = omega arith in
-    let bit_b : b / 128 < 2 = omega arith in
-    doubled_is (bit_xor a b) (xor_of_8 a b low_a low_b)
-    ∙ ap (λ (x : ℕ). bit_xor (2 * x) (bit_xor a b / 128 * 29)) (xor_mod a b 7)
-    ∙ ap (λ (x : ℕ). bit_xor (2 * bit_xor (a % 128) (b % 128)) (x * 29)) (xor_shr a b 7)
-    ∙ ap (λ (x : ℕ). bit_xor x (bit_xor (a / 128) (b / 128) * 29)) (twice_sum (a % 128) (b % 128))
-    ∙ ap (bit_xor (bit_xor (2 * (a % 128)) (2 * (b % 128)))) (highest_sum (a / 128) (b / 128) bit_a bit_b)
-    ∙ xor_crossed (2 * (a % 128)) (2 * (b % 128)) (a / 128 * 29) (b / 128 * 29)
-    ∙ ap (λ (x : ℕ). bit_xor x (doubled_parts b)) (sym (doubled_is a low_a))
-    ∙ ap (bit_xor (doubled a)) (sym (doubled_is b low_b))
-
-doubles_low : list_all (λ (a : ℕ). nat_lt (doubled a) 256) (range_with_len 0 256) ≡ true
-doubles_low = refl
+    rw (doubled_is (bit_xor a b) (xor_of_8 a b low_a low_b), doubled_is a low_a, doubled_is b low_b, xor_mod a b 7, xor_shr a b 7,
+    twice_sum (a % 128) (b % 128), highest_sum (a / 128) (b / 128) (omega arith) (omega arith))
+    (xor_crossed (2 * (a % 128)) (2 * (b % 128)) (a / 128 * 29) (b / 128 * 29))
 
 doubled_low : (a : ℕ) → a < 256 → doubled a < 256
-doubled_low a low = ltb-true (doubled a) 256 (each_byte (λ (x : ℕ). nat_lt (doubled x) 256) a low doubles_low)
+doubled_low a low = ltb-true (doubled a) 256 (each_byte (λ (x : ℕ). nat_lt (doubled x) 256) a low refl)
 
 power_low : (j a : ℕ) → a < 256 → times_power j a < 256
 power_low zero a low = low
@@ -79,9 +58,7 @@ power_low (suc j) a low = doubled_low (times_power j a) (power_low j a low)
 
 power_sum : (j a b : ℕ) → a < 256 → b < 256 → times_power j (bit_xor a b) ≡ bit_xor (times_power j a) (times_power j b)
 power_sum zero a b low_a low_b = refl
-power_sum (suc j) a b low_a low_b =
-    ap doubled (power_sum j a b low_a low_b)
-    ∙ doubled_sum (times_power j a) (times_power j b) (power_low j a low_a) (power_low j b low_b)
+power_sum (suc j) a b low_a low_b = grind (arith, doubled_sum, power_low, power_sum j a b low_a low_b)
 
 power_zero : (j : ℕ) → times_power j 0 ≡ 0
 power_zero zero = refl
@@ -122,19 +99,14 @@ value_sum j a b (x ∷ xs) [] low_a low_b low_x low_y e = let none : ⊥ = omega
 value_sum j a b (x ∷ xs) (y ∷ ys) low_a low_b low_x low_y e =
     let rest : length xs ≡ length ys = omega arith in
     let here : next j (bit_xor a b) (bit_xor x y) ≡ bit_xor (next j a x) (next j b y) =
-    ap (λ (v : ℕ). bit_xor v (bit_xor x y)) (power_sum j a b low_a low_b)
-    ∙ xor_crossed (times_power j a) (times_power j b) x y in
+    rw (power_sum j a b low_a low_b) (xor_crossed (times_power j a) (times_power j b) x y) in
     ap (λ (v : ℕ). fold (next j) v (added xs ys)) here
     ∙ value_sum j (next j a x) (next j b y) xs ys (next_low j a x low_a low_x.0) (next_low j b y low_b low_y.0) low_x.1 low_y.1 rest
 
 -- products are elements
 bit_low : (a b product k : ℕ) → a < 256 → product < 256 → times_bit a b product k < 256
 unfolding times_bit
-bit_low a b product k low_a low =
-    elim (b / 2 ^ (7 - k) % 2 == 1) as (λ t. (if t then bit_xor (doubled product) a else doubled product) < 256) [
-      | true ↦ xor_of_8 (doubled product) a (doubled_low product low) low_a
-      | false ↦ doubled_low product low
-    ]
+bit_low a b product k low_a low = grind (arith, xor_of_8, doubled_low)
 
 bits_low : (a b product : ℕ) (ks : List ℕ) → a < 256 → product < 256 → fold (times_bit a b) product ks < 256
 bits_low a b product [] low_a low = low
@@ -148,27 +120,21 @@ products_low a (b ∷ bs) low = (bits_low a b 0 (range_with_len 0 8) low (omega 
 bit_sum : (a b c p q k : ℕ) → p < 256 → q < 256
     → times_bit (bit_xor a b) c (bit_xor p q) k ≡ bit_xor (times_bit a c p k) (times_bit b c q k)
 unfolding times_bit
-bit_sum a b c p q k low_p low_q =
-    let twice : doubled (bit_xor p q) ≡ bit_xor (doubled p) (doubled q) = doubled_sum p q low_p low_q in
-    elim (c / 2 ^ (7 - k) % 2 == 1) as (λ t.
-    (if t then bit_xor (doubled (bit_xor p q)) (bit_xor a b) else doubled (bit_xor p q))
-    ≡ bit_xor (if t then bit_xor (doubled p) a else doubled p) (if t then bit_xor (doubled q) b else doubled q)) [
-      | true ↦ ap (λ (x : ℕ). bit_xor x (bit_xor a b)) twice ∙ xor_crossed (doubled p) (doubled q) a b
-      | false ↦ twice
-    ]
+bit_sum a b c p q k low_p low_q = grind (arith, doubled_sum, xor_crossed)
 
 times_sum_bits : (a b c p q : ℕ) (ks : List ℕ) → a < 256 → b < 256 → p < 256 → q < 256
     → fold (times_bit (bit_xor a b) c) (bit_xor p q) ks ≡ bit_xor (fold (times_bit a c) p ks) (fold (times_bit b c) q ks)
 times_sum_bits a b c p q [] low_a low_b low_p low_q = refl
 times_sum_bits a b c p q (k ∷ ks) low_a low_b low_p low_q =
-    ap (λ (x : ℕ). fold (times_bit (bit_xor a b) c) x ks) (bit_sum a b c p q k low_p low_q)
-    ∙ times_sum_bits a b c (times_bit a c p k) (times_bit b c q k) ks low_a low_b (bit_low a c p k low_a low_p) (bit_low b c q k low_b low_q)
+    rw (bit_sum a b c p q k low_p low_q)
+    (times_sum_bits a b c (times_bit a c p k) (times_bit b c q k) ks low_a low_b (bit_low a c p k low_a low_p) (bit_low b c q k low_b low_q))
 
 products_sum : (a b : ℕ) (cs : List ℕ) → a < 256 → b < 256 → map (times (bit_xor a b)) cs ≡ added (map (times a) cs) (map (times b) cs)
 products_sum a b [] low_a low_b = refl
 products_sum a b (c ∷ cs) low_a low_b =
-    ap (λ (x : ℕ). x ∷ map (times (bit_xor a b)) cs) (times_sum_bits a b c 0 0 (range_with_len 0 8) low_a low_b (omega arith) (omega arith))
-    ∙ ap (λ (l : List ℕ). bit_xor (times a c) (times b c) ∷ l) (products_sum a b cs low_a low_b)
+    let one = times_sum_bits a b c 0 0 (range_with_len 0 8) low_a low_b (omega arith) (omega arith) in
+    let more = products_sum a b cs low_a low_b in
+    λ i. one i ∷ more i
 
 -- the value of a multiple of the generator
 multiple : ℕ → ℕ → ℕ
@@ -202,17 +168,8 @@ one_bit_more j low_j k low_k fits below a low_a =
       | inr above ↦
           let low : a - 2 ^ k < 2 ^ k = omega arith in
           let some : 0 < 2 ^ k = omega arith in
-          let whole : 1 * 2 ^ k + (a - 2 ^ k) ≡ a = omega arith in
-          let front : 1 * 2 ^ k + 0 ≡ 2 ^ k = omega arith in
-          let back : 0 * 2 ^ k + (a - 2 ^ k) ≡ a - 2 ^ k = omega arith in
-          let parts : a ≡ bit_xor (2 ^ k) (a - 2 ^ k) =
-          sym whole ∙ sym (xor_block k 1 0 0 (a - 2 ^ k) some low)
-          ∙ ap (λ (x : ℕ). bit_xor x (0 * 2 ^ k + (a - 2 ^ k))) front ∙ ap (bit_xor (2 ^ k)) back in
-          let small : 2 ^ k < 256 = omega arith in
-          let small_rest : a - 2 ^ k < 256 = omega arith in
-          ap (multiple j) parts ∙ multiple_sum j (2 ^ k) (a - 2 ^ k) small small_rest
-          ∙ ap (λ (x : ℕ). bit_xor x (multiple j (a - 2 ^ k))) (power_of_2 j k low_j low_k)
-          ∙ xor_zero_l (multiple j (a - 2 ^ k)) ∙ below (a - 2 ^ k) low
+          let parts : a ≡ bit_xor (2 ^ k) (a - 2 ^ k) = grind (arith, xor_block k 1 0 0 (a - 2 ^ k) some low) in
+          ap (multiple j) parts ∙ rw (multiple_sum j (2 ^ k) (a - 2 ^ k) (omega arith) (omega arith), power_of_2 j k low_j low_k, xor_zero_l) (below (a - 2 ^ k) low)
     ]
 
 multiple_zero : (j : ℕ) → j < 20 → (a : ℕ) → a < 256 → multiple j a ≡ 0
@@ -254,10 +211,8 @@ divided_added r rs c long = fill_by_all (coefficient (r ∷ rs) (bit_xor r c)) (
 
     each : (k : ℕ) → k < 20 → get_or (added (rs ++ 0 ∷ []) (map (times (bit_xor r c)) GENERATOR)) k 0 ≡ coefficient (r ∷ rs) (bit_xor r c) k
     each k low =
-        get_or-added (rs ++ 0 ∷ []) (map (times (bit_xor r c)) GENERATOR) k (same_length r rs (bit_xor r c) long)
-        ∙ ap (λ (x : ℕ). bit_xor x (get_or (map (times (bit_xor r c)) GENERATOR) k 0))
-        (zero_past rs k ∙ ap (λ (n : ℕ). get_or (r ∷ rs) n 0) (sym (add-one k)))
-        ∙ ap (bit_xor (get_or (r ∷ rs) (k + 1) 0)) (get_or-map (times (bit_xor r c)) GENERATOR k 0 0 low)
+        rw (get_or-added (rs ++ 0 ∷ []) (map (times (bit_xor r c)) GENERATOR) k (same_length r rs (bit_xor r c) long), zero_past rs k, add-one k)
+        (ap (bit_xor (get_or rs k 0)) (get_or-map (times (bit_xor r c)) GENERATOR k 0 0 low))
 
 length-divided : (rest : List ℕ) (c : ℕ) → length (divided rest c) ≡ 20
 unfolding divided
@@ -279,18 +234,13 @@ unfolding multiple
 step_zero j v r rs c low_j low_v low long low_c none =
     let by : ℕ = bit_xor r c in
     let low_by : by < 256 = xor_of_8 r c low.0 low_c in
-    let turned : bit_xor (next j v r) (bit_xor r c) ≡ next j v c =
-    xor_assoc (times_power j v) r (bit_xor r c)
-    ∙ ap (bit_xor (times_power j v)) (sym (xor_assoc r r c) ∙ ap (λ (x : ℕ). bit_xor x c) (xor_self r) ∙ xor_zero_l c) in
+    let turned : bit_xor (next j v r) (bit_xor r c) ≡ next j v c = rw (xor_assoc (times_power j v) r (bit_xor r c), ← xor_assoc r r c, xor_self r, xor_zero_l c) refl in
     let first : fold (next j) (next j v r) (rs ++ 0 ∷ []) ≡ 0 =
     fold_push (next j) (next j v r) rs 0 ∙ ap (λ (x : ℕ). next j x 0) none ∙ next_zero j in
-    let second : fold (next j) (bit_xor r c) (map (times (bit_xor r c)) GENERATOR) ≡ 0 = multiple_zero j low_j (bit_xor r c) low_by in
-    ap (λ (x : ℕ). fold (next j) x (divided (r ∷ rs) c)) (sym turned)
-    ∙ ap (fold (next j) (bit_xor (next j v r) (bit_xor r c))) (sym (divided_added r rs c long))
-    ∙ value_sum j (next j v r) (bit_xor r c) (rs ++ 0 ∷ []) (map (times (bit_xor r c)) GENERATOR) (next_low j v r low_v low.0) low_by
-    (zero_low rs low.1) (products_low (bit_xor r c) GENERATOR low_by) (same_length r rs (bit_xor r c) long)
-    ∙ ap (λ (x : ℕ). bit_xor x (fold (next j) (bit_xor r c) (map (times (bit_xor r c)) GENERATOR))) first
-    ∙ xor_zero_l _ ∙ second
+    let second : fold (next j) by (map (times by) GENERATOR) ≡ 0 = multiple_zero j low_j by low_by in
+    rw (← turned, ← divided_added r rs c long,
+    value_sum j (next j v r) by (rs ++ 0 ∷ []) (map (times by) GENERATOR) (next_low j v r low_v low.0) low_by (zero_low rs low.1)
+        (products_low by GENERATOR low_by) (same_length r rs by long), first, xor_zero_l) second
 
 folded_zero : (j v : ℕ) (rest cs : List ℕ) → j < 20 → v < 256 → Bytes rest → length rest ≡ 20 → All (λ c. c < 256) cs
     → fold (next j) v rest ≡ 0 → fold (next j) (fold (next j) v cs) (fold divided rest cs) ≡ 0
