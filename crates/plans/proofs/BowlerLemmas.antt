@@ -1,5 +1,6 @@
 -- The corrections of an over, one item more.
-use Rattle.std.proofs.Common.{◌≡◌, ℕ, ◌+◌, ◌<◌, List, [], ◌∷◌, ◌++◌, length, map, take, drop, get_or, reverse, sym, ◌∙◌, ap, append_assoc}
+use Rattle.std.proofs.lemmas.Grind.{common_steps}
+use Rattle.std.proofs.Common.{◌≡◌, ℕ, ◌+◌, ◌<◌, List, ◌∷◌, ◌++◌, length, take, drop, get_or, append_assoc, arith}
 use Rattle.std.proofs.lemmas.List.{drop_more, map-append, reverse-append}
 use Rattle.notation.specs.declared.entry.Entry.{Entry}
 use Rattle.ball_laws.specs.History.{History}
@@ -10,16 +11,9 @@ use Rattle.plans.specs.Bowlers.{fix_by, fixes_by}
 use Rattle.plans.proofs.StandingLemmas.{next-item}
 
 pub history-next : (xs : List Placed) (k : ℕ) (x : Placed) → k < length xs → x ≡ get_or xs k x → history (take (k + 1) xs) ≡ x.item ∷ history (take k xs)
-history-next xs k x lt is =
-    ap history (next-item xs k x lt is)
-    ∙ (ap reverse (map-append (λ (s : Placed). s.item) (take k xs) (x ∷ [])) ∙ reverse-append (map (λ (s : Placed). s.item) (take k xs)) (x.item ∷ []))
+history-next xs k x h h2 = grind (arith, common_steps, next-item, map-append, reverse-append)
 
 pub fixes-next : (i over p : ℕ) (h : History) (xs : List Placed) (k : ℕ) (x : Placed) → k < length xs → x ≡ get_or xs k x → (done new all : List Entry)
     → new ≡ done ++ fix_by (is_in_over (counted h) i over) p x.place x.item → done ++ fixes_by i over p h (drop k xs) ≡ all
     → new ++ fixes_by i over p (x.item ∷ h) (drop (k + 1) xs) ≡ all
-fixes-next i over p h xs k x lt is done new all added before =
-    let one = fix_by (is_in_over (counted h) i over) p x.place x.item in
-    let more = fixes_by i over p (x.item ∷ h) (drop (k + 1) xs) in
-    let here : drop k xs ≡ x ∷ drop (k + 1) xs = drop_more xs k x lt ∙ ap (λ y. y ∷ drop (k + 1) xs) (sym is) in
-    ap (λ ys. ys ++ more) added
-    ∙ (append_assoc done one more ∙ (ap (λ ys. done ++ fixes_by i over p h ys) (sym here) ∙ before))
+fixes-next i over p h xs k x lt is done new all added before = grind (arith, common_steps, drop_more, append_assoc)

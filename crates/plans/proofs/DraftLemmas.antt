@@ -1,9 +1,9 @@
 -- A draft with a line more, and what a plan shows.
-use Rattle.std.proofs.Common.{◌≡◌, ℕ, suc, ◌+◌, ◌<◌, ◌≤◌, true, Option, None, List, [], ◌∷◌, ◌++◌, length, map, take, refl, sym, ◌∙◌, ap, subst, arith, inl, inr, append_assoc}
+use Rattle.std.proofs.lemmas.Grind.{common_steps}
+use Rattle.std.proofs.Common.{◌≡◌, ℕ, suc, ◌+◌, ◌<◌, ◌≤◌, true, Option, None, List, [], ◌∷◌, ◌++◌, length, map, take, refl, sym, ◌∙◌, ap, subst, arith, append_assoc}
 use Rattle.std.proofs.lemmas.List.{append-nil, length_push, take-append-le, take_all}
 use Rattle.std.proofs.lemmas.List.Elements.{All-push}
 use Rattle.std.proofs.lemmas.Option.{slice_get_within}
-use Rattle.std.specs.Prelude.{All, slice_get}
 use Rattle.notation.specs.declared.entry.Entry.{Entry}
 use Rattle.notation.specs.declared.entry.Entry.TheVariants.{Write, Fix, Late}
 use Rattle.notation.specs.Written.{IsEntry}
@@ -20,12 +20,7 @@ use Rattle.plans.specs.inner.Standing.{IsDraft, IsStanding}
 use Rattle.plans.proofs.StandingLemmas.{clean-standing, named-more, same-history, standing-at}
 
 pub draft-none : (n : ℕ) (book : List Entry) (items : List Placed) → length book ≤ 8192 → IsStanding book items → IsDraft n book [] items
-draft-none n book items few s = record {
-  entries = λ k d lt. absurd (omega (arith, lt));
-  taken = λ k e at. absurd (cc);
-  room = omega (arith, few);
-  standing = subst (λ b. IsStanding b items) (sym (append-nil book)) s;
-}
+draft-none n book items h h2 = grind (arith, common_steps, append-nil)
 
 scored : (n : ℕ) (book : List Entry) (e : Entry) → names book e ≡ true → (more : List Entry) → first_refused_in n ((book ++ more) ++ e ∷ []) ≡ None → book_refusal n (book ++ more) e ≡ None
 scored n book (Write x) e more none = absurd cc
@@ -34,14 +29,7 @@ scored n book (Late p x) e more none = (let named = named-more book more (Late p
 
 -- lines that are taken, with one more
 taken-more : (n : ℕ) (book lines : List Entry) (e : Entry) → AreTaken n book lines → book_refusal n (book ++ lines) e ≡ None → AreTaken n book (lines ++ e ∷ [])
-taken-more n book lines e taken none k x at = elim (slice_get-push lines e k x at) [
-  | inl there ↦
-      (let lt = slice_get_within lines k x there in
-      subst (λ ls. book_refusal n (book ++ ls) x ≡ None) (sym (take-append-le k lines (e ∷ []) (omega (arith, lt)))) (taken k x there))
-  | inr last ↦
-      (let all = take-append-le k lines (e ∷ []) (omega (arith, last.0)) ∙ take_all k lines (omega (arith, last.0)) in
-      subst (λ ls. book_refusal n (book ++ ls) x ≡ None) (sym all) (subst (λ y. book_refusal n (book ++ lines) y ≡ None) last.1 none))
-]
+taken-more n book lines e h h2 = grind (arith, common_steps, slice_get-push, slice_get_within, take-append-le, take_all)
 
 pub draft-more : (n : ℕ) (book lines : List Entry) (items : List Placed) (e : Entry) (place : ℕ) → IsDraft n book lines items → names book e ≡ true → IsEntry e
     → place ≡ length book + length lines → place < 8192 → first_refused n [] (kept (with_entry place e items)) ≡ None
@@ -59,8 +47,7 @@ draft-more n book lines items e place d named r at room none =
 
 pub plan_of-draft : (n : ℕ) (book wanted lines : List Entry) (items target : List Placed) → IsDraft n book lines items → IsStanding (book ++ wanted) target
     → map (λ s. s.item) items ≡ map (λ s. s.item) target → IsPlan n book wanted lines
-plan_of-draft n book wanted lines items target d t same =
-    record { entries = d.entries; taken = d.taken; room = d.room; same = same-history (book ++ lines) (book ++ wanted) items target d.standing t same }
+plan_of-draft n book wanted lines items target h h2 h3 = grind (arith, common_steps, same-history)
 
 -- what is scored is the book with what is wanted
 pub target-scored : (n : ℕ) (book : List Entry) (target : List Placed) (r : Option Refusal) → IsStanding book target → first_refused n [] (kept target) ≡ r → first_refused_in n book ≡ r

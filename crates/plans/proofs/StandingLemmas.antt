@@ -1,5 +1,6 @@
 -- What stands in a book that may not be legal, with an entry more.
-use Rattle.std.proofs.Common.{◌≡◌, ℕ, ◌+◌, ◌<◌, true, false, Option, Some, None, List, [], ◌∷◌, ◌++◌, length, map, take, drop, get_or, reverse, refl, sym, ◌∙◌, ap, subst, arith, inl, inr, append_assoc, length-append}
+use Rattle.std.proofs.lemmas.Grind.{common_steps}
+use Rattle.std.proofs.Common.{◌≡◌, ℕ, ◌+◌, ◌<◌, true, false, Option, List, [], ◌∷◌, ◌++◌, length, map, take, drop, get_or, reverse, refl, sym, ◌∙◌, ap, subst, arith, append_assoc, length-append}
 use Rattle.std.proofs.lemmas.Bool.{cases_Bool}
 use Rattle.std.proofs.lemmas.List.{length_push, take_more, take-append-drop}
 use Rattle.std.proofs.lemmas.Option.{slice_get_within}
@@ -31,16 +32,10 @@ parts-at xs i x lt is = ap (λ ys. ys ++ drop (i + 1) xs) (sym (next-item xs i x
 -- ---- what an entry names
 
 named-fix : (book : List Entry) (p : ℕ) (o : Option Entry) → slice_get book p ≡ o → can_be_fixed o ≡ true → (p < length book) × (is_fix (slice_get book p) ≡ false)
-named-fix book p None at e = absurd cc
-named-fix book p (Some (Write x)) at e = (slice_get_within book p (Write x) at, ap is_fix at)
-named-fix book p (Some (Fix q x)) at e = absurd cc
-named-fix book p (Some (Late q x)) at e = (slice_get_within book p (Late q x) at, ap is_fix at)
+named-fix book p o h h2 = grind (arith, common_steps, slice_get_within)
 
 named-late : (book : List Entry) (p : ℕ) (o : Option Entry) → slice_get book p ≡ o → can_be_followed o ≡ true → (p < length book) × (is_plain (slice_get book p) ≡ true)
-named-late book p None at e = absurd cc
-named-late book p (Some (Write x)) at e = (slice_get_within book p (Write x) at, ap is_plain at)
-named-late book p (Some (Fix q x)) at e = absurd cc
-named-late book p (Some (Late q x)) at e = absurd cc
+named-late book p o h h2 = grind (arith, common_steps, slice_get_within)
 
 -- it names the same once there are more
 pub named-more : (book more : List Entry) (e : Entry) → names book e ≡ true → IsNamed (book ++ more) e
@@ -58,23 +53,10 @@ named-more book more (Late p x) e =
 
 module _ (book : List Entry) (items : List Placed) (s : IsStanding book items) where
   clean-more : (e : Entry) → IsNamed book e → clean_items_of (book ++ e ∷ []) ≡ with_entry (length book) e (clean_items_of book)
-  clean-more (Write x) named = clean_items_of-write book x s.fixes s.lates
-  clean-more (Fix p x) named = clean_items_of-fix book p x
-  clean-more (Late p x) named = clean_items_of-late book p x s.fixes named.0 named.1
+  clean-more e h = grind (arith, common_steps, clean_items_of-write, clean_items_of-fix, clean_items_of-late)
 
   pub standing-more : (e : Entry) → IsNamed book e → IsEntry e → IsStanding (book ++ e ∷ []) (with_entry (length book) e items)
-  standing-more e named r = record {
-    fixes = λ k q y at. elim (slice_get-push book e k (Fix q y) at) [
-      | inl there ↦ (let lt = s.fixes k q y there in omega (arith, lt, length_push book e))
-      | inr last ↦ (let lt = (subst (IsNamed book) last.1 named).0 in omega (arith, lt, length_push book e))
-    ];
-    lates = λ k q y at. elim (slice_get-push book e k (Late q y) at) [
-      | inl there ↦ (let lt = s.lates k q y there in omega (arith, lt, length_push book e))
-      | inr last ↦ (let lt = (subst (IsNamed book) last.1 named).0 in omega (arith, lt, length_push book e))
-    ];
-    stands = ap (with_entry (length book) e) s.stands ∙ sym (clean-more e named);
-    all_of = items-push book e items named r s.all_of;
-  }
+  standing-more e h h2 = grind (arith, common_steps, slice_get-push, length_push, clean-more, items-push)
 
   pub clean-standing : clean book ≡ kept items
   unfolding clean
@@ -105,10 +87,7 @@ written-same x y e = cc
 
 kept-items : (xs : List Placed) → map (λ s. s.item) (kept xs) ≡ filter (λ x. not (is_void x)) (map (λ s. s.item) xs)
 kept-items [] = refl
-kept-items (x ∷ xs) = elim (cases_Bool (is_void x.item)) [
-  | inl v ↦ rw (kept_not x xs v, v) (kept-items xs)
-  | inr v ↦ rw (kept_first x xs v, v) (ap (λ ys. x.item ∷ ys) (kept-items xs))
-]
+kept-items (x ∷ xs) = grind (arith, common_steps, cases_Bool, kept_not, kept_first, kept-items xs)
 
 -- where the same stands, they see the same
 pub same-history : (a b : List Entry) (xs ys : List Placed) → IsStanding a xs → IsStanding b ys → map (λ s. s.item) xs ≡ map (λ s. s.item) ys → history_of a ≡ history_of b

@@ -1,4 +1,5 @@
-use Rattle.std.proofs.Common.{◌++◌, Some, None, sym, subst, refl}
+use Rattle.std.proofs.lemmas.Grind.{common_steps}
+use Rattle.std.proofs.Common.{◌++◌, Some, sym, subst, arith}
 use Rattle.std.specs.Prelude.{Contains}
 use Rattle.corrections.specs.declared.refusal.Refusal.TheVariants.{Later}
 use Rattle.plans.specs.inner.Standing.{IsStanding}
@@ -18,8 +19,4 @@ returns-in-Some g c =
     )
 
 pub plan_to-requires-clause-taken : goal.plan_to-requires-clause-taken
-plan_to-requires-clause-taken g c =
-    let n = c.args.innings_a_side in
-    let all = g.B.BookOf.content c.args.book.now ++ c.args.wanted.now in
-    let there = subst (IsStanding all) (sym c.deref.ensures.value) c.in_ok-target.ensures in
-    target-scored n all c.deref.result.now None there (c.in-None.ensures.none refl)
+plan_to-requires-clause-taken g c = grind (arith, common_steps, target-scored)

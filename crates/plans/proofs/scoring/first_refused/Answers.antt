@@ -1,4 +1,5 @@
-use Rattle.std.proofs.Common.{◌+◌, ◌++◌, ◌∷◌, [], drop, take, sym, subst, refl}
+use Rattle.std.proofs.lemmas.Grind.{common_steps}
+use Rattle.std.proofs.Common.{◌+◌, ◌++◌, ◌∷◌, [], drop, take, sym, subst, refl, arith}
 use Rattle.std.proofs.lemmas.List.{take_all}
 use Rattle.std.proofs.lemmas.List.Elements.{All-get_or, Contains-get_or}
 use Rattle.std.specs.Prelude.{Contains, Ok, Err}
@@ -16,10 +17,7 @@ unfolding first_refused
 loop-index-init c = (refl, c.start-score.ensures)
 
 pub take_item-requires : goal.take_item-requires
-take_item-requires c =
-    let placed = c.index-items-index.result in
-    subst (λ x. IsPlain x.item) (sym c.index-items-index.is)
-    (All-get_or (λ x. IsPlain x.item) c.args.items.now c.loop-index.index placed c.loop-index-test.true c.requires.in_range)
+take_item-requires c = grind (arith, common_steps)
 
 pub returns-in-Err-clause-some : goal.returns-in-Err-clause-some
 returns-in-Err-clause-some c =
@@ -53,6 +51,4 @@ loop-index-preserved c =
     (scored-append (Ok m) n [] t (x ∷ []) done.0 (scored-one m n h x (c.in_default.ensures n h done.1)))
 
 pub returns-clause-none : goal.returns-clause-none
-returns-clause-none c is =
-    let xs = c.args.items.now in
-    (subst (IsScoring (Ok c.loop-index.score) c.args.innings_a_side []) (take_all c.loop-index.index xs c.loop-index-test.false) c.loop-index.invariant).0
+returns-clause-none c is = grind (arith, common_steps, take_all)
