@@ -15,7 +15,7 @@ is_passed k = not (is_data k) || (eqb (place (step_of k)) k && nat_lt (step_of k
 -- the way leads through each module of data
 passed : (k : ℕ) → k < 1089 → is_data k ≡ true → (place (step_of k) ≡ k) × (step_of k < 1056)
 passed k low one =
-    let tested : is_passed k ≡ true = holds_at is_passed 0 1089 k (omega arith) (omega arith) refl in
+    let tested : is_passed k ≡ true = holds_at is_passed 1089 k low refl in
     let parts = and_parts (eqb (place (step_of k)) k) (nat_lt (step_of k) 1056) (rw one at tested) in
     (eqb-true (place (step_of k)) k parts.0, ltb-true (step_of k) 1056 parts.1)
 

@@ -20,7 +20,7 @@ step_of at =
     66 * pair + 2 * down + (right - column)
 
 found : (n : ℕ) → n < 1056 → step_of (place n) ≡ n
-found n h = eqb-true _ _ (holds_at (λ n. eqb (step_of (place n)) n) 0 1056 n (omega arith) (omega arith) refl)
+found n h = eqb-true _ _ (holds_at (λ n. eqb (step_of (place n)) n) 1056 n h refl)
 
 -- no two steps lead to one place
 pub places_differ : (n s : ℕ) → n < s → s < 1056 → place n ≢ place s

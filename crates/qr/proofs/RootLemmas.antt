@@ -20,9 +20,6 @@ abbrev pub Bytes : List ℕ → Type 0
 Bytes [] = Unit {0}
 Bytes (x ∷ xs) = (x < 256) × Bytes xs
 
-each_byte : (p : ℕ → Bool) (a : ℕ) → a < 256 → list_all p (range_with_len 0 256) ≡ true → p a ≡ true
-each_byte p a h all = holds_at p 0 256 a (omega arith) (omega arith) all
-
 xor_crossed : (a b c d : ℕ) → bit_xor (bit_xor a b) (bit_xor c d) ≡ bit_xor (bit_xor a c) (bit_xor b d)
 xor_crossed a b c d = grind (arith, xor_assoc, xor_comm)
 
@@ -31,7 +28,7 @@ abbrev doubled_parts : ℕ → ℕ
 doubled_parts a = bit_xor (2 * (a % 128)) (a / 128 * 29)
 
 doubled_is : (a : ℕ) → a < 256 → doubled a ≡ doubled_parts a
-doubled_is a low = eqb-true (doubled a) (doubled_parts a) (each_byte (λ (x : ℕ). eqb (doubled x) (doubled_parts x)) a low refl)
+doubled_is a low = eqb-true (doubled a) (doubled_parts a) (holds_at (λ (x : ℕ). eqb (doubled x) (doubled_parts x)) 256 a low refl)
 
 twice_sum : (a b : ℕ) → 2 * bit_xor a b ≡ bit_xor (2 * a) (2 * b)
 twice_sum a b = grind (arith, xor_block 1 a b 0 0)
@@ -50,7 +47,7 @@ doubled_sum a b low_a low_b =
     (xor_crossed (2 * (a % 128)) (2 * (b % 128)) (a / 128 * 29) (b / 128 * 29))
 
 doubled_low : (a : ℕ) → a < 256 → doubled a < 256
-doubled_low a low = ltb-true (doubled a) 256 (each_byte (λ (x : ℕ). nat_lt (doubled x) 256) a low refl)
+doubled_low a low = ltb-true (doubled a) 256 (holds_at (λ (x : ℕ). nat_lt (doubled x) 256) 256 a low refl)
 
 power_low : (j a : ℕ) → a < 256 → times_power j a < 256
 power_low zero a low = low
@@ -153,8 +150,8 @@ powers_of_2 = refl
 
 power_of_2 : (j k : ℕ) → j < 20 → k < 8 → multiple j (2 ^ k) ≡ 0
 power_of_2 j k low_j low_k =
-    eqb-true _ _ (holds_at (λ (k : ℕ). eqb (multiple j (2 ^ k)) 0) 0 8 k (omega arith) (omega arith)
-    (holds_at (λ (j : ℕ). list_all (λ (k : ℕ). eqb (multiple j (2 ^ k)) 0) (range_with_len 0 8)) 0 20 j (omega arith) (omega arith) powers_of_2))
+    eqb-true _ _ (holds_at (λ (k : ℕ). eqb (multiple j (2 ^ k)) 0) 8 k low_k
+    (holds_at (λ (j : ℕ). list_all (λ (k : ℕ). eqb (multiple j (2 ^ k)) 0) (range_with_len 0 8)) 20 j low_j powers_of_2))
 
 multiple_none : (j : ℕ) → multiple j 0 ≡ 0
 multiple_none j = multiple_sum j 0 0 (omega arith) (omega arith) ∙ xor_self (multiple j 0)

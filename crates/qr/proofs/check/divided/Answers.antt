@@ -1,4 +1,4 @@
-use Rattle.std.proofs.Common.{◌≡◌, ◌+◌, ◌<◌, ℕ, arith, sym, subst, ◌∙◌, get_or, set, length, slice_index, bit_xor}
+use Rattle.std.proofs.Common.{◌<◌, ℕ, arith, ◌∙◌, length, slice_index, bit_xor}
 use Rattle.std.proofs.lemmas.List.{length-set}
 use Rattle.std.proofs.lemmas.List.Edits.{fill_by_more}
 use Rattle.std.proofs.lemmas.List.FromFn.{fill_by_all}
@@ -10,9 +10,7 @@ loop-k-preserved c =
     let value : ℕ → ℕ = coefficient c.args.rest.now (bit_xor (slice_index c.args.rest.now 0) c.args.codeword) in
     let within : c.loop-k.k < length c.loop-k.left = omega (arith, c.loop-k.invariant.len) in record {
       len = length-set _ _ _ ∙ c.loop-k.invariant.len;
-      each =
-          subst (λ (x : ℕ). (i : ℕ) → i < c.loop-k.k + 1 → get_or (set c.loop-k.left c.loop-k.k x) i 0 ≡ value i) (sym c.coefficient.ensures)
-          (fill_by_more value c.loop-k.left c.loop-k.k 0 within c.loop-k.invariant.each);
+      each = rw c.coefficient.ensures (fill_by_more value c.loop-k.left c.loop-k.k 0 within c.loop-k.invariant.each);
     }
 
 pub returns : goal.returns

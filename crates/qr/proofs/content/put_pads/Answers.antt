@@ -5,11 +5,7 @@ use Rattle.qr.proofs.content.put_pads.Goals as goal
 
 pub loop-k-preserved : goal.loop-k-preserved
 loop-k-preserved c =
-    let old : List ℕ = c.args.codewords.now.items in
-    let k : ℕ = c.loop-k.k in record {
-      put =
-          c.push.ensures.items ∙ ap (λ (l : List ℕ). l ++ c.pad.result ∷ []) c.loop-k.invariant.put
-          ∙ ap (λ (x : ℕ). old ++ pads k ++ x ∷ []) c.pad.ensures ∙ append_assoc old (pads k) (pad k ∷ [])
-          ∙ ap (λ (l : List ℕ). old ++ l) (sym (map-range_with_len_more pad 0 k k (omega arith)));
-      len = omega (arith, c.push.ensures.len, c.loop-k.invariant.len);
+    let m = c.loop-k.invariant in record {
+      put = rw (c.push.ensures.items, m.put, c.pad.ensures, map-range_with_len_more pad 0 c.loop-k.k c.loop-k.k (omega arith)) (append_assoc c.args.codewords.now.items (pads c.loop-k.k) _);
+      len = omega (arith, c.push.ensures.len, m.len);
     }

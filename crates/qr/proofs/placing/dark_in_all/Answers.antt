@@ -1,4 +1,4 @@
-use Rattle.std.proofs.Common.{◌≡◌, ◌+◌, ◌<◌, ℕ, Bool, false, arith, sym, subst, ◌∙◌, get_or, set, length}
+use Rattle.std.proofs.Common.{◌<◌, false, arith, ◌∙◌, length}
 use Rattle.std.proofs.lemmas.List.{length-set}
 use Rattle.std.proofs.lemmas.List.Edits.{fill_by_more}
 use Rattle.qr.specs.Modules.{is_dark_in_all}
@@ -8,8 +8,5 @@ pub loop-at-preserved : goal.loop-at-preserved
 loop-at-preserved c =
     let within : c.loop-at.at < length c.loop-at.modules = omega (arith, c.loop-at.invariant.len) in record {
       len = length-set _ _ _ ∙ c.loop-at.invariant.len;
-      each =
-          subst (λ (x : Bool). (i : ℕ) → i < c.loop-at.at + 1 → get_or (set c.loop-at.modules c.loop-at.at x) i false ≡ is_dark_in_all i)
-          (sym c.is_dark_in_all.ensures)
-          (fill_by_more is_dark_in_all c.loop-at.modules c.loop-at.at false within c.loop-at.invariant.each);
+      each = rw c.is_dark_in_all.ensures (fill_by_more is_dark_in_all c.loop-at.modules c.loop-at.at false within c.loop-at.invariant.each);
     }
