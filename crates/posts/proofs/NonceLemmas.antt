@@ -1,6 +1,6 @@
 -- What is out over many calls.
-use Rattle.std.proofs.Common.{◌≡◌, ◌≢◌, ◌∙◌, ◌<◌, ◌≤◌, ◌+◌, ◌==◌, ◌&&◌, ◌||◌, ℕ, zero, suc, Bool, true, false, List, [], ◌∷◌, ◌++◌, Option, None, Some, Result, Ok, Err, All, AllPairs, length, drop, filter, codes, if◌then◌else◌, nat_lt, arith, refl, sym, ap, subst}
-use Rattle.std.specs.List.{list_any}
+use Rattle.std.proofs.lemmas.Grind.{common_steps}
+use Rattle.std.proofs.Common.{◌≡◌, ◌≢◌, ◌∙◌, ◌<◌, ◌+◌, ◌==◌, ◌||◌, ℕ, Bool, true, false, List, [], ◌∷◌, ◌++◌, Option, None, Some, Result, Ok, Err, All, AllPairs, length, drop, if◌then◌else◌, nat_lt, arith, refl, sym, ap, subst}
 use Rattle.std.proofs.lemmas.Bool.Decides.{nat_tests}
 use Rattle.std.proofs.lemmas.List.Elements.{All-nil, All-cons}
 use Rattle.std.proofs.lemmas.List.Kept.{AllPairs-cons}
@@ -9,8 +9,8 @@ use Rattle.std.proofs.lemmas.Slice.Eq.{bytes_eq-Decides}
 use Rattle.agree_core.specs.declared.position.Position.{Position}
 use Rattle.screen.specs.Words.{is_end}
 use Rattle.posts.specs.Texts.{tag_of}
-use Rattle.posts.specs.Posts.{IsTaken, after_check, checked, is_line, is_out, is_same_place, is_tagged, line_of, out_after, stamped, used_by, verdict, with_given, without}
-use Rattle.posts.specs.Runs.{Call, accepted, accepted_by, nonce_in}
+use Rattle.posts.specs.Posts.{IsTaken, after_check, checked, is_out, is_same_place, is_tagged, line_of, out_after, stamped, used_by, verdict, with_given, without}
+use Rattle.posts.specs.Runs.{Call, accepted, accepted_by}
 use Rattle.posts.specs.Runs.Call.{Give, Judge}
 use Rattle.posts.specs.declared.{judging.Post.Post, refusal.Refusal.Refusal, stamp.Stamp.Stamp}
 
@@ -28,19 +28,8 @@ record IsGood (secret out : List ℕ) (o : Option Stamp) (line : List ℕ) (s : 
 good : (secret out : List ℕ) (o : Option Stamp) (line : List ℕ) (s : Stamp) → stamped secret out o line ≡ Ok s → IsGood secret out o line s
 good secret out None line s h = absurd (cc)
 good secret out (Some t) line s h =
-    let same : t ≡ s = by_tests (is_line line) (is_out out t.nonce) (is_tagged secret t line) t s h in
-    let outs = by_out (is_line line) (is_out out t.nonce) (is_tagged secret t line) t s h in
-    let tags = by_tag (is_line line) (is_out out t.nonce) (is_tagged secret t line) t s h in
-    record { is_it = ap Some same; was_out = subst (λ x. is_out out x.nonce ≡ true) same outs; tagged = subst (λ x. is_tagged secret x line ≡ true) same tags }
-  where
-    by_tests : (a b c : Bool) (t s : Stamp) → ◌≡◌ {A = Result Stamp Refusal} (if a then (if b then (if c then Ok t else Err Refusal.WrongTag) else Err Refusal.NotOut) else Err Refusal.Malformed) (Ok s) → t ≡ s
-    by_tests a b c t s h = grind (arith, h)
-
-    by_out : (a b c : Bool) (t s : Stamp) → ◌≡◌ {A = Result Stamp Refusal} (if a then (if b then (if c then Ok t else Err Refusal.WrongTag) else Err Refusal.NotOut) else Err Refusal.Malformed) (Ok s) → b ≡ true
-    by_out a b c t s h = grind (arith, h)
-
-    by_tag : (a b c : Bool) (t s : Stamp) → ◌≡◌ {A = Result Stamp Refusal} (if a then (if b then (if c then Ok t else Err Refusal.WrongTag) else Err Refusal.NotOut) else Err Refusal.Malformed) (Ok s) → c ≡ true
-    by_tag a b c t s h = grind (arith, h)
+    let same : t ≡ s = grind (arith, h) in
+    record { is_it = ap Some same; was_out = grind (arith, h, same); tagged = grind (arith, h, same) }
 
 -- the stamp of a post that is from here and good
 record IsChecked (secret out : List ℕ) (post : Post) (s : Stamp) : Type 0 where
@@ -59,14 +48,10 @@ is_checked secret out post s h =
 
 after : (r : Result Stamp Refusal) (line : List ℕ) (at : Position) (waiting : ℕ) (l : List ℕ) → after_check r line at waiting ≡ Ok l
     → (s : Stamp) × (r ≡ Ok s) × (line_of s line at waiting ≡ Ok l)
-after (Err why) line at waiting l h = absurd (cc)
-after (Ok s) line at waiting l h = (s, refl, h)
+after r line at waiting l h = grind (arith, common_steps)
 
 same_place : (p q : Position) → is_same_place p q ≡ true → p ≡ q
-same_place p q h =
-    let place : p.place ≡ q.place = grind (arith, nat_tests, h) in
-    let round : p.round ≡ q.round = grind (arith, nat_tests, h) in
-    λ i. record { place = place i; round = round i }
+same_place p q h = grind (arith, common_steps, nat_tests)
 
 placed : (ends same room : Bool) (line l : List ℕ)
     → ◌≡◌ {A = Result (List ℕ) Refusal} (if ends then Err Refusal.Ends else if same then (if room then Ok line else Err Refusal.Busy) else Err Refusal.Elsewhere) (Ok l)
@@ -108,12 +93,10 @@ abbrev pub IsBelow : List ℕ → ℕ → Type 0
 IsBelow out next = (n : ℕ) → is_out out n ≡ true → n < next
 
 or_right : (b c : Bool) → c ≡ true → (b || c) ≡ true
-or_right true c h = refl
-or_right false c h = h
+or_right b c h = grind (arith, common_steps)
 
 or_more : (b c d : Bool) → (c ≡ true → d ≡ true) → (b || c) ≡ true → (b || d) ≡ true
-or_more true c d more h = refl
-or_more false c d more h = more h
+or_more b c d h h2 = grind (arith, common_steps)
 
 fewer_by : (n m : ℕ) (out : List ℕ) → is_out (without m out) n ≡ true → is_out out n ≡ true
 fewer_by n m [] h = h
@@ -125,27 +108,20 @@ fewer_by n m (x ∷ xs) h = by_test (x == m) h (fewer_by n m xs)
     by_test false h more = or_more (x == n) (is_out (without m xs) n) (is_out xs n) more h
 
 used_fewer : (r : Result Stamp Refusal) (n : ℕ) (out : List ℕ) → is_out (used_by r out) n ≡ true → is_out out n ≡ true
-used_fewer (Err why) n out h = h
-used_fewer (Ok s) n out h = fewer_by n s.nonce out h
+used_fewer r n out h = grind (arith, common_steps, fewer_by)
 
 dropped : (n : ℕ) (out : List ℕ) → is_out (drop 1 out) n ≡ true → is_out out n ≡ true
-dropped n [] h = h
-dropped n (x ∷ xs) h = or_right (x == n) (is_out xs n) h
+dropped n out h = grind (arith, common_steps, or_right)
 
 kept : (full : Bool) (n : ℕ) (out : List ℕ) → is_out (if full then drop 1 out else out) n ≡ true → is_out out n ≡ true
-kept true n out h = dropped n out h
-kept false n out h = h
+kept full n out h = grind (arith, common_steps, dropped)
 
 -- what is out once a nonce is given was out, or is it
 given : (n next : ℕ) (out : List ℕ) → is_out (with_given out next) n ≡ true → (n ≢ next) → is_out out n ≡ true
-given n next out h other =
-    let full = length out == 64 in
-    let split = sym (list_any-append (λ m. m == n) (if full then drop 1 out else out) (next ∷ [])) ∙ h in
-    kept full n out (grind (arith, nat_tests, split, other))
+given n next out h h2 = grind (arith, common_steps, list_any-append, kept, nat_tests)
 
 not_true : (b c : Bool) → (b ≡ true → c ≡ true) → c ≡ false → b ≡ false
-not_true true c h e = absurd (cc (h refl, e))
-not_true false c h e = refl
+not_true b c h h2 = grind (arith, common_steps)
 
 differs : (n m : ℕ) → (n == m) ≡ false → n ≢ m
 differs n m e = λ s. grind (arith, nat_tests, e, s)
@@ -165,13 +141,12 @@ below_given out next below = λ n is. by_test n is (n == next) refl
 same_stamp : (o : Option Stamp) (s t : Stamp) → o ≡ Some s → o ≡ Some t → s ≡ t
 same_stamp o s t h k = cc (h, k)
 
--- what holds of the nonce of a line that a post types, and of all later ones
-each_nonce : (P : ℕ → Type 0) (r : Result (List ℕ) Refusal) (o : Option Stamp) (post : Post) (rest : List ℕ) → post.stamp ≡ o
-    → ((s : Stamp) (line : List ℕ) → r ≡ Ok line → o ≡ Some s → P s.nonce) → All P rest → All P (accepted_by r post ++ rest)
-each_nonce P (Err why) o post rest e h all = all
-each_nonce P (Ok line) None post rest e h all = subst (λ x. All P (nonce_in x ++ rest)) (sym e) all
-each_nonce P (Ok line) (Some s) post rest e h all =
-    subst (λ x. All P (nonce_in x ++ rest)) (sym e) (All-cons P s.nonce rest (h s line refl refl) all)
+-- what holds of the nonces of later lines, and with that of a line that a post types
+with_nonce : (P : List ℕ → Type 0) (r : Result (List ℕ) Refusal) (o : Option Stamp) (post : Post) (rest : List ℕ) → post.stamp ≡ o → P rest
+    → ((s : Stamp) (line : List ℕ) → r ≡ Ok line → o ≡ Some s → P (s.nonce ∷ rest)) → P (accepted_by r post ++ rest)
+with_nonce P (Err why) o post rest e all h = all
+with_nonce P (Ok line) None post rest e all h = rw e all
+with_nonce P (Ok line) (Some s) post rest e all h = rw e (h s line refl refl)
 
 -- a nonce that was given and is out no more types nothing
 never : (secret : List ℕ) (n : ℕ) (calls : List Call) (out : List ℕ) (next : ℕ) → n < next → is_out out n ≡ false
@@ -181,22 +156,12 @@ never secret n (Give ∷ calls) out next below lacks =
     never secret n calls (with_given out next) (next + 1) (omega (arith, below))
     (not_true _ _ (λ is. given n next out is (λ e. omega (arith, below, e))) lacks)
 never secret n (Judge post at waiting ∷ calls) out next below lacks =
-    each_nonce (λ m. n ≢ m) (verdict secret out post at waiting) post.stamp post _ refl
-    (λ s line typed has e.
+    let later = never secret n calls (out_after secret out post) next below (not_true _ _ (used_fewer (checked secret out post) n out) lacks) in
+    with_nonce (All (λ m. n ≢ m)) (verdict secret out post at waiting) post.stamp post _ refl later
+    (λ s line typed has. All-cons (λ m. n ≢ m) s.nonce _ (λ e.
     let known = taken secret out post at waiting line typed in
     let was : is_out out n ≡ true = subst (λ x. is_out out x ≡ true) (ap (λ x. x.nonce) (same_stamp post.stamp known.stamp s known.has_stamp has) ∙ sym e) known.was_out in
-    absurd (cc (was, lacks)))
-    (never secret n calls (out_after secret out post) next below
-    (not_true _ _ (used_fewer (checked secret out post) n out) lacks))
-
-first_and_rest : (r : Result (List ℕ) Refusal) (o : Option Stamp) (post : Post) (rest : List ℕ) → post.stamp ≡ o
-    → ((s : Stamp) (line : List ℕ) → r ≡ Ok line → o ≡ Some s → All (λ m. s.nonce ≢ m) rest)
-    → AllPairs (λ m n. m ≢ n) rest → AllPairs (λ m n. m ≢ n) (accepted_by r post ++ rest)
-first_and_rest (Err why) o post rest e h pairs = pairs
-first_and_rest (Ok line) None post rest e h pairs = subst (λ x. AllPairs (λ m n. m ≢ n) (nonce_in x ++ rest)) (sym e) pairs
-first_and_rest (Ok line) (Some s) post rest e h pairs =
-    subst (λ x. AllPairs (λ m n. m ≢ n) (nonce_in x ++ rest)) (sym e)
-    (AllPairs-cons (λ m n. m ≢ n) s.nonce rest (h s line refl refl) pairs)
+    absurd (cc (was, lacks))) later)
 
 pub once : (secret : List ℕ) (calls : List Call) (out : List ℕ) (next : ℕ) → IsBelow out next
     → AllPairs (λ m n. m ≢ n) (accepted secret out next calls)
@@ -204,14 +169,13 @@ once secret [] out next below = λ i j d less within. omega (arith, within)
 once secret (Give ∷ calls) out next below =
     once secret calls (with_given out next) (next + 1) (below_given out next below)
 once secret (Judge post at waiting ∷ calls) out next below =
-    first_and_rest (verdict secret out post at waiting) post.stamp post _ refl
+    let later = once secret calls (out_after secret out post) next (λ n is. below n (used_fewer (checked secret out post) n out is)) in
+    with_nonce (AllPairs (λ m n. m ≢ n)) (verdict secret out post at waiting) post.stamp post _ refl later
     (λ s line typed has.
     let known = taken secret out post at waiting line typed in
     let same = ap (λ x. x.nonce) (same_stamp post.stamp known.stamp s known.has_stamp has) in
-    never secret s.nonce calls (out_after secret out post) next
-    (below s.nonce (subst (λ x. is_out out x ≡ true) same known.was_out))
-    (subst (λ x. is_out (out_after secret out post) x ≡ false) same known.is_used))
-    (once secret calls (out_after secret out post) next (λ n is. below n (used_fewer (checked secret out post) n out is)))
+    AllPairs-cons (λ m n. m ≢ n) s.nonce _
+    (never secret s.nonce calls (out_after secret out post) next (below s.nonce (rw same at known.was_out)) (rw same at known.is_used)) later)
 
 pub none_is_below : IsBelow [] 1
 none_is_below = λ n is. absurd (cc is)

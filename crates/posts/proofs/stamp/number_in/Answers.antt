@@ -7,14 +7,12 @@ use Rattle.posts.proofs.stamp.number_in.Goals as goal
 pub returns-in_err-number-clause-each : goal.returns-in_err-number-clause-each
 returns-in_err-number-clause-each c = λ n below is.
     let read : c.parse.result ≡ Ok n = parse-decimal 64 n c.args.text.now c.parse.result below below is c.parse.ensures.value.0 in
-    let known : c.ok.result ≡ Some n = c.ok.ensures.value ∙ ap result_ok read in
-    grind (arith, known)
+    grind (arith, c.ok.ensures.value, read)
 
 pub returns-then-eq-clause-each : goal.returns-then-eq-clause-each
 returns-then-eq-clause-each c = λ n below is.
     let read : c.parse.result ≡ Ok n = parse-decimal 64 n c.args.text.now c.parse.result below below is c.parse.ensures.value.0 in
-    let known : c.ok.result ≡ Some n = c.ok.ensures.value ∙ ap result_ok read in
-    grind (arith, known)
+    grind (arith, c.ok.ensures.value, read)
 
 pub returns-else-eq-clause-each : goal.returns-else-eq-clause-each
 returns-else-eq-clause-each c = λ n below is.
