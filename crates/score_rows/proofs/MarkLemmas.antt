@@ -1,4 +1,5 @@
 -- The marks and the runs of an over, item by item.
+use Rattle.std.proofs.lemmas.Grind.{common_steps}
 use Rattle.std.proofs.Common.{◌≡◌, ℕ, ◌+◌, ◌<◌, List, ◌++◌, length, take, get_or, Option, arith, sym, ap, ◌∙◌, append-nil}
 use Rattle.std.specs.Io.KnownBytes.{Appends}
 use Rattle.notation.specs.declared.entry.{Ball.Ball, Plain.Plain}
@@ -20,9 +21,7 @@ runs-bowled item over = grind arith
 module _ (items : List Placed) (k : ℕ) (x : Placed) (within : k < length items) (here : x ≡ get_or items k x) where
   pub marked_one : (o p q : Option (List ℕ)) → Appends o p (marks (balls_of (take k items))) → Appends p q (item_mark x.item)
       → Appends o q (marks (balls_of (take (k + 1) items)))
-  marked_one o p q m wrote =
-      let over = balls_of (take k items) in
-      rw (balls_more items k x within here, ← marks-bowled x.item over) (appends_both o p q (marks over) (item_mark x.item) m wrote)
+  marked_one o p q h h2 = grind (arith, common_steps, balls_more, marks-bowled, appends_both)
 
   pub counted_one : (runs more : ℕ) → runs ≡ tally runs_of (balls_of (take k items)) → more ≡ item_runs x.item
       → runs + more ≡ tally runs_of (balls_of (take (k + 1) items))

@@ -1,4 +1,5 @@
 -- The newest deliveries of an over, as many as have room for their marks, item by item.
+use Rattle.std.proofs.lemmas.Grind.{common_steps}
 use Rattle.std.proofs.Common.{arith, ◌≡◌, ℕ, ◌+◌, ◌<◌, true, false, List, [], ◌∷◌, ◌++◌, length, take, drop, get_or, refl, sym, ap, ◌∙◌, append-nil, append_assoc}
 use Rattle.std.proofs.lemmas.List.{at_drop_more}
 use Rattle.notation.specs.declared.entry.{Ball.Ball, Plain.Plain}
@@ -20,11 +21,7 @@ bowled-first item over = grind arith
 
 with-balls : (over : List Ball) (xs : List Placed) → with_balls over xs ≡ balls_of xs ++ over
 with-balls over [] = refl
-with-balls over (x ∷ xs) =
-    with-balls (bowled x.item over) xs
-    ∙ ap (λ ys. balls_of xs ++ ys) (bowled-first x.item over)
-    ∙ sym (append_assoc (balls_of xs) (bowled x.item []) over)
-    ∙ ap (λ ys. ys ++ over) (sym (with-balls (bowled x.item []) xs))
+with-balls over (x ∷ xs) = grind (arith, common_steps, bowled-first, append_assoc, (with-balls (bowled x.item over) xs), (with-balls (bowled x.item []) xs))
 
 newest-in_full : (over : List Ball) → newest Full over ≡ []
 newest-in_full [] = refl
@@ -32,14 +29,11 @@ newest-in_full (b ∷ older) = refl
 
 newest-bowled : (room : Room) (item : Plain) (over : List Ball) → is_left (behind room (item_mark item)) ≡ true
     → newest room (bowled item over) ≡ bowled item [] ++ newest (behind room (item_mark item)) over
-newest-bowled room (Plain.Ball b) over fits = rw fits refl
-newest-bowled room item over fits = ap (λ r. newest r over) (sym (behind_nothing room))
+newest-bowled room item over h = grind (arith, common_steps, behind_nothing)
 
 newest-full : (room : Room) (item : Plain) (over : List Ball) → is_left (behind room (item_mark item)) ≡ false
     → newest room (bowled item over) ≡ []
-newest-full room (Plain.Ball b) over full = rw full refl
-newest-full Full item over full = newest-in_full over
-newest-full (Left n) item over full = grind (arith, behind_nothing)
+newest-full room item over h = grind (arith, common_steps, newest-in_full, behind_nothing)
 
 module _ (items : List Placed) (k : ℕ) (x : Placed) (within : k < length items) (here : x ≡ get_or items k x) where
   pub marked_room : (old room new : Room) → room ≡ behind old (marks (balls_of (take k items))) → new ≡ behind room (item_mark x.item)
@@ -49,9 +43,7 @@ module _ (items : List Placed) (k : ℕ) (x : Placed) (within : k < length items
       rw (is, so_far, balls_more items k x within here, ← marks-bowled x.item over) (sym (behind_both old (marks over) (item_mark x.item)))
 
   balls-dropped : balls_of (drop k items) ≡ balls_of (drop (k + 1) items) ++ bowled x.item []
-  balls-dropped =
-      at_drop_more balls_of items k x within
-      ∙ (ap (λ y. balls_of (y ∷ drop (k + 1) items)) (sym here) ∙ with-balls (bowled x.item []) (drop (k + 1) items))
+  balls-dropped = grind (arith, common_steps, at_drop_more, with-balls)
 
   pub newest_more : (all : List Ball) (old room : Room) → room ≡ behind old (item_mark x.item) → is_left room ≡ true
       → all ≡ balls_of (drop (k + 1) items) ++ newest old (balls_of (take (k + 1) items))

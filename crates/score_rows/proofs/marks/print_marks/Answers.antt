@@ -1,4 +1,5 @@
-use Rattle.std.proofs.Common.{refl, ◌∙◌}
+use Rattle.std.proofs.lemmas.Grind.{common_steps}
+use Rattle.std.proofs.Common.{refl, arith}
 use Rattle.corrections.proofs.OverLemmas.{balls_all}
 use Rattle.score_rows.proofs.MarkLemmas.{marked_one}
 use Rattle.streams.proofs.Appending.{appends_none}
@@ -8,11 +9,7 @@ pub loop-placed-init : goal.loop-placed-init
 loop-placed-init g c = (appends_none _, refl)
 
 pub loop-placed-preserved : goal.loop-placed-preserved
-loop-placed-preserved g c = (
-  marked_one c.args.over.now c.loop-placed.placed-index c.placed-item.result c.loop-placed-test.true c.placed-item.is _ _ _
-      c.loop-placed.invariant.0 c.in_ok-print_item.ensures.text,
-  c.in_ok-print_item.ensures.failed.1 ∙ c.loop-placed.invariant.1,
-)
+loop-placed-preserved g c = grind (arith, common_steps, marked_one)
 
 pub returns-clause-text : goal.returns-clause-text
 returns-clause-text g c = rw (← balls_all c.args.over.now c.loop-placed.placed-index c.loop-placed-test.false) c.loop-placed.invariant.0

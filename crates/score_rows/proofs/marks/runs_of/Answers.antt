@@ -1,6 +1,5 @@
-use Rattle.std.proofs.Common.{arith, ap, ◌∙◌}
-use Rattle.ball_laws.specs.Sums.{tally}
-use Rattle.match_laws.specs.Figures.{runs_of}
+use Rattle.std.proofs.lemmas.Grind.{common_steps}
+use Rattle.std.proofs.Common.{arith}
 use Rattle.corrections.proofs.OverLemmas.{balls_all}
 use Rattle.score_rows.proofs.MarkLemmas.{counted_one}
 use Rattle.score_rows.proofs.marks.runs_of.Goals as goal
@@ -14,5 +13,4 @@ loop-placed-preserved c =
     }
 
 pub returns : goal.returns
-returns c =
-    c.loop-placed.invariant.sum ∙ ap (tally runs_of) (balls_all c.args.over.now c.loop-placed.placed-index c.loop-placed-test.false)
+returns c = grind (arith, common_steps, balls_all)

@@ -1,12 +1,11 @@
-use Rattle.std.proofs.Common.{◌≡◌, ℕ, Some, List, [], ◌∷◌, true, arith, refl, ap, sym, subst, ◌∙◌}
-use Rattle.std.specs.Prelude.{is_some, codes, OnOk}
+use Rattle.std.proofs.lemmas.Grind.{common_steps}
+use Rattle.std.proofs.Common.{◌≡◌, ℕ, Some, List, [], ◌∷◌, true, arith, refl, ap, sym, ◌∙◌}
+use Rattle.std.specs.Prelude.{is_some, codes}
 use Rattle.notation.specs.declared.entry.Ball.{Ball}
 use Rattle.ball_laws.specs.History.{History, open_over, last_called_over}
 use Rattle.match_laws.specs.History.{or_else}
-use Rattle.corrections.specs.CleanList.{history_of}
-use Rattle.corrections.specs.Overs.{balls_of, bowler_now, newest_bowler, over_now, this_or_last}
+use Rattle.corrections.specs.Overs.{bowler_now, newest_bowler, over_now, this_or_last}
 use Rattle.cards.specs.Sheet.{Sheet}
-use Rattle.streams.specs.Watched.{Prints}
 use Rattle.score_rows.specs.declared.form.Form.TheVariants.{Whole}
 use Rattle.score_rows.specs.OverCheck.{in_rows, over_line, over_text}
 use Rattle.score_rows.specs.Row.{bowler}
@@ -30,9 +29,4 @@ told_line s h i p over by is =
     ∙ has_line s h i (over_now h) (sym (newest_of (open_over h) (last_called_over h))) (ap is_some (sym by)))
 
 pub returns-clause-text : goal.returns-clause-text
-returns-clause-text g c =
-    let h = history_of (g.B.BookOf.content c.args.book.now) in
-    let over = c.newest.ensures.over h c.overs_of-overs.ensures.overs in
-    let by = sym c.in-Some.is ∙ c.bowler.ensures h c.overs_of-overs.ensures.overs in
-    subst (λ t. OnOk c.print_bowler_over.result (Prints g.W.Sink.contents c.args.out.now c.print_bowler_over.new.out t))
-    (told_line c.args.sheet.now h c.args.innings c.in-Some.bowler (balls_of c.newest.result.now) by over) (c.print_bowler_over.ensures.text _ _ c.score.ensures.score)
+returns-clause-text g c = grind (arith, common_steps, told_line)

@@ -1,5 +1,5 @@
-use Rattle.std.proofs.Common.{arith, ap, ◌∙◌}
-use Rattle.ball_laws.specs.Over.{counting}
+use Rattle.std.proofs.lemmas.Grind.{common_steps}
+use Rattle.std.proofs.Common.{arith}
 use Rattle.corrections.proofs.OverLemmas.{balls_all}
 use Rattle.score_rows.proofs.OverEnds.{counted_more}
 use Rattle.score_rows.proofs.over_end.counting_of.Goals as goal
@@ -13,5 +13,4 @@ loop-placed-preserved c =
     }
 
 pub returns : goal.returns
-returns c =
-    c.loop-placed.invariant.sum ∙ ap counting (balls_all c.args.over.now c.loop-placed.placed-index c.loop-placed-test.false)
+returns c = grind (arith, common_steps, balls_all)

@@ -1,7 +1,6 @@
-use Rattle.std.proofs.Common.{ap, ◌∙◌}
+use Rattle.std.proofs.lemmas.Grind.{common_steps}
+use Rattle.std.proofs.Common.{arith}
 use Rattle.corrections.proofs.OverLemmas.{balls_all}
-use Rattle.score_rows.specs.Fit.{behind}
-use Rattle.score_rows.specs.Row.{marks}
 use Rattle.score_rows.proofs.Newest.{marked_room}
 use Rattle.score_rows.proofs.widths_behind.marks_room.Goals as goal
 
@@ -11,6 +10,4 @@ loop-placed-preserved c =
     c.loop-placed.invariant c.item_room-room.ensures
 
 pub returns : goal.returns
-returns c =
-    c.loop-placed.invariant
-    ∙ ap (λ over. behind c.args.room (marks over)) (balls_all c.args.over.now c.loop-placed.placed-index c.loop-placed-test.false)
+returns c = grind (arith, common_steps, balls_all)
