@@ -1,4 +1,5 @@
 -- No entry's line ends in a blank.
+use Rattle.std.proofs.lemmas.Grind.{common_steps}
 use Rattle.std.proofs.Common.{◌≡◌, ◌&&◌, ◌-◌, ℕ, Bool, true, false, List, [], ◌∷◌, length, take, get_or, refl, sym, ap, ◌∙◌, arith, take_all}
 use Rattle.std.proofs.lemmas.Bool.Decides.{nat_tests}
 use Rattle.std.proofs.lemmas.List.Sums.{suffix_len-take_no}
@@ -13,12 +14,10 @@ go_on [] = true
 go_on (w ∷ ws) = list_all is_visible w && list_all is_token ws
 
 whole : (ws : List Token) → list_all is_token ws ≡ true → go_on ws ≡ true
-whole [] h = refl
-whole (w ∷ ws) h = grind arith
+whole ws h = grind (arith, common_steps)
 
 onto : (b : ℕ) (ws : List Token) → go_on (onto_first b ws) ≡ true → go_on ws ≡ true
-onto b [] h = refl
-onto b (w ∷ ws) h = grind arith
+onto b ws h = grind (arith, common_steps)
 
 behind : (b : ℕ) (bs : List ℕ) → go_on (tokens (b ∷ bs)) ≡ true → go_on (tokens bs) ≡ true
 behind b bs h = grind (arith, whole (tokens bs), onto b (tokens bs))

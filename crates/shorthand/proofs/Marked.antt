@@ -1,4 +1,5 @@
 -- What a line of one mark is in full.
+use Rattle.std.proofs.lemmas.Grind.{common_steps}
 use Rattle.std.proofs.Common.{◌≡◌, ℕ, ◌+◌, ◌≤◌, ◌<◌, List, [], ◌∷◌, ◌++◌, length, Option, Some, None, Ok, Err, refl, sym, ap, ◌∙◌, inl, inr, codes, decimal, arith, append_assoc, length-append}
 use Rattle.std.proofs.lemmas.Bool.Decides.{nat_tests}
 use Rattle.std.specs.Str.{bytes_eq}
@@ -86,20 +87,11 @@ each_read = assumption
 -- ---- its text
 
 plus_more : (text w : List ℕ) → 0 < length text → length text + 1 + length w ≤ 96 → plus (Ok text) (Ok w) ≡ Ok (text ++ 32 ∷ w)
-plus_more [] w some fits = absurd (omega (arith, some))
-plus_more (b ∷ bs) w some fits = grind (arith, nat_tests, length-append (b ∷ bs) (32 ∷ w))
+plus_more text w h h2 = grind (arith, common_steps, nat_tests, length-append)
 
 joined_ball : (n : ℕ) (kind runs : Token) → length (ball_line n kind runs) ≤ 96
     → joined (Ok (codes "ball") ∷ Ok (decimal n) ∷ Ok kind ∷ Ok runs ∷ []) ≡ Ok (ball_line n kind runs)
-joined_ball n kind runs fits =
-    let with_number = codes "ball" ++ 32 ∷ decimal n in
-    let with_kind = with_number ++ 32 ∷ kind in
-    let sum = simp length-append at fits in
-    rw (
-      plus_more (codes "ball") (decimal n) (omega arith) (omega (arith, sum)),
-      plus_more with_number kind (simp length-append (omega arith)) (simp length-append (omega (arith, sum))),
-      plus_more with_kind runs (simp length-append (omega arith)) (simp length-append (omega (arith, sum))),
-    ) (simp append_assoc)
+joined_ball n kind runs h = grind (arith, common_steps, length-append, plus_more, append_assoc)
 
 with_read : (text : List ℕ) (e : Entry) → line_answer text ≡ Ok e → with_words (Ok text) ≡ Ok text
 with_read text e h = rw h refl
