@@ -17,15 +17,8 @@ use Rattle.cards.proofs.LimitForms.{same_limits}
 -- one text more
 pub texts_more : (f : ℕ → List ℕ) (k n : ℕ) → texts_from f k n ++ text (f (k + n)) ≡ texts_from f k (n + 1)
 unfolding texts_from
-texts_more f k zero = let at : k + 0 ≡ k = omega arith in
-    ap (λ (j : ℕ). text (f j)) at ∙ sym (append-nil (text (f k)))
-texts_more f k (suc n) =
-    let next : k + suc n ≡ (k + 1) + n = omega arith in
-    let count : suc n + 1 ≡ suc (n + 1) = omega arith in
-    append_assoc (text (f k)) (texts_from f (k + 1) n) (text (f (k + suc n)))
-    ∙ ap (λ (j : ℕ). text (f k) ++ (texts_from f (k + 1) n ++ text (f j))) next
-    ∙ ap (λ (l : List ℕ). text (f k) ++ l) (texts_more f (k + 1) n)
-    ∙ ap (texts_from f k) (sym count)
+texts_more f k zero = grind (arith, append-nil)
+texts_more f k (suc n) = grind (arith, append_assoc, texts_more f (k + 1) n)
 
 -- the first of two texts, and what follows it
 pub first_text : (t u p q : List ℕ) → length t < 2 ^ 64 → length u < 2 ^ 64 → text t ++ p ≡ text u ++ q → (t ≡ u) × (p ≡ q)
@@ -51,10 +44,8 @@ each_text f g short brief (suc n) k p q e =
     (λ i less. at i less one.0 more.0, more.1)
   where
     at : (i : ℕ) → i < suc n → f k ≡ g k → ((j : ℕ) → j < n → f ((k + 1) + j) ≡ g ((k + 1) + j)) → f (k + i) ≡ g (k + i)
-    at zero less here later = let e : k + 0 ≡ k = omega arith in ap f e ∙ here ∙ ap g (sym e)
-    at (suc j) less here later =
-        let e : k + suc j ≡ (k + 1) + j = omega arith in
-        ap f e ∙ later j (omega arith) ∙ ap g (sym e)
+    at zero less here later = grind (arith, here)
+    at (suc j) less here later = let one = later j (omega arith) in grind (arith, one)
 
 -- a name of a list
 abbrev slice_names : List (List ℕ) → ℕ → List ℕ
@@ -71,25 +62,19 @@ each_name (x ∷ xs) (suc i) h = each_name xs i (and_parts (is_name x) (list_all
 
 player_short : (a : Team) → IsTeam a → (p : ℕ) → length (player_in a p) < 2 ^ 64
 player_short a h p =
-    let is : player_in a p ≡ slice_names a.players (p - 1) = unwrap_or-slice_get a.players (p - 1) [] in
-    let short = each_name a.players (p - 1) h.players in
-    let same = ap length is in
-    omega (arith, short, same)
+    rw (unwrap_or-slice_get a.players (p - 1) []) (each_name a.players (p - 1) h.players)
 
 -- eleven names that are the same one by one
 pub same_team : (a b : Team) → IsTeam a → IsTeam b → a.name ≡ b.name
     → ((i : ℕ) → i < 11 → player_in a (1 + i) ≡ player_in b (1 + i)) → a ≡ b
 same_team a b h k name each =
-    let many : length a.players ≡ length b.players = h.eleven ∙ sym k.eleven in
+    let players = same_lists a.players b.players (h.eleven ∙ sym k.eleven) (λ i d less.
     let eleven = h.eleven in
-    let others = k.eleven in
-    let players = same_lists a.players b.players many (λ i d less.
-    let there : i < length b.players = omega arith in
-    let index : (1 + i) - 1 ≡ i = omega arith in
     let one = each i (omega arith) in
-    let left : player_in a (1 + i) ≡ slice_names a.players i = unwrap_or-slice_get a.players ((1 + i) - 1) [] ∙ ap (slice_names a.players) index in
-    let right : player_in b (1 + i) ≡ slice_names b.players i = unwrap_or-slice_get b.players ((1 + i) - 1) [] ∙ ap (slice_names b.players) index in
-    get_or_default a.players i d [] less ∙ sym left ∙ one ∙ right ∙ get_or_default b.players i [] d there) in
+    let index : (1 + i) - 1 ≡ i = omega arith in
+    let left = unwrap_or-slice_get a.players ((1 + i) - 1) [] in
+    let right = unwrap_or-slice_get b.players ((1 + i) - 1) [] in
+    get_or_default a.players i d [] less ∙ rw index at (sym left ∙ one ∙ right) ∙ get_or_default b.players i [] d (omega (arith, k.eleven))) in
     λ i. record { name = name i; players = players i }
 
 -- a side, and what follows it
