@@ -1,18 +1,15 @@
 -- The falls by what stands, and by the history.
-use Rattle.std.proofs.Common.{arith, ◌≡◌, List, [], ◌∷◌, refl, ap, ◌∙◌, inl, inr}
+use Rattle.std.proofs.Common.{arith, ◌≡◌, List, [], ◌∷◌, refl, ap, inl, inr}
 use Rattle.std.proofs.lemmas.Bool.{cases_Bool}
 use Rattle.std.proofs.lemmas.List.{map-append}
 use Rattle.notation.specs.declared.entry.{Plain.Plain, Entry.Entry}
 use Rattle.ball_laws.specs.History.{History, is_wicket}
 use Rattle.corrections.specs.declared.placed.Placed.{Placed}
 use Rattle.corrections.specs.CleanList.{clean_items_of, history_of}
-use Rattle.limits.specs.inner.Walks.{along, walk}
-use Rattle.limits.proofs.WalkLemmas.{PassesVoids, walk_book}
+use Rattle.limits.specs.inner.Walks.{walk}
+use Rattle.limits.proofs.WalkLemmas.{walk_makes}
 use Rattle.falls.specs.Falls.{fall_of, falls_at, wickets_of}
 use Rattle.falls.specs.inner.Falling.{behind, falling_after, falling_of, nothing, point_of}
-
-passes : PassesVoids falling_after
-passes x s v = grind arith
 
 moved : (x : Plain) (h : History) → behind x (point_of h) ≡ point_of (x ∷ h)
 moved x h = grind arith
@@ -23,10 +20,6 @@ more x h = elim (cases_Bool (is_wicket x)) [
   | inr none ↦ rw (none, moved x h) refl
 ]
 
-falling_along : (h : History) → along falling_after nothing h ≡ falling_of h
-falling_along [] = refl
-falling_along (x ∷ h) = ap (falling_after x) (falling_along h) ∙ more x h
-
 pub falling_book : (book : List Entry) (items : List Placed) → items ≡ clean_items_of book
     → (walk falling_after nothing items).falls ≡ falls_at (history_of book)
-falling_book book items is = ap (λ s. s.falls) (walk_book falling_after passes nothing book items is ∙ falling_along (history_of book))
+falling_book book items is = ap (λ s. s.falls) (walk_makes falling_after (λ x s v. grind arith) falling_of more book items is)

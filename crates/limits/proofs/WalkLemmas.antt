@@ -35,30 +35,19 @@ walk_book step passes s book items is =
     ap (walk step s) is ∙ sym (walk_kept step passes s (clean_items_of book))
     ∙ walk_after step s [] (kept (clean_items_of book)) ∙ ap (along step s) (history_of-clean_items book)
 
--- ---- free hits
-
-free_passes : PassesVoids free_hit_after
-free_passes x s v = grind arith
-
-free_along : (h : History) → along free_hit_after false h ≡ is_free_hit h
-free_along [] = refl
-free_along (x ∷ h) = ap (free_hit_after x) (free_along h)
+-- what a step makes of a history, item by item, is what the walk makes of the book's
+pub walk_makes : {S : Type 0} (step : Plain → S → S) → PassesVoids step → (made : History → S) → ((x : Plain) (h : History) → step x (made h) ≡ made (x ∷ h))
+    → (book : List Entry) (items : List Placed) → items ≡ clean_items_of book → walk step (made []) items ≡ made (history_of book)
+walk_makes {S} step passes made more book items is = walk_book step passes (made []) book items is ∙ goes_on (history_of book)
+  where
+    goes_on : (h : History) → along step (made []) h ≡ made h
+    goes_on [] = refl
+    goes_on (x ∷ h) = ap (step x) (goes_on h) ∙ more x h
 
 pub free_book : (book : List Entry) (items : List Placed) → items ≡ clean_items_of book → walk free_hit_after false items ≡ is_free_hit (history_of book)
-free_book book items is = walk_book free_hit_after free_passes false book items is ∙ free_along (history_of book)
+free_book book items is = walk_makes free_hit_after (λ x s v. grind arith) is_free_hit (λ x h. refl) book items is
 
--- ---- overs of a bowler
-
-bowled_passes : (p : ℕ) → PassesVoids (bowled_after p)
-bowled_passes p x s v = grind arith
-
-bowled_more : (p : ℕ) (x : Plain) (h : History) → bowled_after p x (bowled_of p h) ≡ bowled_of p (x ∷ h)
-bowled_more p x h = grind arith
-
-bowled_along : (p : ℕ) (h : History) → along (bowled_after p) none_bowled h ≡ bowled_of p h
-bowled_along p [] = refl
-bowled_along p (x ∷ h) = ap (bowled_after p x) (bowled_along p h) ∙ bowled_more p x h
-
+-- overs of a bowler
 pub bowled_book : (p : ℕ) (book : List Entry) (items : List Placed) → items ≡ clean_items_of book
     → walk (bowled_after p) none_bowled items ≡ bowled_of p (history_of book)
-bowled_book p book items is = walk_book (bowled_after p) (bowled_passes p) none_bowled book items is ∙ bowled_along p (history_of book)
+bowled_book p book items is = walk_makes (bowled_after p) (λ x s v. grind arith) (bowled_of p) (λ x h. grind arith) book items is
