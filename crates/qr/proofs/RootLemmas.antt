@@ -42,8 +42,15 @@ highest_sum (suc (suc a)) b low_a low_b = let none : ⊥ = omega arith in absurd
 
 doubled_sum : (a b : ℕ) → a < 256 → b < 256 → doubled (bit_xor a b) ≡ bit_xor (doubled a) (doubled b)
 doubled_sum a b low_a low_b =
-    rw (doubled_is (bit_xor a b) (xor_of_8 a b low_a low_b), doubled_is a low_a, doubled_is b low_b, xor_mod a b 7, xor_shr a b 7,
-    twice_sum (a % 128) (b % 128), highest_sum (a / 128) (b / 128) (omega arith) (omega arith))
+    rw (
+      doubled_is (bit_xor a b) (xor_of_8 a b low_a low_b),
+      doubled_is a low_a,
+      doubled_is b low_b,
+      xor_mod a b 7,
+      xor_shr a b 7,
+      twice_sum (a % 128) (b % 128),
+      highest_sum (a / 128) (b / 128) (omega arith) (omega arith),
+    )
     (xor_crossed (2 * (a % 128)) (2 * (b % 128)) (a / 128 * 29) (b / 128 * 29))
 
 doubled_low : (a : ℕ) → a < 256 → doubled a < 256
@@ -235,9 +242,14 @@ step_zero j v r rs c low_j low_v low long low_c none =
     let first : fold (next j) (next j v r) (rs ++ 0 ∷ []) ≡ 0 =
     fold_push (next j) (next j v r) rs 0 ∙ ap (λ (x : ℕ). next j x 0) none ∙ next_zero j in
     let second : fold (next j) by (map (times by) GENERATOR) ≡ 0 = multiple_zero j low_j by low_by in
-    rw (← turned, ← divided_added r rs c long,
-    value_sum j (next j v r) by (rs ++ 0 ∷ []) (map (times by) GENERATOR) (next_low j v r low_v low.0) low_by (zero_low rs low.1)
-        (products_low by GENERATOR low_by) (same_length r rs by long), first, xor_zero_l) second
+    rw (
+      ← turned,
+      ← divided_added r rs c long,
+      value_sum j (next j v r) by (rs ++ 0 ∷ []) (map (times by) GENERATOR) (next_low j v r low_v low.0) low_by (zero_low rs low.1)
+          (products_low by GENERATOR low_by) (same_length r rs by long),
+      first,
+      xor_zero_l,
+    ) second
 
 folded_zero : (j v : ℕ) (rest cs : List ℕ) → j < 20 → v < 256 → Bytes rest → length rest ≡ 20 → All (λ c. c < 256) cs
     → fold (next j) v rest ≡ 0 → fold (next j) (fold (next j) v cs) (fold divided rest cs) ≡ 0
