@@ -6,16 +6,16 @@ ghost use Rattle.desk_command.specs.Lives.{copy_of, desk_of, path_of};
 
 use crate::desk_disk::{desk_disk_at, empty_book};
 use crate::desk_screen::DeskScreen;
-use crate::life::{Life, keep_on};
+use crate::life::{Kept, Life, keep_on};
 use crate::page::Page;
 use agree_core::DeskId;
 use ahead::Ahead;
 use cards::{Columns, MatchSheet};
-use live::{DeskEnd, LifeEnd, Outside};
+use live::{DeskEnd, LifeEnd};
 use machine::{Address, Keyboard, MOST_PEERS, MonotonicClock};
 use machine_files::{LastFault, WriteFault};
 use setup::{Sealing, StopFault, Stopped, short_sheet_at, with_cause, with_copys_cause};
-use station_pages::{Attended, PageLines};
+use station_pages::PageLines;
 use station_screens::{Shared, errors_at, output_at};
 use std::cell::RefCell;
 use std::env::Env;
@@ -184,22 +184,15 @@ pub fn start_desk<'a>(
     let link = sealing.link_over(rt.alloc(), MonotonicClock::new(rt), sealed);
     let _ = sealing.tell_fingerprints(&mut Shared::of(&errors));
     page.tell(&mut Shared::of(&errors), rt.stderr().is_terminal());
-    let clock = Attended {
-        clock: MonotonicClock::new(rt),
-        page: scorers,
-    };
-    let mut outside = Outside {
+    let Kept {
+        ended,
+        life,
         link,
         keys,
-        clock,
         out,
-    };
-    let (ended, life) = keep_on(
-        rt, disk, desk, book, &sheet, &mut outside, scorers, file, copy,
+    } = keep_on(
+        rt, disk, desk, book, &sheet, link, keys, out, scorers, file, copy,
     );
-    let Outside {
-        link, keys, out, ..
-    } = outside;
     drop(link);
     let is_seen = is_seen(out);
     let keyboard_failed = keys.keys().has_failed();

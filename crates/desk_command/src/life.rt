@@ -14,12 +14,12 @@ use corrections::CheckedBook;
 use entry_log::{Disk, Slots};
 use links::{Clock, InputLog, Keys, Link, MoreLines};
 use live::{LifeEnd, Outside, keep_desk};
-use machine::Keyboard;
-use station_pages::{PageSight, ScorersPage};
+use machine::{Keyboard, MonotonicClock};
+use station_pages::{Attended, PageSight, ScorersPage};
 use std::cell::RefCell;
 use std::io::Read;
 use std::snapshot::Snapshot;
-use streams::Sink;
+use streams::{Sink, Watched};
 
 /// The life of a desk: its letter, the paths of its votes file and of its copy, where it has one, and what was typed at its
 /// keyboard and in its page, which clauses alone read.
@@ -82,34 +82,67 @@ fn keep_on_disk<L: Link, K: Keys, C: Clock, W: Sink>(
     }
 }
 
+/// What comes of a desk's process that was kept: how it ended, its life, and what it worked with.
+pub struct Kept<'a, L: Link, K: Keys, W: Sink> {
+    pub ended: Result<(), LifeEnd>,
+    pub life: Life<'a>,
+    pub link: L,
+    pub keys: K,
+    pub out: Watched<W>,
+}
+
 /// The same, of a scorer who types at a keyboard and in a page, and nothing yet: with the life that the desk had.
-pub fn keep_on<'a, L: Link, R: Read, M: MoreLines, C: Clock, W: Sink>(
+pub fn keep_on<'a, L: Link, R: Read, M: MoreLines, W: Sink>(
     rt: &HostRuntime,
     disk: DeskDisk<'_>,
     desk: DeskId,
     book: CheckedBook,
     sheet: &MatchSheet,
-    outside: &mut Outside<L, Ahead<Keyboard<R, M>>, C, W>,
+    link: L,
+    keys: Ahead<Keyboard<R, M>>,
+    out: Watched<W>,
     page: Option<&RefCell<ScorersPage>>,
     file: &'a str,
     copy: Option<&'a str>,
-) -> (Result<(), LifeEnd>, Life<'a>)
+) -> Kept<'a, L, Ahead<Keyboard<R, M>>, W>
     requires empty { book.entries ≡ [] }
     requires innings { book.innings_a_side ≡ sheet.now.innings }
-    requires untyped { given_of (outside.old.keys.queue).log ≡ [] }
+    requires untyped { given_of (keys.queue).log ≡ [] }
     requires on { IsOnFiles file.now (option_copied copy) disk }
-    ensures desk { result.1.desk ≡ desk }
-    ensures file { result.1.file.now ≡ file.now }
-    ensures copy { option_copied result.1.copy ≡ option_copied copy.entry }
-    ensures typed { (result.1.typed).value ≡ (outside.new.keys.keys).given }
+    ensures desk { (result.life).desk ≡ desk }
+    ensures file { (result.life).file.now ≡ file.now }
+    ensures copy { option_copied (result.life).copy ≡ option_copied copy.entry }
+    ensures typed { ((result.life).typed).value ≡ ((result.keys).keys).given }
 {
-    let ended = keep_on_disk(rt, disk, desk, book, sheet, outside, page);
-    let typed = Snapshot::of(outside.keys.keys().given());
+    let clock = Attended {
+        clock: MonotonicClock::new(rt),
+        page,
+    };
+    let mut outside = Outside {
+        link,
+        keys,
+        clock,
+        out,
+    };
+    let ended = keep_on_disk(rt, disk, desk, book, sheet, &mut outside, page);
+    let Outside {
+        link,
+        keys,
+        clock: _clock,
+        out,
+    } = outside;
+    let typed = Snapshot::of(keys.keys().given());
     let life = Life {
         desk,
         file,
         copy,
         typed,
     };
-    (ended, life)
+    Kept {
+        ended,
+        life,
+        link,
+        keys,
+        out,
+    }
 }

@@ -94,7 +94,12 @@ fn run<'a>(
         &mut RowsAlone,
         turns,
     );
+    let Outside {
+        link,
+        keys: _keys,
+        clock: _clock,
+        out,
+    } = outside;
     assert!(rt; answer.is_ok());
-    let Outside { link, out, .. } = outside;
     (out.into_inner(), link)
 }
