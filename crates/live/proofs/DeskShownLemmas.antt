@@ -1,5 +1,5 @@
 -- What is seen of a desk beside the rows that it tells.
-use Rattle.std.proofs.Common.{List, [], ◌∷◌, Option, ℕ, ap, refl, sym, ◌∙◌}
+use Rattle.std.proofs.Common.{[], ◌∷◌, ℕ, ap, refl, sym, ◌∙◌}
 use Rattle.std.proofs.lemmas.List.Elements.{All-cons, All-nil}
 use Rattle.corrections.specs.declared.book_of.BookOf.{Ghosts as Books}
 use Rattle.entry_log.specs.declared.{disk.Disk.Ghosts as Disks, slots_of.SlotsOf.Ghosts as Files}

@@ -5,8 +5,6 @@ use Rattle.std.specs.Io.KnownBytes.{Appends}
 use Rattle.agree_core.specs.declared.messages.Message.{Message}
 use Rattle.wire.specs.Layout.{IsMessage}
 use Rattle.streams.proofs.Appending.{appends_both, appends_none}
-use Rattle.links.specs.Passed.{Passed}
-use Rattle.links.specs.Typing.{Input}
 use Rattle.live.specs.Runs.{Goes, Kind, Logs, LogsGrow, Moment, Run, last_of, passed_at, passed_in, printed_in, read_in, typed_in}
 use Rattle.live.specs.Ticks.{reads}
 

@@ -1,5 +1,5 @@
 -- A board's process, turn by turn.
-use Rattle.std.specs.Prelude.{◌≡◌, ◌⊎◌, ◌<◌, ◌+◌, ℕ, Bool, true, false, nat_eq, List, [], ◌∷◌, ◌++◌, All, length, Option, Result, IsErr, OnOk}
+use Rattle.std.specs.Prelude.{◌≡◌, ◌⊎◌, ◌<◌, ◌+◌, ℕ, Bool, true, false, nat_eq, List, [], ◌∷◌, ◌++◌, All, length, Result, IsErr, OnOk}
 use Rattle.notation.specs.declared.entry.Entry.{Entry}
 use Rattle.corrections.specs.CleanList.{history_of}
 use Rattle.corrections.specs.Refusal.{book_refusal}

@@ -1,11 +1,10 @@
 -- No desk's process ends as one whose file lacks lines, and none is shown that the other desk's file lacks some.
-use Rattle.std.proofs.Common.{arith, ◌≡◌, ◌≢◌, ℕ, Bool, true, false, List, [], ◌∷◌, Err, refl, sym, ap, ◌∙◌, subst}
+use Rattle.std.proofs.Common.{arith, ◌≡◌, ℕ, Bool, true, false, List, [], ◌∷◌, Err, refl, sym, ap, ◌∙◌, subst}
 use Rattle.corrections.specs.Refusal.{book_refusal}
 use Rattle.corrections.specs.declared.refusal.Refusal.{Refusal}
 use Rattle.agree_core.specs.declared.{messages.DeskId.DeskId, messages.Message.Message, position.Position.Position, seat.Heard.Heard}
 use Rattle.agree_core.specs.declared.messages.DeskId.TheVariants.{A, B}
 use Rattle.agree_core.specs.Desks.{DeskState}
-use Rattle.notation.specs.Code.{code}
 use Rattle.agree_core.specs.LostLines.{is_another, is_in_reach, is_passed_over}
 use Rattle.agree_core.specs.Positions.{position_of}
 use Rattle.agree_core.specs.Readers.{other}

@@ -4,11 +4,8 @@ use Rattle.notation.specs.declared.entry.Entry.{Entry}
 use Rattle.corrections.specs.CleanList.{history_of}
 use Rattle.corrections.specs.declared.book_of.BookOf.{Ghosts as Books}
 use Rattle.entry_log.specs.Disk.{Faults, Images}
-use Rattle.entry_log.specs.Slots.{FileContents}
 use Rattle.entry_log.specs.declared.{disk.Disk.Ghosts as Disks, slots_of.SlotsOf.Ghosts as Files}
 use Rattle.vote_store.specs.View.{file_view}
-use Rattle.agree_core.specs.declared.messages.DeskId.{DeskId}
-use Rattle.agree_core.specs.Ballots.{Ballot}
 use Rattle.agree_core.specs.Boards.{BoardState}
 use Rattle.agree_core.specs.FileView.{FileView}
 use Rattle.agree_core.specs.Openings.{NotOpened, Opened, Opening}
@@ -30,7 +27,7 @@ use Rattle.live.specs.DeskLife.{BeginsOn, Follows}
 use Rattle.live.specs.Desks.{DeskCall, DeskProcess, DiskView, FitsLongest}
 use Rattle.processes.specs.Printing.{HandsBook}
 use Rattle.processes.specs.Lives.{IsLife}
-use Rattle.processes.specs.Stations.{BeginningIsStage, BoardLifeIsProcess, DeskLifeIsLife, DeskRunIsStage, ProcessLogs, process_kind, process_stages}
+use Rattle.processes.specs.Stations.{BeginningIsStage, BoardLifeIsProcess, DeskLifeIsLife, DeskRunIsStage, ProcessLogs, process_stages}
 
 module _ {S B D : Type 0} {g : Files S D} {h : Disks D} {b : Books B} where
   pub beginning : (made : Result (Desk S B D g h b) (OpenRefusal × D)) → BeginningIsStage made
