@@ -10,7 +10,8 @@ use Rattle.match_laws.specs.Figures.{total, wickets, overs, balls}
 use Rattle.match_laws.specs.Parts.{batting_row_of, bowling_row_of}
 use Rattle.match_laws.specs.Result.{current}
 use Rattle.match_laws.specs.Stands.{ForEachHistory}
-use Rattle.changes.specs.declared.stage.{Total.Total, Batter.Batter}
+use Rattle.cards.specs.Sheet.{Sheet}
+use Rattle.changes.specs.declared.{stage.Total.Total, stage.Batter.Batter, stages.Stages.Stages}
 
 -- the innings a side, and the history
 pub record Stage : Type 0 where
@@ -22,6 +23,10 @@ abbrev pub ForBoth : Standing → Standing → (Stage → Stage → Type 0) → 
 ForBoth was now P =
     ForEachHistory was (λ m g. ForEachHistory now (λ n h.
     P (record { innings_a_side = m; history = g }) (record { innings_a_side = n; history = h })))
+
+-- a fact of the sheet, and of each two stages for which the matches stand
+abbrev pub ForStages : Stages → (Sheet → Stage → Stage → Type 0) → Type 0
+ForStages stages P = ForBoth stages.before.now stages.after.now (P stages.sheet.now)
 
 -- the side bats in innings i, which has begun; it fields in it
 abbrev pub is_batting_in : History → ℕ → Side → Bool

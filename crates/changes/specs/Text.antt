@@ -1,7 +1,6 @@
 -- What is told behind a correction: a row for each of what differs, of the first six, and how many more there are.
 use Rattle.std.specs.Prelude.{ℕ, ◌-◌, nat_le, if◌then◌else◌, List, [], ◌++◌, length, take, codes, decimal}
 use Rattle.notation.specs.declared.entry.Entry.{Entry}
-use Rattle.ball_laws.specs.History.{History}
 use Rattle.corrections.specs.CleanList.{history_of}
 use Rattle.cards.specs.Sheet.{Sheet}
 use Rattle.cards.specs.Columns.{lines_for}

@@ -2,7 +2,7 @@
 --
 --   place 3  one run off the bat, so that 2 has the strike; place 4  bowled. 1 not out 1 (1), 2 b 10 0 (1), 1 for 1
 --   so corrected that place 3 is two runs: 1 faces place 4 as well, and is out. 1 b 10 2 (2), 2 not out 0 (0), 2 for 1
-use Rattle.std.specs.Prelude.{◌≡◌, ℕ, false, None, Some, List, [], ◌∷◌, ◌++◌, codes}
+use Rattle.std.specs.Prelude.{◌≡◌, ℕ, false, Some, List, [], ◌∷◌, ◌++◌, codes}
 use Rattle.notation.specs.declared.entry.Side.TheVariants.{Home, Away}
 use Rattle.notation.specs.declared.entry.Kind.TheVariants.{Bat, Nb, Wide}
 use Rattle.notation.specs.declared.entry.How.TheVariants.{Bowled}

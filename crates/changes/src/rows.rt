@@ -3,13 +3,14 @@
 ghost use Rattle.std.specs.Prelude.{◌≡◌, OnOk};
 ghost use Rattle.match_laws.specs.Stands.{ForEachHistory};
 ghost use Rattle.streams.specs.Watched.{Prints, TellsFailure};
-ghost use Rattle.changes.specs.Stage.{ForBoth};
+ghost use Rattle.changes.specs.Stage.{ForStages};
 ghost use Rattle.changes.specs.Rows as rows;
 
 use crate::change::{Change, Part};
 use crate::differs::is_same_wides;
 use crate::results::print_results;
 use crate::stage::{Batter, Total, batting_in, bowling_in, striker, total_in};
+use crate::stages::Stages;
 use crate::told::{Told, print_joined};
 use cards::MatchSheet;
 use match_laws::{BattingRow, BowlingRow, Match};
@@ -181,33 +182,36 @@ fn print_strike<W: Sink>(
 /// Prints what differs of a side's player in an innings.
 fn print_part<W: Sink>(
     out: &mut Watched<W>,
-    sheet: &MatchSheet,
+    stages: Stages<'_>,
     part: Part,
-    was: &Match,
-    now: &Match,
     innings: usize,
     side: Side,
     player: Player,
 ) -> Result<(), WriteFailed>
-    ensures text { ForBoth was.now now.now (λ w n. OnOk result (Prints W.contents out.old out.new
-        (rows.part_row sheet.now part w n innings side player))) }
+    ensures text { ForStages stages.entry (λ s w n. OnOk result (Prints W.contents out.old out.new
+        (rows.part_row s part w n innings side player))) }
     ensures failed { TellsFailure result out.old out.new }
 {
-    let first = lead(now, innings);
+    let Stages {
+        sheet,
+        before,
+        after,
+    } = stages;
+    let first = lead(after, innings);
     match part {
         Part::Fate => {
-            let then = batting_in(was, innings, side, player);
-            let row = batting_in(now, innings, side, player);
+            let then = batting_in(before, innings, side, player);
+            let row = batting_in(after, innings, side, player);
             print_fates(out, sheet, first, side, player, &then, &row)
         }
         Part::Figures => {
-            let then = batting_in(was, innings, side, player);
-            let row = batting_in(now, innings, side, player);
+            let then = batting_in(before, innings, side, player);
+            let row = batting_in(after, innings, side, player);
             print_batter(out, sheet, first, side, player, &then, &row)
         }
         Part::Bowling => {
-            let then = bowling_in(was, innings, side, player);
-            let row = bowling_in(now, innings, side, player);
+            let then = bowling_in(before, innings, side, player);
+            let row = bowling_in(after, innings, side, player);
             print_bowler(out, sheet, first, side, player, &then, &row)
         }
     }
@@ -216,28 +220,31 @@ fn print_part<W: Sink>(
 /// Prints the row of what differs.
 pub fn print_change<W: Sink>(
     out: &mut Watched<W>,
-    sheet: &MatchSheet,
-    was: &Match,
-    now: &Match,
+    stages: Stages<'_>,
     change: &Change,
 ) -> Result<(), WriteFailed>
-    ensures text { ForBoth was.now now.now (λ w n. OnOk result (Prints W.contents out.old out.new
-        (rows.row sheet.now w n change.now))) }
+    ensures text { ForStages stages.entry (λ s w n. OnOk result (Prints W.contents out.old out.new
+        (rows.row s w n change.now))) }
     ensures failed { TellsFailure result out.old out.new }
 {
+    let Stages {
+        sheet,
+        before,
+        after,
+    } = stages;
     match *change {
         Change::Player(part, innings, side, player) => {
-            print_part(out, sheet, part, was, now, innings, side, player)
+            print_part(out, stages, part, innings, side, player)
         }
         Change::Total(innings, side) => print_totals(
             out,
             sheet,
-            lead(now, innings),
+            lead(after, innings),
             side,
-            total_in(was, innings, side),
-            total_in(now, innings, side),
+            total_in(before, innings, side),
+            total_in(after, innings, side),
         ),
-        Change::Result => print_results(out, sheet, was.result(), now.result()),
-        Change::Strike => print_strike(out, sheet, striker(was), striker(now)),
+        Change::Result => print_results(out, sheet, before.result(), after.result()),
+        Change::Strike => print_strike(out, sheet, striker(before), striker(after)),
     }
 }

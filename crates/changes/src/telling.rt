@@ -6,7 +6,7 @@ ghost use Rattle.ball_laws.specs.Over.{numbers as all_numbers};
 ghost use Rattle.streams.specs.Watched.{Prints, TellsFailure};
 ghost use Rattle.changes.specs.declared.change.Change.TheVariants as kinds;
 ghost use Rattle.changes.specs.Changes as changes;
-ghost use Rattle.changes.specs.Stage.{ForBoth};
+ghost use Rattle.changes.specs.Stage.{ForStages};
 ghost use Rattle.changes.specs.Text as texts;
 ghost use Rattle.changes.specs.inner.Telling.{Tells};
 ghost use Rattle.notation.specs.Written.{is_player};
@@ -15,9 +15,9 @@ use crate::before::score_before;
 use crate::change::{Change, Part};
 use crate::differs::differs;
 use crate::rows::print_change;
+use crate::stages::Stages;
 use cards::MatchSheet;
 use corrections::BookOf;
-use match_laws::Match;
 use notation::{Player, Side};
 use streams::{Sink, Watched, WriteFailed};
 
@@ -27,23 +27,21 @@ const MOST: u32 = 6;
 /// Tells this change where it differs and fewer than six were told, and answers how many differ with it.
 fn tell<W: Sink>(
     out: &mut Watched<W>,
-    sheet: &MatchSheet,
-    was: &Match,
-    now: &Match,
+    stages: Stages<'_>,
     told: u32,
     change: &Change,
 ) -> Result<u32, WriteFailed>
     requires { told ≤ 1000 }
-    ensures text { ForBoth was.now now.now (λ w n.
-        Tells W.contents out.old out.new result sheet.now w n told (change.now ∷ [])) }
+    ensures text { ForStages stages.entry (λ s w n.
+        Tells W.contents out.old out.new result s w n told (change.now ∷ [])) }
     ensures most { IfOk result (λ count. count ≤ told + 1) }
     ensures failed { TellsFailure result out.old out.new }
 {
-    if !differs(was, now, change) {
+    if !differs(stages.before, stages.after, change) {
         return Ok(told);
     }
     if told < MOST {
-        print_change(out, sheet, was, now, change)?;
+        print_change(out, stages, change)?;
     }
     Ok(told + 1)
 }
@@ -51,9 +49,7 @@ fn tell<W: Sink>(
 /// The same of these players of a side, in an innings.
 fn tell_players<W: Sink>(
     out: &mut Watched<W>,
-    sheet: &MatchSheet,
-    was: &Match,
-    now: &Match,
+    stages: Stages<'_>,
     told: u32,
     part: Part,
     innings: usize,
@@ -62,7 +58,7 @@ fn tell_players<W: Sink>(
 ) -> Result<u32, WriteFailed>
     requires numbers { list_all is_player numbers.now ≡ true }
     requires room { told + length numbers.now ≤ 1000 }
-    ensures text { ForBoth was.now now.now (λ w n. Tells W.contents out.old out.new result sheet.now w n told
+    ensures text { ForStages stages.entry (λ s w n. Tells W.contents out.old out.new result s w n told
         (changes.of_players part innings side numbers.now)) }
     ensures most { IfOk result (λ count. count ≤ told + length numbers.now) }
     ensures failed { TellsFailure result out.old out.new }
@@ -74,32 +70,28 @@ fn tell_players<W: Sink>(
         return Ok(told);
     };
     let change = Change::Player(part, innings, side, player);
-    let told = tell(out, sheet, was, now, told, &change)?;
-    tell_players(out, sheet, was, now, told, part, innings, side, more)
+    let told = tell(out, stages, told, &change)?;
+    tell_players(out, stages, told, part, innings, side, more)
 }
 
 /// The same of all players of a side.
 fn tell_side<W: Sink>(
     out: &mut Watched<W>,
-    sheet: &MatchSheet,
-    was: &Match,
-    now: &Match,
+    stages: Stages<'_>,
     told: u32,
     part: Part,
     innings: usize,
     side: Side,
 ) -> Result<u32, WriteFailed>
     requires { told ≤ 900 }
-    ensures text { ForBoth was.now now.now (λ w n. Tells W.contents out.old out.new result sheet.now w n told
+    ensures text { ForStages stages.entry (λ s w n. Tells W.contents out.old out.new result s w n told
         (changes.of_players part innings side all_numbers)) }
     ensures most { IfOk result (λ count. count ≤ told + 11) }
     ensures failed { TellsFailure result out.old out.new }
 {
     tell_players(
         out,
-        sheet,
-        was,
-        now,
+        stages,
         told,
         part,
         innings,
@@ -111,131 +103,102 @@ fn tell_side<W: Sink>(
 /// The same of all players of both sides.
 fn tell_sides<W: Sink>(
     out: &mut Watched<W>,
-    sheet: &MatchSheet,
-    was: &Match,
-    now: &Match,
+    stages: Stages<'_>,
     told: u32,
     part: Part,
     innings: usize,
 ) -> Result<u32, WriteFailed>
     requires { told ≤ 800 }
-    ensures text { ForBoth was.now now.now (λ w n. Tells W.contents out.old out.new result sheet.now w n told
+    ensures text { ForStages stages.entry (λ s w n. Tells W.contents out.old out.new result s w n told
         (changes.of_sides part innings)) }
     ensures most { IfOk result (λ count. count ≤ told + 22) }
     ensures failed { TellsFailure result out.old out.new }
 {
-    let told = tell_side(out, sheet, was, now, told, part, innings, Side::Home)?;
-    tell_side(out, sheet, was, now, told, part, innings, Side::Away)
+    let told = tell_side(out, stages, told, part, innings, Side::Home)?;
+    tell_side(out, stages, told, part, innings, Side::Away)
 }
 
 /// The same in each innings that a match can have.
 fn tell_part<W: Sink>(
     out: &mut Watched<W>,
-    sheet: &MatchSheet,
-    was: &Match,
-    now: &Match,
+    stages: Stages<'_>,
     told: u32,
     part: Part,
 ) -> Result<u32, WriteFailed>
     requires { told ≤ 600 }
-    ensures text { ForBoth was.now now.now (λ w n. Tells W.contents out.old out.new result sheet.now w n told
+    ensures text { ForStages stages.entry (λ s w n. Tells W.contents out.old out.new result s w n told
         (changes.in_all (changes.of_sides part))) }
     ensures most { IfOk result (λ count. count ≤ told + 88) }
     ensures failed { TellsFailure result out.old out.new }
 {
-    let told = tell_sides(out, sheet, was, now, told, part, 0)?;
-    let told = tell_sides(out, sheet, was, now, told, part, 1)?;
-    let told = tell_sides(out, sheet, was, now, told, part, 2)?;
-    tell_sides(out, sheet, was, now, told, part, 3)
+    let told = tell_sides(out, stages, told, part, 0)?;
+    let told = tell_sides(out, stages, told, part, 1)?;
+    let told = tell_sides(out, stages, told, part, 2)?;
+    tell_sides(out, stages, told, part, 3)
 }
 
 /// Tells the totals of both sides in an innings that differ.
 fn tell_totals<W: Sink>(
     out: &mut Watched<W>,
-    sheet: &MatchSheet,
-    was: &Match,
-    now: &Match,
+    stages: Stages<'_>,
     told: u32,
     innings: usize,
 ) -> Result<u32, WriteFailed>
     requires { told ≤ 900 }
-    ensures text { ForBoth was.now now.now (λ w n. Tells W.contents out.old out.new result sheet.now w n told
+    ensures text { ForStages stages.entry (λ s w n. Tells W.contents out.old out.new result s w n told
         (changes.of_totals innings)) }
     ensures most { IfOk result (λ count. count ≤ told + 2) }
     ensures failed { TellsFailure result out.old out.new }
 {
-    let told = tell(
-        out,
-        sheet,
-        was,
-        now,
-        told,
-        &Change::Total(innings, Side::Home),
-    )?;
-    tell(
-        out,
-        sheet,
-        was,
-        now,
-        told,
-        &Change::Total(innings, Side::Away),
-    )
+    let told = tell(out, stages, told, &Change::Total(innings, Side::Home))?;
+    tell(out, stages, told, &Change::Total(innings, Side::Away))
 }
 
 /// The same in each innings that a match can have.
 fn tell_all_totals<W: Sink>(
     out: &mut Watched<W>,
-    sheet: &MatchSheet,
-    was: &Match,
-    now: &Match,
+    stages: Stages<'_>,
     told: u32,
 ) -> Result<u32, WriteFailed>
     requires { told ≤ 800 }
-    ensures text { ForBoth was.now now.now (λ w n. Tells W.contents out.old out.new result sheet.now w n told
+    ensures text { ForStages stages.entry (λ s w n. Tells W.contents out.old out.new result s w n told
         (changes.in_all changes.of_totals)) }
     ensures most { IfOk result (λ count. count ≤ told + 8) }
     ensures failed { TellsFailure result out.old out.new }
 {
-    let told = tell_totals(out, sheet, was, now, told, 0)?;
-    let told = tell_totals(out, sheet, was, now, told, 1)?;
-    let told = tell_totals(out, sheet, was, now, told, 2)?;
-    tell_totals(out, sheet, was, now, told, 3)
+    let told = tell_totals(out, stages, told, 0)?;
+    let told = tell_totals(out, stages, told, 1)?;
+    let told = tell_totals(out, stages, told, 2)?;
+    tell_totals(out, stages, told, 3)
 }
 
 /// Tells whether the result and the strike differ.
 fn tell_match<W: Sink>(
     out: &mut Watched<W>,
-    sheet: &MatchSheet,
-    was: &Match,
-    now: &Match,
+    stages: Stages<'_>,
     told: u32,
 ) -> Result<u32, WriteFailed>
     requires { told ≤ 900 }
-    ensures text { ForBoth was.now now.now (λ w n. Tells W.contents out.old out.new result sheet.now w n told
+    ensures text { ForStages stages.entry (λ s w n. Tells W.contents out.old out.new result s w n told
         (kinds.Result ∷ kinds.Strike ∷ [])) }
     ensures most { IfOk result (λ count. count ≤ told + 2) }
     ensures failed { TellsFailure result out.old out.new }
 {
-    let told = tell(out, sheet, was, now, told, &Change::Result)?;
-    tell(out, sheet, was, now, told, &Change::Strike)
+    let told = tell(out, stages, told, &Change::Result)?;
+    tell(out, stages, told, &Change::Strike)
 }
 
 /// Tells the first six of all that differs, and answers how much does.
-fn tell_all<W: Sink>(
-    out: &mut Watched<W>,
-    sheet: &MatchSheet,
-    was: &Match,
-    now: &Match,
-) -> Result<u32, WriteFailed>
-    ensures text { ForBoth was.now now.now (λ w n.
-        Tells W.contents out.old out.new result sheet.now w n 0 changes.all_changes) }
+fn tell_all<W: Sink>(out: &mut Watched<W>, stages: Stages<'_>) -> Result<u32, WriteFailed>
+    ensures text { ForStages stages.entry (λ s w n.
+        Tells W.contents out.old out.new result s w n 0 changes.all_changes) }
     ensures failed { TellsFailure result out.old out.new }
 {
-    let told = tell_part(out, sheet, was, now, 0, Part::Fate)?;
-    let told = tell_all_totals(out, sheet, was, now, told)?;
-    let told = tell_match(out, sheet, was, now, told)?;
-    let told = tell_part(out, sheet, was, now, told, Part::Figures)?;
-    tell_part(out, sheet, was, now, told, Part::Bowling)
+    let told = tell_part(out, stages, 0, Part::Fate)?;
+    let told = tell_all_totals(out, stages, told)?;
+    let told = tell_match(out, stages, told)?;
+    let told = tell_part(out, stages, told, Part::Figures)?;
+    tell_part(out, stages, told, Part::Bowling)
 }
 
 /// Prints how many more there are than the six that are told.
@@ -251,17 +214,12 @@ fn print_more<W: Sink>(out: &mut Watched<W>, count: u32) -> Result<(), WriteFail
 }
 
 /// Prints what differs between two stages of a match: a row for each of the first six, and how many more there are.
-pub fn print_changes<W: Sink>(
-    out: &mut Watched<W>,
-    sheet: &MatchSheet,
-    was: &Match,
-    now: &Match,
-) -> Result<(), WriteFailed>
-    ensures text { ForBoth was.now now.now (λ w n.
-        OnOk result (Prints W.contents out.old out.new (texts.changes_text sheet.now w n))) }
+pub fn print_changes<W: Sink>(out: &mut Watched<W>, stages: Stages<'_>) -> Result<(), WriteFailed>
+    ensures text { ForStages stages.entry (λ s w n.
+        OnOk result (Prints W.contents out.old out.new (texts.changes_text s w n))) }
     ensures failed { TellsFailure result out.old out.new }
 {
-    let count = tell_all(out, sheet, was, now)?;
+    let count = tell_all(out, stages)?;
     print_more(out, count)
 }
 
@@ -277,6 +235,13 @@ pub fn print_last_changes<W: Sink, B: BookOf>(
 {
     match score_before(book) {
         None => Ok(()),
-        Some(was) => print_changes(out, sheet, &was, book.score()),
+        Some(before) => {
+            let stages = Stages {
+                sheet,
+                before: &before,
+                after: book.score(),
+            };
+            print_changes(out, stages)
+        }
     }
 }

@@ -17,7 +17,7 @@ returns-clause-text g c = λ m old was n new now.
     let v : Stage = record { innings_a_side = n; history = new } in
     let told = c.in_ok-count.ensures.text m old was n new now in
     let text = subst (Appends (g.W.Sink.contents (stream_of c.args.out.now)) (g.W.Sink.contents (stream_of c.tell_all.new.out)))
-    (rows-filter (differs w v) (row c.args.sheet.now w v) 0 all_changes) told.1 in
+    (rows-filter (differs w v) (row c.args.stages.sheet.now w v) 0 all_changes) told.1 in
     let count : c.in_ok-count.count ≡ length (filter (differs w v) all_changes) =
     (let same = number-filter (differs w v) all_changes in omega (arith, told.0, same)) in
     appends_last c.print_more.result _ _ _ _ _ text (rw (← count) c.print_more.ensures.text)
