@@ -5,9 +5,11 @@ ghost use Rattle.ball_laws.specs.Runs.{all_runs, is_six, split_of_ball};
 ghost use Rattle.match_laws.specs.Figures.{is_four};
 ghost use Rattle.json_fields.specs.Values.{PutsFields, PutsValues, count_field};
 ghost use Rattle.archive_deliveries.specs.Deliveries as deliveries;
+ghost use Rattle.archive_deliveries.specs.Innings.{of, with};
 ghost use Rattle.archive_deliveries.specs.Notes as notes;
 
 use crate::begun::Begun;
+use crate::innings::{Carrier, NamedInnings};
 use crate::named::NamedSheet;
 use crate::notes::{Noted, is_awarded};
 use crate::wickets::{put_batter, put_wickets};
@@ -176,22 +178,21 @@ fn put_players(
 /// Puts a delivery, with what it carries: these penalty runs, and who went before it and behind it.
 fn put_delivery(
     out: &mut Pretty,
-    sheet: &NamedSheet<'_>,
-    side: Side,
+    innings: NamedInnings<'_>,
     penalty: u64,
-    early: &[Noted],
-    ends: &Ends,
     ball: &Ball,
-    late: &[Noted],
+    carrier: Carrier<'_>,
 ) -> Result<(), AllocError>
-    ensures { PutsValues result out.old out.new
-        (deliveries.delivery_of sheet.now side penalty early.now ends.now ball.now late.now ∷ []) }
+    ensures { PutsValues result out.old out.new (of innings.entry (λ s side f i. with carrier.entry (λ early noted late.
+        deliveries.delivery_of s side penalty early noted.ends ball.now late)) ∷ []) }
 {
+    let NamedInnings { sheet, side, .. } = innings;
+    let Carrier { early, noted, late } = carrier;
     let split = runs_of(ball);
     begin_object(out)?;
-    put_players(out, sheet, side, ends, ball.bowler)?;
+    put_players(out, sheet, side, &noted.ends, ball.bowler)?;
     put_runs(out, &split, is_run(ball, &split), penalty)?;
-    put_wickets(out, sheet, side, early, ends, ball, late)?;
+    put_wickets(out, sheet, side, early, &noted.ends, ball, late)?;
     put_extras(out, &split, penalty)?;
     end_object(out)
 }
@@ -199,22 +200,16 @@ fn put_delivery(
 /// Puts what is listed of an item: a delivery.
 pub fn put_listed(
     out: &mut Pretty,
-    sheet: &NamedSheet<'_>,
-    side: Side,
-    begun: &Begun,
-    innings: usize,
-    early: &[Noted],
-    noted: &Noted,
-    late: &[Noted],
+    innings: NamedInnings<'_>,
+    carrier: Carrier<'_>,
 ) -> Result<(), AllocError>
-    ensures { PutsValues result out.old out.new
-        (deliveries.listed sheet.now side begun.now innings early.now noted.now late.now) }
+    ensures { PutsValues result out.old out.new (with carrier.entry (of innings.entry deliveries.listed)) }
 {
-    match &noted.item {
+    match &carrier.noted.item {
         Plain::Ball(ball) => {
-            let penalty = penalties(begun, innings, late)?;
-            put_delivery(out, sheet, side, penalty, early, &noted.ends, ball, late)
-        },
+            let penalty = penalties(innings.begun, innings.index, carrier.late)?;
+            put_delivery(out, innings, penalty, ball, carrier)
+        }
         Plain::Innings(_)
         | Plain::Come(_)
         | Plain::Gone(..)

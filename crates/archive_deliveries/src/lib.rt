@@ -4,6 +4,7 @@
 
 mod begun;
 mod deliveries;
+mod innings;
 mod miscounts;
 mod named;
 mod notes;
@@ -11,6 +12,7 @@ mod wickets;
 
 pub use begun::Begun;
 pub use deliveries::{all_extras, is_run, penalties, plus, put_awarded, put_listed, whole_total};
+pub use innings::{Carrier, NamedInnings};
 pub use miscounts::put_miscounts;
 pub use named::NamedSheet;
 pub use notes::{Noted, carried, is_ball, items_in, noted_at, notes_of};

@@ -1,8 +1,9 @@
--- What the public calls claim: Table with all that it cites (Cells, Day, Standing, Deliveries, Penalties), and Laws.
+-- What the public calls claim: Table with all that it cites (Cells, Day, Standing, Deliveries, Innings, Penalties), and Laws.
 pub mod Cells
 pub mod Day
 pub mod Standing
 pub mod Deliveries
+pub mod Innings
 pub mod Penalties
 pub mod Table
 pub mod Laws

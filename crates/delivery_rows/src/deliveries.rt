@@ -3,16 +3,19 @@
 ghost use Rattle.std.specs.Prelude.{◌≡◌, ◌++◌, ◌∷◌, [], IfOk};
 ghost use Rattle.ball_laws.specs.Runs.{split_of_ball};
 ghost use Rattle.archive_deliveries.specs.Deliveries.{is_run};
+ghost use Rattle.archive_deliveries.specs.Innings.{with};
 ghost use Rattle.delivery_rows.specs.Cells.{PutsCells, rows_text};
+ghost use Rattle.delivery_rows.specs.Innings.{of};
 ghost use Rattle.delivery_rows.specs.Standing.{after};
 ghost use Rattle.delivery_rows.specs.Deliveries as rows;
 
 use crate::cells::Cells;
 use crate::gone::put_others;
 use crate::standing::Standing;
+use crate::table_innings::TableInnings;
 use archive_deliveries::{
-    Begun, NamedSheet, Noted, all_extras, fielder_name, how_words, is_own, is_run, penalties, plus,
-    whole_total,
+    Carrier, NamedInnings, NamedSheet, Noted, all_extras, fielder_name, how_words, is_own, is_run,
+    penalties, plus, whole_total,
 };
 use ball_laws::{Ends, runs_of};
 use match_laws::opponent;
@@ -23,16 +26,19 @@ use std::alloc::{AllocError, Global};
 pub fn put_innings(
     alloc: Global,
     out: &mut Cells,
-    sheet: &NamedSheet<'_>,
-    day: &str,
-    side: Side,
-    innings: usize,
+    innings: TableInnings<'_>,
 ) -> Result<(), AllocError>
-    ensures { PutsCells result out.old out.new (rows.innings_cells sheet.now day.now side innings) }
+    ensures { PutsCells result out.old out.new (of innings.entry (λ s day side f i. rows.innings_cells s day side i)) }
 {
+    let NamedInnings {
+        sheet,
+        side,
+        index,
+        ..
+    } = innings.named;
     out.put_figure(sheet.game())?;
-    out.put_text(alloc, day.as_bytes())?;
-    out.put_figure(plus(innings as u64, 1)?)?;
+    out.put_text(alloc, innings.day.as_bytes())?;
+    out.put_figure(plus(index as u64, 1)?)?;
     out.put_text(alloc, sheet.name(side).as_bytes())?;
     out.put_text(alloc, sheet.name(opponent(side)).as_bytes())
 }
@@ -210,22 +216,19 @@ fn put_standing(out: &mut Cells, now: &Standing) -> Result<(), AllocError>
 /// The cells of a delivery, after which the innings stands so.
 fn delivery_cells(
     alloc: Global,
-    sheet: &NamedSheet<'_>,
-    day: &str,
-    side: Side,
-    innings: usize,
+    innings: TableInnings<'_>,
     now: &Standing,
     penalty: u64,
-    early: &[Noted],
-    noted: &Noted,
     ball: &Ball,
-    late: &[Noted],
+    carrier: Carrier<'_>,
 ) -> Result<Cells, AllocError>
-    ensures { IfOk result (λ row. row ≡ rows.delivery_row sheet.now day.now side innings
-        now.now penalty early.now noted.now.place noted.now.ends ball.now late.now) }
+    ensures { IfOk result (λ row. row ≡ of innings.entry (λ s day side f i. with carrier.entry (λ early noted late.
+        rows.delivery_row s day side i now.now penalty early noted.place noted.ends ball.now late))) }
 {
+    let Carrier { early, noted, late } = carrier;
+    let NamedInnings { sheet, side, .. } = innings.named;
     let mut row = Cells::new(alloc);
-    put_innings(alloc, &mut row, sheet, day, side, innings)?;
+    put_innings(alloc, &mut row, innings)?;
     put_place(&mut row, now, noted.place)?;
     put_ball(alloc, &mut row, sheet, side, penalty, &noted.ends, ball)?;
     put_others(alloc, &mut row, sheet, side, early, late)?;
@@ -233,29 +236,29 @@ fn delivery_cells(
     Ok(row)
 }
 
-/// Puts the row of a delivery, and gives how the innings stands after it.
+/// Puts the row of a delivery, with the penalty runs that it carries, and gives how the innings stands after it.
 fn put_delivery(
     alloc: Global,
     out: &mut Vec<u8>,
-    sheet: &NamedSheet<'_>,
-    day: &str,
-    side: Side,
-    innings: usize,
+    innings: TableInnings<'_>,
     before: Standing,
     penalty: u64,
-    early: &[Noted],
-    noted: &Noted,
     ball: &Ball,
-    late: &[Noted],
+    carrier: Carrier<'_>,
 ) -> Result<Standing, AllocError>
-    ensures next { IfOk result (λ now. now ≡ after before penalty early.now noted.now.over ball.now late.now) }
+    ensures next { IfOk result (λ now. now ≡ with carrier.entry (λ early noted late. after before penalty early noted.over ball.now late)) }
     ensures row { IfOk result (λ now. out.new.items ≡ out.old.items ++ rows_text
-        (rows.delivery_row sheet.now day.now side innings now penalty early.now noted.now.place noted.now.ends ball.now late.now ∷ [])) }
+        (of innings.entry (λ s day side f i. with carrier.entry (λ early noted late.
+        rows.delivery_row s day side i now penalty early noted.place noted.ends ball.now late)) ∷ [])) }
 {
-    let now = before.after(penalty, early, noted.over, ball, late)?;
-    let row = delivery_cells(
-        alloc, sheet, day, side, innings, &now, penalty, early, noted, ball, late,
+    let now = before.after(
+        penalty,
+        carrier.early,
+        carrier.noted.over,
+        ball,
+        carrier.late,
     )?;
+    let row = delivery_cells(alloc, innings, &now, penalty, ball, carrier)?;
     row.print(alloc, out)?;
     Ok(now)
 }
@@ -264,26 +267,17 @@ fn put_delivery(
 pub fn put_item(
     alloc: Global,
     out: &mut Vec<u8>,
-    sheet: &NamedSheet<'_>,
-    day: &str,
-    side: Side,
-    begun: &Begun,
-    innings: usize,
+    innings: TableInnings<'_>,
     before: Standing,
-    early: &[Noted],
-    noted: &Noted,
-    late: &[Noted],
+    carrier: Carrier<'_>,
 ) -> Result<Standing, AllocError>
-    ensures next { IfOk result (λ now. now ≡ rows.next begun.now innings before early.now noted.now late.now) }
-    ensures rows { IfOk result (λ now. out.new.items ≡ out.old.items ++ rows_text
-        (rows.item_rows sheet.now day.now side begun.now innings now early.now noted.now late.now)) }
+    ensures next { IfOk result (λ now. now ≡ with carrier.entry (of innings.entry (λ s day side. rows.next) before)) }
+    ensures rows { IfOk result (λ now. out.new.items ≡ out.old.items ++ rows_text (with carrier.entry (of innings.entry rows.item_rows now))) }
 {
-    match &noted.item {
+    match &carrier.noted.item {
         Plain::Ball(ball) => {
-            let penalty = penalties(begun, innings, late)?;
-            put_delivery(
-                alloc, out, sheet, day, side, innings, before, penalty, early, noted, ball, late,
-            )
+            let penalty = penalties(innings.named.begun, innings.named.index, carrier.late)?;
+            put_delivery(alloc, out, innings, before, penalty, ball, carrier)
         }
         Plain::Innings(_)
         | Plain::Come(_)

@@ -6,13 +6,16 @@ ghost use Rattle.archive_deliveries.specs.Notes as notes;
 ghost use Rattle.archive_deliveries.specs.Notes.{begun_of};
 ghost use Rattle.delivery_rows.specs.Cells.{PutsRows, rows_text};
 ghost use Rattle.delivery_rows.specs.Deliveries as rows;
+ghost use Rattle.delivery_rows.specs.Innings.{of};
 
 use crate::deliveries::put_item;
 use crate::standing::Standing;
-use archive_deliveries::{Begun, NamedSheet, Noted, carried, is_ball, items_in, noted_at};
+use crate::table_innings::TableInnings;
+use archive_deliveries::{
+    Begun, Carrier, NamedInnings, NamedSheet, Noted, carried, is_ball, items_in, noted_at,
+};
 use export::runs_before;
 use match_laws::Match;
-use notation::Side;
 use std::alloc::{AllocError, Global};
 
 /// Puts the row of a delivery with what it carries, the items from an index on up to the next one, and gives how the innings
@@ -20,52 +23,37 @@ use std::alloc::{AllocError, Global};
 fn put_carrier(
     alloc: Global,
     out: &mut Vec<u8>,
-    sheet: &NamedSheet<'_>,
-    day: &str,
-    side: Side,
-    begun: &Begun,
-    innings: usize,
+    innings: TableInnings<'_>,
     before: Standing,
     early: &[Noted],
     noted: &Noted,
     items: &[Noted],
     next: usize,
 ) -> Result<Standing, AllocError>
-    ensures next { IfOk result (λ now. now ≡ rows.next begun.now innings before early.now noted.now (notes.carried (drop next items.now))) }
+    ensures next { IfOk result (λ now. now ≡ of innings.entry (λ s day side. rows.next)
+        before early.now noted.now (notes.carried (drop next items.now))) }
     ensures rows { IfOk result (λ now. out.new.items ≡ out.old.items ++ rows_text
-        (rows.item_rows sheet.now day.now side begun.now innings now early.now noted.now (notes.carried (drop next items.now)))) }
+        (of innings.entry rows.item_rows now early.now noted.now (notes.carried (drop next items.now)))) }
 {
     let late = carried(alloc, items, next)?;
-    put_item(
-        alloc,
-        out,
-        sheet,
-        day,
-        side,
-        begun,
-        innings,
-        before,
+    let carrier = Carrier {
         early,
         noted,
-        late.as_slice(),
-    )
+        late: late.as_slice(),
+    };
+    put_item(alloc, out, innings, before, carrier)
 }
 
 /// Puts the rows of these items, of which the first delivery carries those too, and before which the innings stands so.
 fn put_rows(
     alloc: Global,
     out: &mut Vec<u8>,
-    sheet: &NamedSheet<'_>,
-    day: &str,
-    side: Side,
-    begun: &Begun,
-    innings: usize,
+    innings: TableInnings<'_>,
     start: Standing,
     first: &[Noted],
     items: &[Noted],
 ) -> Result<(), AllocError>
-    ensures { PutsRows result out.old.items out.new.items
-        (rows.rows_from sheet.now day.now side begun.now innings start first.now items.now) }
+    ensures { PutsRows result out.old.items out.new.items (of innings.entry rows.rows_from start first.now items.now) }
 {
     let mut early = first;
     let mut standing = start;
@@ -75,10 +63,6 @@ fn put_rows(
             standing = put_carrier(
                 alloc,
                 out,
-                sheet,
-                day,
-                side,
-                begun,
                 innings,
                 standing,
                 early,
@@ -96,77 +80,53 @@ fn put_rows(
 fn put_items(
     alloc: Global,
     out: &mut Vec<u8>,
-    sheet: &NamedSheet<'_>,
-    day: &str,
-    side: Side,
-    begun: &Begun,
-    innings: usize,
+    innings: TableInnings<'_>,
     before: u64,
     items: &[Noted],
 ) -> Result<(), AllocError>
-    ensures { PutsRows result out.old.items out.new.items
-        (rows.rows_of sheet.now day.now side begun.now innings before items.now) }
+    ensures { PutsRows result out.old.items out.new.items (of innings.entry rows.rows_of before items.now) }
 {
     let first = carried(alloc, items, 0)?;
-    put_rows(
-        alloc,
-        out,
-        sheet,
-        day,
-        side,
-        begun,
-        innings,
-        Standing::beginning(before),
-        first.as_slice(),
-        items,
-    )
+    let start = Standing::beginning(before);
+    put_rows(alloc, out, innings, start, first.as_slice(), items)
 }
 
 /// Puts the rows of an innings. notes are the items of all innings.
 fn put_innings(
     alloc: Global,
     out: &mut Vec<u8>,
-    sheet: &NamedSheet<'_>,
-    day: &str,
-    side: Side,
-    begun: &Begun,
-    innings: usize,
+    innings: TableInnings<'_>,
     notes: &[Noted],
 ) -> Result<(), AllocError>
-    ensures { PutsRows result out.old.items out.new.items
-        (rows.side_rows sheet.now day.now side begun.now innings notes.now) }
+    ensures { PutsRows result out.old.items out.new.items (of innings.entry rows.side_rows notes.now) }
 {
-    let items = items_in(alloc, innings, notes)?;
-    let before = runs_before(alloc, begun, innings, items.as_slice(), notes)?;
-    put_items(
-        alloc,
-        out,
-        sheet,
-        day,
-        side,
-        begun,
-        innings,
-        before,
-        items.as_slice(),
-    )
+    let NamedInnings { begun, index, .. } = innings.named;
+    let items = items_in(alloc, index, notes)?;
+    let before = runs_before(alloc, begun, index, items.as_slice(), notes)?;
+    put_items(alloc, out, innings, before, items.as_slice())
 }
 
 /// Puts the rows of each innings that has begun.
-pub fn put_all(
+pub fn put_all<'m>(
     alloc: Global,
     out: &mut Vec<u8>,
-    sheet: &NamedSheet<'_>,
-    day: &str,
+    sheet: &'m NamedSheet<'m>,
+    day: &'m str,
     score: &Match,
-    begun: &Begun,
+    begun: &'m Begun,
     notes: &[Noted],
 ) -> Result<(), AllocError>
     ensures { ForEachHistory score.now (λ n h. begun.now ≡ begun_of h
         → PutsRows result out.old.items out.new.items (rows.all_rows sheet.now day.now h notes.now)) }
 {
-    for innings in 0..score.begun() {
-        let side = score.side(innings);
-        put_innings(alloc, out, sheet, day, side, begun, innings, notes)?;
+    for index in 0..score.begun() {
+        let named = NamedInnings {
+            sheet,
+            side: score.side(index),
+            begun,
+            index,
+        };
+        put_innings(alloc, out, TableInnings { named, day }, notes)?;
     }
     Ok(())
 }

@@ -11,6 +11,7 @@ mod laws;
 mod penalties;
 mod standing;
 mod table;
+mod table_innings;
 
 pub use laws::{no_cell_is_a_formula, rows_are_deliveries, rows_read_back};
 pub use table::{Table, table_of};

@@ -4,35 +4,33 @@ ghost use Rattle.std.specs.Prelude.{◌≡◌};
 ghost use Rattle.match_laws.specs.Stands.{ForEachHistory};
 ghost use Rattle.archive_deliveries.specs.Notes.{begun_of};
 ghost use Rattle.delivery_rows.specs.Cells.{PutsRows};
+ghost use Rattle.delivery_rows.specs.Innings.{of};
 ghost use Rattle.delivery_rows.specs.Penalties as rows;
 
 use crate::cells::Cells;
 use crate::deliveries::put_innings;
-use archive_deliveries::{Begun, NamedSheet, Noted, items_in};
+use crate::table_innings::TableInnings;
+use archive_deliveries::{Begun, NamedInnings, NamedSheet, Noted, items_in};
 use export::{runs_after, runs_before};
 use match_laws::Match;
-use notation::Side;
 use std::alloc::{AllocError, Global};
 
 /// Puts the row of penalty runs that were awarded at this time, where there are any.
 fn put_award(
     alloc: Global,
     out: &mut Vec<u8>,
-    sheet: &NamedSheet<'_>,
-    day: &str,
-    side: Side,
-    innings: usize,
+    innings: TableInnings<'_>,
     awarded: &str,
     runs: u64,
 ) -> Result<(), AllocError>
     ensures { PutsRows result out.old.items out.new.items
-        (rows.award_rows sheet.now day.now side innings awarded.now runs) }
+        (of innings.entry (λ s day side f i. rows.award_rows s day side i awarded.now runs)) }
 {
     if runs == 0 {
         return Ok(());
     }
     let mut row = Cells::new(alloc);
-    put_innings(alloc, &mut row, sheet, day, side, innings)?;
+    put_innings(alloc, &mut row, innings)?;
     row.put(awarded.as_bytes())?;
     row.put_figure(runs)?;
     row.print(alloc, out)
@@ -42,39 +40,40 @@ fn put_award(
 fn put_awards(
     alloc: Global,
     out: &mut Vec<u8>,
-    sheet: &NamedSheet<'_>,
-    day: &str,
-    side: Side,
-    begun: &Begun,
-    innings: usize,
+    innings: TableInnings<'_>,
     notes: &[Noted],
 ) -> Result<(), AllocError>
-    ensures { PutsRows result out.old.items out.new.items
-        (rows.side_penalties sheet.now day.now side begun.now innings notes.now) }
+    ensures { PutsRows result out.old.items out.new.items (of innings.entry rows.side_penalties notes.now) }
 {
-    let items = items_in(alloc, innings, notes)?;
-    let before = runs_before(alloc, begun, innings, items.as_slice(), notes)?;
-    let after = runs_after(alloc, begun, innings, notes)?;
-    put_award(alloc, out, sheet, day, side, innings, "pre", before)?;
-    put_award(alloc, out, sheet, day, side, innings, "post", after)
+    let NamedInnings { begun, index, .. } = innings.named;
+    let items = items_in(alloc, index, notes)?;
+    let before = runs_before(alloc, begun, index, items.as_slice(), notes)?;
+    let after = runs_after(alloc, begun, index, notes)?;
+    put_award(alloc, out, innings, "pre", before)?;
+    put_award(alloc, out, innings, "post", after)
 }
 
 /// Puts the rows of each innings that has begun.
-pub fn put_all(
+pub fn put_all<'m>(
     alloc: Global,
     out: &mut Vec<u8>,
-    sheet: &NamedSheet<'_>,
-    day: &str,
+    sheet: &'m NamedSheet<'m>,
+    day: &'m str,
     score: &Match,
-    begun: &Begun,
+    begun: &'m Begun,
     notes: &[Noted],
 ) -> Result<(), AllocError>
     ensures { ForEachHistory score.now (λ n h. begun.now ≡ begun_of h
         → PutsRows result out.old.items out.new.items (rows.all_penalties sheet.now day.now h notes.now)) }
 {
-    for innings in 0..score.begun() {
-        let side = score.side(innings);
-        put_awards(alloc, out, sheet, day, side, begun, innings, notes)?;
+    for index in 0..score.begun() {
+        let named = NamedInnings {
+            sheet,
+            side: score.side(index),
+            begun,
+            index,
+        };
+        put_awards(alloc, out, TableInnings { named, day }, notes)?;
     }
     Ok(())
 }

@@ -44,14 +44,14 @@ fn columns_of(table: Table) -> &'static str
 }
 
 /// Puts the rows of a table.
-fn put_rows(
+fn put_rows<'m>(
     alloc: Global,
     out: &mut Vec<u8>,
     table: Table,
-    sheet: &NamedSheet<'_>,
-    day: &str,
+    sheet: &'m NamedSheet<'m>,
+    day: &'m str,
     score: &Match,
-    begun: &Begun,
+    begun: &'m Begun,
     notes: &[Noted],
 ) -> Result<(), AllocError>
     ensures { ForEachHistory score.now (λ n h. begun.now ≡ begun_of h

@@ -4,21 +4,22 @@ ghost use Rattle.std.specs.Prelude.{◌≡◌, ◌<◌, ◌≤◌, ◌∷◌, []
 ghost use Rattle.match_laws.specs.Stands.{ForEachHistory, begun_in};
 ghost use Rattle.json_fields.specs.Values.{PutsFields, PutsValues, array_of};
 ghost use Rattle.export.specs.Innings as laws;
+ghost use Rattle.archive_deliveries.specs.Innings.{of};
 ghost use Rattle.archive_deliveries.specs.Notes.{begun_of, items_in};
 
 use crate::info::put_overs_told;
 use crate::overs::put_overs;
 use crate::powerplays::put_powerplays;
 use archive_deliveries::{
-    Begun, NamedSheet, Noted, carried, items_in, noted_at, penalties, plus, put_awarded,
-    put_miscounts,
+    Begun, NamedInnings, NamedSheet, Noted, carried, items_in, noted_at, penalties, plus,
+    put_awarded, put_miscounts,
 };
 use json::Pretty;
 use json_fields::{
     begin_array, begin_field, begin_object, end_array, end_object, put_figure, put_flag, put_text,
 };
 use match_laws::{Match, opponent};
-use notation::{Cause, Plain, Side};
+use notation::{Cause, Plain};
 use std::alloc::{AllocError, Global};
 
 fn is_declaration(item: &Plain) -> bool
@@ -203,17 +204,14 @@ fn put_rest(
 fn put_overs_field(
     alloc: Global,
     out: &mut Pretty,
-    sheet: &NamedSheet<'_>,
-    side: Side,
-    begun: &Begun,
-    innings: usize,
+    innings: NamedInnings<'_>,
     items: &[Noted],
 ) -> Result<(), AllocError>
     ensures { PutsFields result out.old out.new
-        ((codes "overs", array_of (laws.overs_of sheet.now side begun.now innings items.now)) ∷ []) }
+        ((codes "overs", array_of (of innings.entry laws.overs_of items.now)) ∷ []) }
 {
     begin_array(out, "overs")?;
-    put_overs(alloc, out, sheet, side, begun, innings, items)?;
+    put_overs(alloc, out, innings, items)?;
     end_array(out)
 }
 
@@ -234,9 +232,15 @@ fn put_innings(
         → PutsValues result out.old out.new (laws.innings_of sheet.now h notes.now innings ∷ [])) }
 {
     let side = score.side(innings);
+    let named = NamedInnings {
+        sheet,
+        side,
+        begun,
+        index: innings,
+    };
     begin_object(out)?;
     put_text(out, "team", sheet.name(side))?;
-    put_overs_field(alloc, out, sheet, side, begun, innings, items)?;
+    put_overs_field(alloc, out, named, items)?;
     put_rest(alloc, out, sheet, score, begun, items, notes, innings)?;
     end_object(out)
 }

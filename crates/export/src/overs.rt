@@ -4,59 +4,49 @@ ghost use Rattle.std.specs.Prelude.{◌≡◌, ◌&&◌, ◌==◌, not, ◌∷�
 ghost use Rattle.match_laws.specs.History.{is_at};
 ghost use Rattle.json_fields.specs.Values.{PutsFields, PutsValues, array_of};
 ghost use Rattle.archive_deliveries.specs.Deliveries.{listed};
+ghost use Rattle.archive_deliveries.specs.Innings.{of};
 ghost use Rattle.export.specs.Innings as laws;
 ghost use Rattle.archive_deliveries.specs.Notes as notes;
 
-use archive_deliveries::{Begun, NamedSheet, Noted, carried, is_ball, noted_at, put_listed};
+use archive_deliveries::{Carrier, NamedInnings, Noted, carried, is_ball, noted_at, put_listed};
 use json::Pretty;
 use json_fields::{begin_array, begin_object, end_array, end_object, put_figure};
-use notation::Side;
 use std::alloc::{AllocError, Global};
 
 /// Puts a delivery with what it carries: the items from an index on, up to the next one.
 fn put_carrier(
     alloc: Global,
     out: &mut Pretty,
-    sheet: &NamedSheet<'_>,
-    side: Side,
-    begun: &Begun,
-    innings: usize,
+    innings: NamedInnings<'_>,
     early: &[Noted],
     noted: &Noted,
     items: &[Noted],
     next: usize,
 ) -> Result<(), AllocError>
-    ensures { PutsValues result out.old out.new (listed sheet.now side begun.now innings early.now noted.now
+    ensures { PutsValues result out.old out.new (of innings.entry listed early.now noted.now
         (notes.carried (drop next items.now))) }
 {
     let late = carried(alloc, items, next)?;
-    put_listed(
-        out,
-        sheet,
-        side,
-        begun,
-        innings,
+    let carrier = Carrier {
         early,
         noted,
-        late.as_slice(),
-    )
+        late: late.as_slice(),
+    };
+    put_listed(out, innings, carrier)
 }
 
 /// Puts the deliveries of an over, from an index on, up to the first one of another over.
 fn put_deliveries(
     alloc: Global,
     out: &mut Pretty,
-    sheet: &NamedSheet<'_>,
-    side: Side,
-    begun: &Begun,
-    innings: usize,
+    innings: NamedInnings<'_>,
     over: u32,
     early: &[Noted],
     items: &[Noted],
     from: usize,
 ) -> Result<(), AllocError>
     ensures { PutsValues result out.old out.new
-        (laws.deliveries_from sheet.now side begun.now innings over early.now (drop from items.now)) }
+        (of innings.entry laws.deliveries_from over early.now (drop from items.now)) }
 {
     let mut before = early;
     for index in from..items.len() {
@@ -65,18 +55,7 @@ fn put_deliveries(
             if !is_of(&noted, over) {
                 return Ok(());
             }
-            put_carrier(
-                alloc,
-                out,
-                sheet,
-                side,
-                begun,
-                innings,
-                before,
-                &noted,
-                items,
-                index + 1,
-            )?;
+            put_carrier(alloc, out, innings, before, &noted, items, index + 1)?;
             before = &[];
         }
     }
@@ -87,22 +66,17 @@ fn put_deliveries(
 fn put_listing(
     alloc: Global,
     out: &mut Pretty,
-    sheet: &NamedSheet<'_>,
-    side: Side,
-    begun: &Begun,
-    innings: usize,
+    innings: NamedInnings<'_>,
     over: u32,
     early: &[Noted],
     items: &[Noted],
     from: usize,
 ) -> Result<(), AllocError>
     ensures { PutsFields result out.old out.new
-        ((codes "deliveries", array_of (laws.deliveries_from sheet.now side begun.now innings over early.now (drop from items.now))) ∷ []) }
+        ((codes "deliveries", array_of (of innings.entry laws.deliveries_from over early.now (drop from items.now))) ∷ []) }
 {
     begin_array(out, "deliveries")?;
-    put_deliveries(
-        alloc, out, sheet, side, begun, innings, over, early, items, from,
-    )?;
+    put_deliveries(alloc, out, innings, over, early, items, from)?;
     end_array(out)
 }
 
@@ -110,23 +84,18 @@ fn put_listing(
 fn put_over(
     alloc: Global,
     out: &mut Pretty,
-    sheet: &NamedSheet<'_>,
-    side: Side,
-    begun: &Begun,
-    innings: usize,
+    innings: NamedInnings<'_>,
     over: u32,
     early: &[Noted],
     items: &[Noted],
     from: usize,
 ) -> Result<(), AllocError>
     ensures { PutsValues result out.old out.new
-        (laws.over_of sheet.now side begun.now innings over early.now (drop from items.now) ∷ []) }
+        (of innings.entry laws.over_of over early.now (drop from items.now) ∷ []) }
 {
     begin_object(out)?;
     put_figure(out, "over", over)?;
-    put_listing(
-        alloc, out, sheet, side, begun, innings, over, early, items, from,
-    )?;
+    put_listing(alloc, out, innings, over, early, items, from)?;
     end_object(out)
 }
 
@@ -158,24 +127,19 @@ fn is_of(noted: &Noted, over: u32) -> bool
 fn put_all(
     alloc: Global,
     out: &mut Pretty,
-    sheet: &NamedSheet<'_>,
-    side: Side,
-    begun: &Begun,
-    innings: usize,
+    innings: NamedInnings<'_>,
     first: &[Noted],
     items: &[Noted],
 ) -> Result<(), AllocError>
     ensures { PutsValues result out.old out.new
-        (laws.overs_from sheet.now side begun.now innings None first.now items.now) }
+        (of innings.entry laws.overs_from None first.now items.now) }
 {
     let mut early = first;
     let mut before = None;
     for index in 0..items.len() {
         let noted = noted_at(items, index);
         if begins_over(before, &noted) {
-            put_over(
-                alloc, out, sheet, side, begun, innings, noted.over, early, items, index,
-            )?;
+            put_over(alloc, out, innings, noted.over, early, items, index)?;
             early = &[];
             before = Some(noted.over);
         }
@@ -187,24 +151,12 @@ fn put_all(
 pub fn put_overs(
     alloc: Global,
     out: &mut Pretty,
-    sheet: &NamedSheet<'_>,
-    side: Side,
-    begun: &Begun,
-    innings: usize,
+    innings: NamedInnings<'_>,
     items: &[Noted],
 ) -> Result<(), AllocError>
     ensures { PutsValues result out.old out.new
-        (laws.overs_of sheet.now side begun.now innings items.now) }
+        (of innings.entry laws.overs_of items.now) }
 {
     let first = carried(alloc, items, 0)?;
-    put_all(
-        alloc,
-        out,
-        sheet,
-        side,
-        begun,
-        innings,
-        first.as_slice(),
-        items,
-    )
+    put_all(alloc, out, innings, first.as_slice(), items)
 }

@@ -1,9 +1,10 @@
 use Rattle.std.proofs.Common.{◌≡◌, ◌++◌, drop, None}
 use Rattle.json_fields.specs.Values.{values_tokens}
+use Rattle.archive_deliveries.specs.Innings.{of}
 use Rattle.export.specs.Innings.{overs_from}
 use Rattle.export.proofs.overs.put_all.Given as goal
 
 -- what is put so far, with what is due from here on, is all that is due
 abbrev pub invariant-loop-index : goal.invariant-loop-index
-invariant-loop-index l = l.out ++ values_tokens (overs_from l.sheet l.side l.begun l.innings l.before l.early (drop l.index l.items))
-    ≡ l.initial.out ++ values_tokens (overs_from l.sheet l.side l.begun l.innings None l.first l.items)
+invariant-loop-index l = l.out ++ values_tokens (of l.innings overs_from l.before l.early (drop l.index l.items))
+    ≡ l.initial.out ++ values_tokens (of l.innings overs_from None l.first l.items)
