@@ -16,18 +16,17 @@ mod unfit_keys;
 mod votes_file;
 
 pub use crate::copies::{CopiedDisk, Kept, paired_disk, tell_copies};
-pub use crate::counting::{Counting, compared, place_of_difference};
+pub use crate::counting::{Counting, compared};
 pub use crate::fault::{StopFault, Stopped, TURNS, print_fault, printable};
 pub use crate::gaps::{Gaps, fill_gaps};
 pub use crate::key_fault::KeyFault;
-pub use crate::opening::{Output, bytes_at, old_votes_at, open_input, output, printer, sheet_at};
+pub use crate::opening::{Output, bytes_at, old_votes_at, open_input, output, sheet_at};
 pub use crate::sealing::{Sealing, key_in};
 pub use crate::sheet::{NoSheet, sheet_run};
 pub use crate::short_sheet::{
     LONGEST_SHEET, short_sheet_at, short_sheet_bytes, short_sheet_of, stations_at, tell_station,
 };
-pub use crate::twins::{tell_twins, told_sheet_at, told_sheet_of};
-pub use crate::unfit_keys::tell_unfit_keys;
+pub use crate::twins::{tell_twins, told_sheet_at};
 pub use crate::votes_file::{
     VotesDisk, empty_disk, kept_votes, new_disk_at, renewed_disk, with_cause, with_copys_cause,
 };
