@@ -8,12 +8,12 @@ use Rattle.headline.specs.Configurations.{Configuration, all_votes}
 use Rattle.headline.specs.Runs.{Begins, Moment, Run, last_of}
 use Rattle.headline.specs.Kept.{KeepsNoted}
 use Rattle.headline.specs.Besides.{StandsFast}
-use Rattle.headline.specs.Headline.{ByBoth, Headline, NoneWaits, TakesSecond}
+use Rattle.headline.specs.Headline.{ArePenned, ByBoth, Headline, NoneWaits, TakesSecond}
 use Rattle.headline.specs.Laws.{HoldsInRun}
 use Rattle.headline.proofs.Keeping.{all_justified, begins_fine, run_keeps}
 use Rattle.headline.proofs.LawScores.{RulesAreLaws, ShowsStandings, laws_shown, scored}
 use Rattle.headline.proofs.NotedRuns.{after_each, keeps_noted}
-use Rattle.headline.proofs.PennedVotes.{penned_before}
+use Rattle.headline.proofs.PennedVotes.{all_penned}
 use Rattle.headline.proofs.Scores.{one_score}
 use Rattle.headline.proofs.SecondVotes.{none_waits, takes_second}
 use Rattle.headline.proofs.Shown.{by_both, each_moment, one_book_shown, stands_fast, votes_kept, within_agreed}
@@ -25,7 +25,7 @@ module _ {Disk Why : Type 0} (s : Setting Disk Why) (innings : ℕ) (rules : Rul
       let f = begins_fine s version n w e in
       record {
         prefixes = one_book_shown s w ms f r;
-        by_both = (each_moment s w ms ByBoth (by_both s) f r, penned_before s version n w ms e r);
+        by_both = (each_moment s w ms ByBoth (by_both s) f r, after_each s w ms (ArePenned w) (λ ns q. all_penned s version n w ns e q) r);
         shown = laws_shown s innings rules stands version n w ms e r;
         scored = λ ranges. scored s innings rules version n w ms e r ranges;
         scores = one_score s innings version n w ms e r;

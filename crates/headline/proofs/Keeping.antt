@@ -58,7 +58,7 @@ module _ {Disk Why : Type 0} (s : Setting Disk Why) where
     on_other_disk x disk h0 h1 = grind arith
 
   shows_votes : (theirs votes found : List Ballot) (o : Option (List Ballot)) → o ≡ Some found → ShowsMore theirs votes o → OneMore theirs votes found
-  shows_votes theirs votes found o e h = let q : h.0 ≡ found = let z = h.1 in cc in subst (OneMore theirs votes) q h.2
+  shows_votes theirs votes found o e h = grind arith
 
   module _ (d : DeskId) (theirs : List Ballot) (x : Node Disk) where
     abbrev KeptAt : Node Disk → List Message → Type 0
@@ -67,18 +67,16 @@ module _ {Disk Why : Type 0} (s : Setting Disk Why) where
     -- a desk has gone on so
     module _ (k l : DeskState Disk) (out : List Message) (e : x.process ≡ Running k) (h : DeskKept (s.view d x.version) d theirs k l out) where
       grown : Within (process_votes x.process) l.votes
-      grown = subst (λ (p : Process Disk). Within (process_votes p) l.votes) (sym e) h.grows
+      grown = rw e h.grows
 
       runs_on : (y : Node Disk) (due : Option Fault) → y ≡ record x { process = Running l; due = due } → KeptAt y out
-      runs_on y due q = subst (λ (z : Node Disk). KeptAt z out) (sym q) (record { fine = h.fine; grows = grown; told = h.told })
+      runs_on y due q = rw q (record { fine = h.fine; grows = grown; told = h.told })
 
       broken : (answer : Answer Why) (y : Node Disk) → Breaks (s.view d x.version) x l answer y → KeptAt y out
       broken answer y (Fail, u, p) = runs_on y None p.1
       broken answer y (Stop, u, p) =
-          let f = h.fine in
-          let g = f.seat in
-          let disk = stays_fine (s.view d x.version) d theirs l.votes l.disk p.0 p.2 f.disk in
-          subst (λ (z : Node Disk). KeptAt z out) (sym p.3) (record { fine = (g.justified, disk); grows = grown; told = h.told })
+          let disk = stays_fine (s.view d x.version) d theirs l.votes l.disk p.0 p.2 h.fine.disk in
+          rw p.3 (record { fine = (h.fine.seat.justified, disk); grows = grown; told = h.told })
 
       after_pen : (told : PenAnswer Why) (answer : Answer Why) (y : Node Disk) → AfterPen (s.view d x.version) x told l answer y → KeptAt y out
       after_pen PenAnswer.DeviceFailed answer y p = broken answer y p
@@ -94,12 +92,12 @@ module _ {Disk Why : Type 0} (s : Setting Disk Why) where
     down_at y disk h0 h1 h2 = grind arith
 
     falls_due : (y : Node Disk) (fault : Fault) → ProcessFine x.version d theirs x.process → FallsDue (s.view d x.version) fault x y → KeptAt y []
-    falls_due y fault f p = subst (λ (z : Node Disk). KeptAt z []) (sym p.2) (on_other_disk x.version d theirs x.process p.0 p.1 f)
+    falls_due y fault f p = grind (arith, on_other_disk)
 
     -- the same, of a desk that is told to be down
     module _ (votes : List Ballot) (old : Disk) (e : x.process ≡ Down votes old) (f : ProcessFine x.version d theirs x.process) where
       down : ProcessFine x.version d theirs (Down votes old)
-      down = subst (ProcessFine x.version d theirs) e f
+      down = rw e at f
 
       down_from : (y : Node Disk) (disk : Disk) (due : Option Fault) → DiskFine (s.view d x.version) d theirs votes disk → y ≡ record x { process = Down votes disk; due = due } → KeptAt y []
       down_from y disk due h0 h1 = grind arith
@@ -117,14 +115,7 @@ module _ {Disk Why : Type 0} (s : Setting Disk Why) where
       old_synced left h0 h1 = grind arith
 
       migrates_at : (version : FileVersion) (answer : Answer Why) (y : Node Disk) → x.version ≡ version → MigratesAt (s.view d) x version votes old answer y → KeptAt y []
-      migrates_at Old answer y q (ToNew found new, o, p) =
-          let g = subst (λ (version : FileVersion). ProcessFine version d theirs (Down votes old)) q down in
-          let more = shows_votes theirs votes found ((s.view d Old).reads old) o.0 g.1.0 in
-          let w = subst (λ (z : Process Disk). Within (process_votes z) votes) (sym e) (same votes) in
-          let fine : DiskFine (s.view d New) d theirs votes new = ((found, o.1.0, more), λ shown i. (found, o.1.1 shown i, more)) in
-          subst (λ (z : Node Disk). KeptAt z []) (sym p.1) (record { fine = (g.0, fine); grows = w; told = tt })
-      migrates_at New answer y q p = subst (λ (z : Node Disk). KeptAt z []) (sym p.1) (record { fine = f; grows = same (process_votes x.process); told = tt })
-      migrates_at h0 answer y q p = grind (arith, down_from, old_synced, stays_down)
+      migrates_at version answer y q p = grind (arith, shows_votes, same, down, down_from, old_synced, stays_down)
 
   -- every event at a desk keeps it fine
   pub at_desk_keeps : (sent : List Message) (d : DeskId) (theirs : List Ballot) (event : Event) (x : Node Disk) (answer : Answer Why) (y : Node Disk) (out : List Message)
@@ -139,16 +130,11 @@ module _ {Disk Why : Type 0} (s : Setting Disk Why) where
   at_desk_keeps sent d theirs (Event.Tick u) x answer y out t f p =
       let kept = ticks_keep (s.view d x.version) d theirs p.0 out (running x.version d theirs x.process p.0 p.1 f) p.2 in
       runs_on d theirs x p.0 p.0 out p.1 kept y x.due (p.4 ∙ ap (λ (z : Process Disk). record x { process = z }) p.1)
-  at_desk_keeps sent d theirs (Event.Kill c) x answer y out t f p =
-      let h = p.2 in
-      let disk = stays_fine (s.view d x.version) d theirs (process_votes x.process) (process_disk x.process) h.0 h.1 (fine_disk x.version d theirs x.process f) in
-      rw p.4 (down_at d theirs x y h.0 f disk h.2)
-  at_desk_keeps sent d theirs (Event.Power c choice) x answer y out t f p = rw p.4 (down_at d theirs x y p.0 f (loses_power x.version d theirs x.process p.0 f p.1) p.2)
-  at_desk_keeps sent d theirs (Event.FailAt c n) x answer y out t f p = rw p.2 (falls_due d theirs x y Fail f p.0)
-  at_desk_keeps sent d theirs (Event.StopAt c n) x answer y out t f p = rw p.2 (falls_due d theirs x y Stop f p.0)
+  at_desk_keeps sent d theirs (Event.Kill c) x answer y out t f p = grind (arith, stays_fine, fine_disk, down_at)
+  at_desk_keeps sent d theirs (Event.Power c choice) x answer y out t f p = grind (arith, down_at, loses_power)
   at_desk_keeps sent d theirs (Event.Open c) x answer y out t f p = rw p.6 (after_open d theirs x p.0 p.1 p.3 f p.2 answer y p.4 p.5)
   at_desk_keeps sent d theirs (Event.Migrate c) x answer y out t f p = rw p.4 (migrates_at d theirs x p.0 p.1 p.2 f x.version answer y refl p.3)
-  at_desk_keeps sent d theirs (Event.Wipe n) x answer y out t f p = absurd p
+  at_desk_keeps sent d theirs event x answer y out t f p = grind (arith, falls_due)
 
   pub record Fine (w : Configuration Disk) : Type 0 where
     pub on_a : ProcessFine w.a.version A (all_votes w).b w.a.process
@@ -160,7 +146,7 @@ module _ {Disk Why : Type 0} (s : Setting Disk Why) where
   Grows w new = VotesGrow (all_votes w) (all_votes new)
 
   pub all_justified : (w : Configuration Disk) → Fine w → AllJustified (all_votes w)
-  all_justified w f = (process_justified w.a.version A (all_votes w).b w.a.process f.on_a, process_justified w.b.version B (all_votes w).a w.b.process f.on_b)
+  all_justified w f = grind (arith, process_justified)
 
   shows_grows : (theirs theirs' votes : List Ballot) → Within theirs theirs' → (o : Option (List Ballot)) → ShowsMore theirs votes o → ShowsMore theirs' votes o
   shows_grows theirs theirs' votes h0 o h1 = grind (arith, justified_grows)
@@ -182,7 +168,7 @@ module _ {Disk Why : Type 0} (s : Setting Disk Why) where
   votes_at w d = grind arith
 
   rest_grows : (v w : AllVotes) → VotesGrow v w → (sent out : List Message) → Each (MessageFine v) sent → Each (MessageFine w) out → Each (MessageFine w) (sent ++ out)
-  rest_grows v w g sent out h k = each_append (MessageFine w) sent out (each_other (MessageFine v) (MessageFine w) (message_grows v w g) sent h) k
+  rest_grows v w g sent out h k = grind (arith, each_append, each_other, message_grows)
 
   votes_grow : (w : Configuration Disk) (d : DeskId) (y : Node Disk) (out : List Message) → Within (process_votes (node w d).process) (process_votes y.process) → Grows w (with_node w d y out)
   votes_grow w A y out h = (h, same (all_votes w).b)
@@ -191,13 +177,11 @@ module _ {Disk Why : Type 0} (s : Setting Disk Why) where
   node_changed : (w : Configuration Disk) (d : DeskId) (y : Node Disk) (out : List Message) → Fine w → KeptAt d (votes_by (all_votes w) (other d)) (node w d) y out
       → Fine (with_node w d y out) × Grows w (with_node w d y out)
   node_changed w d y out f k =
-      let new = with_node w d y out in
+      let v = all_votes (with_node w d y out) in
       let g = votes_grow w d y out k.grows in
-      let boards = each_other (BoardFine (all_votes w)) (BoardFine (all_votes new)) (board_grows (all_votes w) (all_votes new) g) w.boards f.on_boards in
-      let is : process_votes y.process ≡ votes_by (all_votes new) d = grind arith in
-      let told = each_other (OwnMessage d (process_votes y.process)) (MessageFine (all_votes new))
-      (λ m o. own_message (all_votes new) d m (subst (λ (z : List Ballot). OwnMessage d z m) is o)) out k.told in
-      let sent = rest_grows (all_votes w) (all_votes new) g w.sent out f.on_sent told in
+      let boards = each_other (BoardFine (all_votes w)) (BoardFine v) (board_grows (all_votes w) v g) w.boards f.on_boards in
+      let told = each_other (OwnMessage d (process_votes y.process)) (MessageFine v) (λ m o. grind (arith, own_message)) out k.told in
+      let sent = rest_grows (all_votes w) v g w.sent out f.on_sent told in
       (record { on_a = grind (arith, process_grows); on_b = grind (arith, process_grows); on_boards = grind arith; on_sent = grind arith }, g)
 
   at_board_keeps : (sent : List Message) (v : AllVotes) (event : Event) (k l : BoardState) (answer : Answer Why) (out : List Message) → Each (MessageFine v) sent → BoardFine v k
@@ -208,23 +192,13 @@ module _ {Disk Why : Type 0} (s : Setting Disk Why) where
 
   pub step_at_keeps : (w : Configuration Disk) (event : Event) (t : Station) (answer : Answer Why) (new : Configuration Disk) → Fine w → StepAt s w event t answer new → Fine new × Grows w new
   step_at_keeps w event (Station.Desk d) answer new f p =
-      let v = all_votes w in
-      let told : (n : ℕ) (m : Message) → IsGiven w.sent n m → TheirMessage d (votes_by v (other d)) m = λ n m e. their_message v d m (given_fine v w.sent n m f.on_sent e) in
-      let k = at_desk_keeps w.sent d (votes_by v (other d)) event (node w d) answer p.0 p.1 told (node_fine w d f) p.2 in
-      subst (λ (z : Configuration Disk). Fine z × Grows w z) (sym p.3) (node_changed w d p.0 p.1 f k)
+      let told : (n : ℕ) (m : Message) → IsGiven w.sent n m → TheirMessage d (votes_by (all_votes w) (other d)) m = λ n m e. their_message (all_votes w) d m (given_fine (all_votes w) w.sent n m f.on_sent e) in
+      rw p.3 (node_changed w d p.0 p.1 f (at_desk_keeps w.sent d (votes_by (all_votes w) (other d)) event (node w d) answer p.0 p.1 told (node_fine w d f) p.2))
   step_at_keeps w event (Station.Board n) answer new f p =
       let v = all_votes w in
-      let k = board_fine_at v w.boards n p.0 p.3 f.on_boards in
-      let h = at_board_keeps w.sent v event p.0 p.1 answer p.2 f.on_sent k p.4 in
-      subst (λ (z : Configuration Disk). Fine z × Grows w z) (sym p.5) (
-        record {
-          on_a = f.on_a;
-          on_b = f.on_b;
-          on_boards = board_set (BoardFine v) w.boards n p.1 h.0 f.on_boards;
-          on_sent = each_append (MessageFine v) w.sent p.2 f.on_sent h.1;
-        },
-        (same v.a, same v.b),
-      )
+      let h = at_board_keeps w.sent v event p.0 p.1 answer p.2 f.on_sent (board_fine_at v w.boards n p.0 p.3 f.on_boards) p.4 in
+      let boards = board_set (BoardFine v) w.boards n p.1 h.0 f.on_boards in
+      rw p.5 (record { on_a = f.on_a; on_b = f.on_b; on_boards = boards; on_sent = each_append (MessageFine v) w.sent p.2 f.on_sent h.1 }, (same v.a, same v.b))
 
   pub step_keeps : (w : Configuration Disk) (event : Event) (answer : Answer Why) (new : Configuration Disk) → Fine w → Step s w event answer new → Fine new × Grows w new
   step_keeps w event answer new f p = step_at_keeps w event (station_of event) answer new f p

@@ -38,7 +38,7 @@ use Rattle.headline.specs.Penned.{WasPenned}
 use Rattle.headline.proofs.Keeping.{Fine, all_justified, begins_fine, run_keeps}
 use Rattle.headline.proofs.PennedVotes.{BothHold, all_penned}
 use Rattle.headline.proofs.Shown.{shown_both}
-use Rattle.headline.proofs.Sound.{Lawful, justified_of, lawful_run, lawful_votes, one_of_length, taken_at}
+use Rattle.headline.proofs.Sound.{Lawful, justified_of, lawful_run, lawful_votes, one_of_length, taken_at, voted_taken}
 
 -- ---- a legal history has a standing
 
@@ -117,30 +117,17 @@ abbrev pub ShowsStandings : {Disk Why : Type 0} → Setting Disk Why → ℕ →
 ShowsStandings s innings = (book : List Entry) (score : Standing) → s.shows book score → StandsFor score innings (history_of book)
 
 module _ {Disk Why : Type 0} (s : Setting Disk Why) (innings : ℕ) (laws : RulesAreLaws s innings) where
-  -- an entry that both voted for is taken after those before it
-  next_taken : (v : Configuration Disk) → Fine s v → BothHold s (λ d. Lawful s.rules) v → (xs : List Entry) (e : Entry) (es : List Entry) → AllBoth (all_votes v).a (all_votes v).b 0 (xs ++ e ∷ es)
-      → book_refusal innings xs e ≡ None
-  next_taken v f l xs e es both =
+  by_entries : (v : Configuration Disk) (P : List Entry → Type 0) → Fine s v → BothHold s (λ d. Lawful s.rules) v
+      → ((xs : List Entry) (b : Ballot) → P xs → In b (all_votes v).a → book_refusal innings xs b.entry ≡ None → P (xs ++ b.entry ∷ []))
+      → (xs es : List Entry) → P xs → AllBoth (all_votes v).a (all_votes v).b 0 (xs ++ es) → P (xs ++ es)
+  by_entries v P f l more xs [] k both = rw append-nil k
+  by_entries v P f l more xs (e ∷ es) k both =
       let votes = all_votes v in
       let at = both_at votes.a votes.b 0 (xs ++ e ∷ es) (length xs) e both (get_middle xs e es) in
-      let g = taken_at s.rules votes.b votes.a (justified_of s v A f) (lawful_votes s v A l) (ballot_at (0 + length xs) at.0 e) at.1.0 in
-      let j = all_justified s v f in
-      let here = both_settled votes j 0 g.0 g.1 in
-      let there = both_settled votes j 0 xs (both_front votes.a votes.b 0 xs (e ∷ es) both) in
-      let here_is : 0 + length xs ≡ length xs = omega arith in
-      let size : length g.0 ≡ length xs = g.2 ∙ here_is in
-      let grow : VotesGrow votes votes = (same votes.a, same votes.b) in
-      let equal = one_of_length votes votes votes j g.0 xs grow grow here there size in
-      laws xs e (subst (λ (o : List Entry). s.rules o e ≡ None) equal g.3)
-
-  rest_legal : (v : Configuration Disk) → Fine s v → BothHold s (λ d. Lawful s.rules) v → (xs es : List Entry)
-      → IsLegalBook innings xs → AllBoth (all_votes v).a (all_votes v).b 0 (xs ++ es) → IsLegalBook innings (xs ++ es)
-  rest_legal v f l xs [] k both = subst (IsLegalBook innings) (sym (append-nil xs)) k
-  rest_legal v f l xs (e ∷ es) k both =
-      let votes = all_votes v in
+      let b = ballot_at (0 + length xs) at.0 e in
+      let taken = voted_taken s v A b xs f l at.1.0 (both_front votes.a votes.b 0 xs (e ∷ es) both) (omega arith) in
       let is = append_assoc xs (e ∷ []) es in
-      let next = (one_more innings xs e k).0 (next_taken v f l xs e es both) in
-      subst (IsLegalBook innings) is (rest_legal v f l (xs ++ e ∷ []) es next (subst (AllBoth votes.a votes.b 0) (sym is) both))
+      subst P is (by_entries v P f l more (xs ++ e ∷ []) es (more xs b k at.1.0 (laws xs e taken)) (subst (AllBoth votes.a votes.b 0) (sym is) both))
 
   module _ (stands : ShowsStandings s innings) where
     shown_now : (version : FileVersion) (n : ℕ) (w : Configuration Disk) (ms : List (Moment Disk Why)) → Begins s version n w → Run s w ms
@@ -148,8 +135,12 @@ module _ {Disk Why : Type 0} (s : Setting Disk Why) (innings : ℕ) (laws : Rule
     shown_now version n w ms e r t book score shows is =
         let v = last_of w ms in
         let f = run_keeps s w ms (begins_fine s version n w e) r in
-        let legal = rest_legal v f (lawful_run s version n w ms e r) [] book (legal-none innings) (shown_both s v t book f shows) in
-        record { legal = legal; score = stands book score is }
+        let more : (xs : List Entry) (b : Ballot) → IsLegalBook innings xs → In b (all_votes v).a → book_refusal innings xs b.entry ≡ None → IsLegalBook innings (xs ++ b.entry ∷ []) =
+        λ xs b k i none. (one_more innings xs b.entry k).0 none in
+        record {
+          legal = by_entries v (IsLegalBook innings) f (lawful_run s version n w ms e r) more [] book (legal-none innings) (shown_both s v t book f shows);
+          score = stands book score is;
+        }
 
     pub laws_shown : (version : FileVersion) (n : ℕ) (w : Configuration Disk) (ms : List (Moment Disk Why)) → Begins s version n w → Run s w ms
         → AtEachMoment w ms (ShowsLawsScores s innings)
@@ -157,24 +148,10 @@ module _ {Disk Why : Type 0} (s : Setting Disk Why) (innings : ℕ) (laws : Rule
     laws_shown version n w (m ∷ ms) e r = (shown_now version n w (m ∷ ms) e r, laws_shown version n w ms e r.0)
 
   module _ (one : 1 ≤ innings) (two : innings ≤ 2) where
-    rest_scored : (v : Configuration Disk) → Fine s v → BothHold s (λ d. Lawful s.rules) v → ((b : Ballot) → In b (all_votes v).a → IsEntry b.entry) → (xs es : List Entry)
-        → HasScore innings one two xs → AllBoth (all_votes v).a (all_votes v).b 0 (xs ++ es) → HasScore innings one two (xs ++ es)
-    rest_scored v f l entries xs [] k both = subst (HasScore innings one two) (sym (append-nil xs)) k
-    rest_scored v f l entries xs (e ∷ es) k both =
-        let votes = all_votes v in
-        let at = both_at votes.a votes.b 0 (xs ++ e ∷ es) (length xs) e both (get_middle xs e es) in
-        let is = append_assoc xs (e ∷ []) es in
-        let next = more_scored innings one two xs e k (entries (ballot_at (0 + length xs) at.0 e) at.1.0) (next_taken v f l xs e es both) in
-        subst (HasScore innings one two) is (rest_scored v f l entries (xs ++ e ∷ []) es next (subst (AllBoth votes.a votes.b 0) (sym is) both))
-
     penned_entry : (w : Configuration Disk) (ms : List (Moment Disk Why)) (b : Ballot) → All IsEvent (events_of ms) → WasPenned w ms A b → IsEntry b.entry
     penned_entry w [] b all h = absurd h
-    penned_entry w (m ∷ ms) b all (inl p) =
-        let last = All-pop IsEvent (events_of (m ∷ ms)) (events_of ms) (Some m.event) refl all in
-        subst IsEvent p.0 last.1
-    penned_entry w (m ∷ ms) b all (inr h) =
-        let front = All-pop IsEvent (events_of (m ∷ ms)) (events_of ms) (Some m.event) refl all in
-        penned_entry w ms b front.0 h
+    penned_entry w (m ∷ ms) b all (inl p) = subst IsEvent p.0 (All-pop IsEvent (events_of (m ∷ ms)) (events_of ms) (Some m.event) refl all).1
+    penned_entry w (m ∷ ms) b all (inr h) = penned_entry w ms b (All-pop IsEvent (events_of (m ∷ ms)) (events_of ms) (Some m.event) refl all).0 h
 
     -- where what was penned has its numbers in their ranges
     pub shown_scored : (version : FileVersion) (n : ℕ) (w : Configuration Disk) (ms : List (Moment Disk Why)) → Begins s version n w → Run s w ms
@@ -183,16 +160,15 @@ module _ {Disk Why : Type 0} (s : Setting Disk Why) (innings : ℕ) (laws : Rule
         let v = last_of w ms in
         let f = run_keeps s w ms (begins_fine s version n w e) r in
         let penned = all_penned s version n w ms e r in
-        let k = rest_scored v f (lawful_run s version n w ms e r) (λ b i. entries b (penned A b i)) [] book (none_scored innings one two) (shown_both s v t book f shows) in
+        let k = by_entries v (HasScore innings one two) f (lawful_run s version n w ms e r) (λ xs b k i none. more_scored innings one two xs b.entry k (entries b (penned A b i)) none) [] book
+        (none_scored innings one two) (shown_both s v t book f shows) in
         (k.0, record { legal = k.1.legal; score = k.1.scored })
 
-    each_scored : (version : FileVersion) (n : ℕ) (w : Configuration Disk) (ms : List (Moment Disk Why)) → Begins s version n w → Run s w ms → All IsEvent (events_of ms)
-        → AtEachMoment w ms (AllHaveScores innings)
-    each_scored version n w [] e r all = shown_scored version n w [] e r (λ b p. absurd p)
-    each_scored version n w (m ∷ ms) e r all =
-        let front = All-pop IsEvent (events_of (m ∷ ms)) (events_of ms) (Some m.event) refl all in
-        (shown_scored version n w (m ∷ ms) e r (λ b p. penned_entry w (m ∷ ms) b all p), each_scored version n w ms e r.0 front.0)
+    each_scored : (version : FileVersion) (n : ℕ) (w : Configuration Disk) (ms : List (Moment Disk Why)) → Begins s version n w → Run s w ms
+        → ((b : Ballot) → WasPenned w ms A b → IsEntry b.entry) → AtEachMoment w ms (AllHaveScores innings)
+    each_scored version n w [] e r entries = shown_scored version n w [] e r entries
+    each_scored version n w (m ∷ ms) e r entries = (shown_scored version n w (m ∷ ms) e r entries, each_scored version n w ms e r.0 (λ b p. entries b (inr p)))
 
   pub scored : (version : FileVersion) (n : ℕ) (w : Configuration Disk) (ms : List (Moment Disk Why)) → Begins s version n w → Run s w ms → HasRanges innings ms
       → AtEachMoment w ms (AllHaveScores innings)
-  scored version n w ms e r ranges = each_scored ranges.0 ranges.1 version n w ms e r ranges.2
+  scored version n w ms e r ranges = each_scored ranges.0 ranges.1 version n w ms e r (λ b p. penned_entry ranges.0 ranges.1 w ms b ranges.2 p)

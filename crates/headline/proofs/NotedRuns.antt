@@ -17,10 +17,8 @@ use Rattle.headline.proofs.Heeding.{some_none}
 use Rattle.headline.proofs.NotingSteps.{board_leaves, desk_leaves, elsewhere, same_board, same_process}
 
 fresh_kept : (boards n : ℕ) (c : DeskId) → option_and_then (λ (k : BoardState). noted_of k.reader c) (board_at (fresh_boards boards) n) ≡ None
-fresh_kept boards zero c = refl
-fresh_kept zero (suc n) c = refl
-fresh_kept (suc boards) (suc zero) c = grind arith
 fresh_kept (suc boards) (suc (suc n)) c = fresh_kept boards (suc n) c
+fresh_kept boards n c = grind arith
 
 module _ {Disk Why : Type 0} (s : Setting Disk Why) where
   step_leaves : (w : Configuration Disk) (m : Moment Disk Why) (t : Station) → Fine s w → Step s w m.event m.answer m.after → Leaves s w m t

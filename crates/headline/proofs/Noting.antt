@@ -79,40 +79,15 @@ module _ {Disk Why : Type 0} (s : Setting Disk Why) where
 
   more_noted : (w : Configuration Disk) (m : Moment Disk Why) (ms : List (Moment Disk Why)) (t : Station) (d : DeskId) (a : Ballot) → Adds (last_of w ms) m t d a → KeepsAt w ms t
       → (c : DeskId) (b : Ballot) → HasNoted s w (m ∷ ms) t c b → KeepsVote m.after t c b
-  more_noted w m ms t d a g h c b (at, inl p) =
-      let once = brings_once (last_of w ms) m.event t c d b a p.0.1 g.brought.1 in
-      (at, ap (λ (c : DeskId). kept_at m.after t c) once.0 ∙ g.has ∙ ap Some (sym once.1))
-  more_noted w m ms t d a g h c b (at, inr (inl p)) = absurd (g.on (found_begins (last_of w ms) m t c b p.0 p.1))
-  more_noted w m ms t d a g h c b (at, inr (inr p)) = (at, either (which d c))
-    where
-      before : kept_at (last_of w ms) t c ≡ Some b.entry
-      before = ((h c b).0 p.1).1
-
-      either : (c ≡ d) ⊎ (c ≡ other d) → kept_at m.after t c ≡ Some b.entry
-      either (inl e) = absurd (some_none (kept_at (last_of w ms) t c) b.entry (ap (λ (c : DeskId). kept_at (last_of w ms) t c) e ∙ g.lacked) before)
-      either (inr e) = ap (λ (c : DeskId). kept_at m.after t c) e ∙ g.rest ∙ sym (ap (λ (c : DeskId). kept_at (last_of w ms) t c) e) ∙ before
+  more_noted w m ms t d a g h c b n = grind (arith, brings_once, found_begins, which)
 
   more_kept : (w : Configuration Disk) (m : Moment Disk Why) (ms : List (Moment Disk Why)) (t : Station) (d : DeskId) (a : Ballot) → Adds (last_of w ms) m t d a → KeepsAt w ms t
       → (c : DeskId) (b : Ballot) → KeepsVote m.after t c b → HasNoted s w (m ∷ ms) t c b
-  more_kept w m ms t d a g h c b k = (k.0, either (which d c))
-    where
-      at : a.at ≡ b.at
-      at = same_some (position_at m.after t) a.at b.at g.at k.0
-
-      either : (c ≡ d) ⊎ (c ≡ other d) → (IsBrought (last_of w ms) m t c b × ((e : Entry) → HasNoted s w ms t c (record { at = b.at; entry = e }) → ⊥))
-          ⊎ (((t ≡ Station.Desk c) × IsFound s (last_of w ms) m c b) ⊎ ((m.event ≢ beginning_of t) × HasNoted s w ms t c b))
-      either (inl e) =
-          let entry : a.entry ≡ b.entry = same_some (kept_at m.after t d) a.entry b.entry g.has (sym (ap (λ (c : DeskId). kept_at m.after t c) e) ∙ k.1) in
-          let same : a ≡ b = λ i. record { at = at i; entry = entry i } in
-          inl (
-            subst (λ (z : DeskId × Ballot). IsBrought (last_of w ms) m t z.0 z.1) (λ i. (sym e i, same i)) g.brought,
-            λ f n. some_none (kept_at (last_of w ms) t c) f (ap (λ (c : DeskId). kept_at (last_of w ms) t c) e ∙ g.lacked) ((h c (record { at = b.at; entry = f })).0 n).1,
-          )
-      either (inr e) = inr (inr (g.on, (h c b).1 (g.brought.0 ∙ ap Some at, ap (λ (c : DeskId). kept_at (last_of w ms) t c) e ∙ sym g.rest ∙ sym (ap (λ (c : DeskId). kept_at m.after t c) e) ∙ k.1)))
+  more_kept w m ms t d a g h c b k = grind (arith, which, same_some)
 
   pub follows : (w : Configuration Disk) (m : Moment Disk Why) (ms : List (Moment Disk Why)) (t : Station) → Leaves (last_of w ms) m t → KeepsAt w ms t → KeepsAt w (m ∷ ms) t
-  follows w m ms t (Gone g) h c b = (λ n. absurd (some_none (position_at m.after t) b.at g n.0), λ k. absurd (some_none (position_at m.after t) b.at g k.0))
+  follows w m ms t (Gone g) h c b = grind arith
   follows w m ms t (Begun g) h c b = (λ n. begun_noted w m ms t g c b n, λ k. (k.0, inr (inl ((g.1 c b k.0).0 k.1))))
-  follows w m ms t (Moved g) h c b = (λ n. absurd (moved_noted w m ms t g h c b n), λ k. absurd (some_none (kept_at m.after t c) b.entry (g.1 c) k.1))
+  follows w m ms t (Moved g) h c b = (λ n. absurd (moved_noted w m ms t g h c b n), λ k. grind arith)
   follows w m ms t (Same g) h c b = (λ n. same_noted w m ms t g h c b n, λ k. (k.0, inr (inr (g.on, (h c b).1 (sym g.at ∙ k.0, sym (g.keeps c) ∙ k.1)))))
   follows w m ms t (More d a g) h c b = (λ n. more_noted w m ms t d a g h c b n, λ k. more_kept w m ms t d a g h c b k)

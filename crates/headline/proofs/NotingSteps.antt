@@ -61,23 +61,16 @@ module _ {Disk Why : Type 0} (s : Setting Disk Why) where
 
   -- a desk that was put there
   pub there : (w new : Configuration Disk) (d : DeskId) (y : Node Disk) (out : List Message) → new ≡ with_node w d y out → node new d ≡ y
-  there w new d y out e = ap (λ (z : Configuration Disk). node z d) e ∙ node_put w d y out
+  there w new d y out e = grind (arith, node_put)
 
   module _ (w : Configuration Disk) (m : Moment Disk Why) where
     pub elsewhere : (t : Station) → station_of m.event ≢ t → SameAt w m.after t → Leaves s w m t
-    elsewhere t n h = Same (record { on = λ e. n (begins_here m.event t e); at = h.0; keeps = h.1; none = λ c b i k. n (brings_here w m.event t c b i.1) })
+    elsewhere t n h = Same (grind (arith, begins_here, brings_here))
 
     goes_more : (t : Station) (at next : Position) (kept then : DeskId → Option Entry) (c : DeskId) (e : Entry) → m.event ≢ beginning_of t
         → SeenAt w t at kept → SeenAt m.after t next then → next ≡ at → Brings w m.event t c (record { at = at; entry = e })
         → IsVoteAnswer m.answer → kept c ≡ None → then c ≡ Some e → then (other c) ≡ kept (other c) → Leaves s w m t
-    goes_more t at next kept then c e n h g q b i none has rest = More c (record { at = at; entry = e }) (record {
-      on = n;
-      at = g.0 ∙ ap Some q;
-      brought = (h.0, b, i);
-      lacked = h.1 c ∙ none;
-      has = g.1 c ∙ has;
-      rest = g.1 (other c) ∙ rest ∙ sym (h.1 (other c));
-    })
+    goes_more t at next kept then c e n h g q b i none has rest = More c (record { at = at; entry = e }) (grind arith)
 
     goes_far : (t : Station) (at next : Position) (kept then : DeskId → Option Entry) → m.event ≢ beginning_of t
         → SeenAt w t at kept → SeenAt m.after t next then → at ≢ next → ((c : DeskId) → then c ≡ None) → Leaves s w m t
@@ -98,12 +91,7 @@ module _ {Disk Why : Type 0} (s : Setting Disk Why) where
 
     casts : (d : DeskId) (k l : SeatState) (e : Entry) (settled : Settled) → Runs d k l → m.event ≡ Event.Pen d e → IsVoteAnswer m.answer → k.mine ≡ None
         → Casts k e settled l → Leaves s w m (Station.Desk d)
-    casts d k l e Settled.Pending r p i none c =
-        let q = c.1 in
-        let theirs : l.theirs ≡ k.theirs = ap (λ (z : SeatState). z.theirs) q ∙ sym c.0 in
-        goes_more (Station.Desk d) k.position l.position (λ c. kept_by_seat k d c) (λ c. kept_by_seat l d c) d e r.on r.from r.to
-        (ap (λ (z : SeatState). z.position) q) (inr (refl, p)) i (own_kept k d ∙ none) (own_kept l d ∙ ap (λ (z : SeatState). z.mine) q)
-        (their_kept l d (other d) (other_not d) ∙ theirs ∙ sym (their_kept k d (other d) (other_not d)))
+    casts d k l e Settled.Pending r p i none c = More d (record { at = k.position; entry = e }) (grind (arith, own_kept, their_kept, other_not))
     casts d k l e h4 r p i none c = grind arith
 
     -- the vote of the message that was given
@@ -113,24 +101,12 @@ module _ {Disk Why : Type 0} (s : Setting Disk Why) where
 
     brought_as : (v : Vote) (at : Position) (n : ℕ) → position_of v ≡ at → slice_get w.sent n ≡ Some (Message.Vote v)
         → slice_get w.sent n ≡ Some (Message.Vote (vote_of v.desk (record { at = at; entry = v.entry })))
-    brought_as v at n p sent = sent ∙ ap (λ (at : Position). Some (Message.Vote (vote_of v.desk (record { at = at; entry = v.entry })))) p
+    brought_as v at n p sent = grind arith
 
     heeded : (n : ℕ) (d : DeskId) (k l : SeatState) (v : Vote) → m.event ≡ Event.Give n (Station.Desk d) → k.desk ≡ d → Runs d k l
         → slice_get w.sent n ≡ Some (Message.Vote v) → IsVoteAnswer m.answer → Heeds k v l → Leaves s w m (Station.Desk d)
-    heeded n d k l v given desk r sent told (inl p) = runs_same d k l r p.0 (λ c b i none.
-        let q = same_vote n (Station.Desk d) v c b given sent i.1 in
-        let from : v.desk ≡ c = ap (λ (x : Vote). x.desk) q.0 in
-        let apart : c ≢ d = λ e. q.1 (ap Station.Desk (sym e)) in
-        let g = r.from in
-        let at : position_of v ≡ k.position = ap position_of q.0 ∙ same_some (position_at w (Station.Desk d)) b.at k.position i.0 g.0 in
-        p.1 (λ e. apart (sym from ∙ e ∙ desk)) at (sym (their_kept k d c apart) ∙ none))
-    heeded n d k l v given desk r sent told (inr (inl p)) =
-        let apart : v.desk ≢ d = λ e. p.0 (e ∙ sym desk) in
-        let back : other v.desk ≡ d = other_of v.desk d apart in
-        goes_more (Station.Desk d) k.position l.position (λ c. kept_by_seat k d c) (λ c. kept_by_seat l d c) v.desk v.entry r.on r.from r.to p.3
-        (inl (λ e. apart (sym (cc)), (n, given, brought_as v k.position n p.1 sent))) told
-        (their_kept k d v.desk apart ∙ p.2) (their_kept l d v.desk apart ∙ p.5)
-        (subst (λ (c : DeskId). kept_by_seat l d c ≡ kept_by_seat k d c) (sym back) (own_kept l d ∙ p.4 ∙ sym (own_kept k d)))
+    heeded n d k l v given desk r sent told (inl p) = runs_same d k l r p.0 (λ c b i none. grind (arith, same_vote, their_kept))
+    heeded n d k l v given desk r sent told (inr (inl p)) = More v.desk (record { at = k.position; entry = v.entry }) (grind (arith, own_kept, their_kept, other_not, other_of, brought_as))
     heeded n d k l v given desk r sent told (inr (inr p)) = runs_far d k l r p.0 p.1 p.2
 
     -- what runs at a desk that was put there, or that it is down
@@ -151,44 +127,28 @@ module _ {Disk Why : Type 0} (s : Setting Disk Why) where
           heeded n d k.seat l.seat v p desk (runs_from k l (λ x. cc) q (ap (λ (z : Node Disk). z.process) a.1)) (given_vote w.sent n v sent) (subst IsVoteAnswer (sym a.0) tt) (heeds k.seat l.seat v h r.1)
       given n k l v h4 out p desk q sent r a = grind arith
 
+      found_last : (c : DeskId) (b : Ballot) (votes : List Ballot) → m.event ≡ Event.Open d → (s.view d (node w d).version).reads (process_disk (node w d).process) ≡ Some votes → IsFound s w m c b
+          → (c ≡ d) × ((rest : List Ballot) × (votes ≡ b ∷ rest))
+      found_last c b votes o e f = grind arith
+
       -- a desk that begins keeps its last vote alone
       opens : (k : DeskState Disk) (votes : List Ballot) (n : ℕ) → m.event ≡ Event.Open d → y.process ≡ Running k → k.seat ≡ seat_of d votes → m.answer ≡ Answer.Opened n
           → (s.view d (node w d).version).reads (process_disk (node w d).process) ≡ Some votes → Leaves s w m (Station.Desk d)
-      opens k [] n opened p seat told found = Begun (opened, λ c b at. (λ q. absurd (some_none (kept_at m.after (Station.Desk d) c) b.entry (none c) q), λ q. absurd (unfound c b q.1)))
+      opens k [] n opened p seat told found = Begun (opened, λ c b at. (λ q. grind (arith, none), λ q. grind (arith, found_last)))
         where
           none : (c : DeskId) → kept_at m.after (Station.Desk d) c ≡ None
-          none c = (at_desk m.after d k (ap (λ (z : Node Disk). z.process) is ∙ p)).1 c ∙ no_seat_kept k.seat d c (ap (λ (z : SeatState). z.mine) seat) (ap (λ (z : SeatState). z.theirs) seat)
-
-          unfound : (c : DeskId) (b : Ballot) → IsFound s w m c b → ⊥
-          unfound c b f =
-              let same : c ≡ d = let e = f.0 in cc in
-              let read = subst (λ (c : DeskId). (s.view c (node w c).version).reads (process_disk (node w c).process) ≡ Some (b ∷ f.2.0)) same f.2.1 in
-              cc
-      opens k (v ∷ rest) n opened p seat told found = Begun (opened, λ c b at. (λ q. has c b at q (which d c), λ q. keeps c b q.1))
+          none c = grind (arith, at_desk, no_seat_kept)
+      opens k (v ∷ rest) n opened p seat told found =
+          Begun (opened, λ c b at. (λ q. let same = is_last c b at q in rw (same.0, same.1) (refl, (opened, (n, told), (rest, found))), λ q. grind (arith, found_last, own)))
         where
           seen : SeenAt m.after (Station.Desk d) k.seat.position (λ c. kept_by_seat k.seat d c)
-          seen = at_desk m.after d k (ap (λ (z : Node Disk). z.process) is ∙ p)
+          seen = grind (arith, at_desk)
 
           own : kept_at m.after (Station.Desk d) d ≡ Some v.entry
-          own = seen.1 d ∙ own_kept k.seat d ∙ ap (λ (z : SeatState). z.mine) seat
+          own = grind (arith, seen, own_kept)
 
-          has : (c : DeskId) (b : Ballot) → position_at m.after (Station.Desk d) ≡ Some b.at → kept_at m.after (Station.Desk d) c ≡ Some b.entry
-              → (c ≡ d) ⊎ (c ≡ other d) → (Station.Desk d ≡ Station.Desk c) × IsFound s w m c b
-          has c b q e (inl h) =
-              let entry : v.entry ≡ b.entry = same_some (kept_at m.after (Station.Desk d) d) v.entry b.entry own (sym (ap (λ (c : DeskId). kept_at m.after (Station.Desk d) c) h) ∙ e) in
-              let place : v.at ≡ b.at = same_some (position_at m.after (Station.Desk d)) v.at b.at (seen.0 ∙ ap (λ (z : SeatState). Some z.position) seat) q in
-              let same : v ≡ b = λ i. record { at = place i; entry = entry i } in
-              let f : IsFound s w m d b = (opened, (n, told), (rest, found ∙ ap (λ (b : Ballot). Some (b ∷ rest)) same)) in
-              (ap Station.Desk (sym h), subst (λ (c : DeskId). IsFound s w m c b) (sym h) f)
-          has c b q e (inr h) =
-              absurd (some_none (kept_at m.after (Station.Desk d) c) b.entry (seen.1 c ∙ their_kept k.seat d c (λ e. other_not d (sym h ∙ e)) ∙ ap (λ (z : SeatState). z.theirs) seat) e)
-
-          keeps : (c : DeskId) (b : Ballot) → IsFound s w m c b → kept_at m.after (Station.Desk d) c ≡ Some b.entry
-          keeps c b f =
-              let h : c ≡ d = let e = f.0 in cc in
-              let read = subst (λ (c : DeskId). (s.view c (node w c).version).reads (process_disk (node w c).process) ≡ Some (b ∷ f.2.0)) h f.2.1 in
-              let same : v ≡ b = cc in
-              ap (λ (c : DeskId). kept_at m.after (Station.Desk d) c) h ∙ own ∙ ap (λ (b : Ballot). Some b.entry) same
+          is_last : (c : DeskId) (b : Ballot) → position_at m.after (Station.Desk d) ≡ Some b.at → kept_at m.after (Station.Desk d) c ≡ Some b.entry → (c ≡ d) × (b ≡ v)
+          is_last c b q e = grind (arith, own, seen, which, their_kept, other_not)
 
       opened : (votes : List Ballot) (disk : Disk) (opening : Opening Disk) → m.event ≡ Event.Open d → (node w d).process ≡ Down votes disk
           → Opens (s.view d (node w d).version) s.rules d disk opening → AfterOpen (s.view d (node w d).version) (node w d) votes opening m.answer y → Leaves s w m (Station.Desk d)
@@ -212,19 +172,9 @@ module _ {Disk Why : Type 0} (s : Setting Disk Why) where
 
       read : (i : ℕ) (v : Vote) → m.event ≡ Event.Give i (Station.Board n) → slice_get w.sent i ≡ Some (Message.Vote v) → IsVoteAnswer m.answer
           → Reads k.reader v l.reader → Leaves s w m (Station.Board n)
-      read i v given sent told (inl r) = board_stays (λ e. cc) r.0 (λ c b j none.
-          let z = same_vote i (Station.Board n) v c b given sent j.1 in
-          let at = ap position_of z.0 ∙ same_some (position_at w (Station.Board n)) b.at k.reader.position j.0 (at_board w n k here).0 in
-          r.1 at (ap (λ (x : Vote). noted_of k.reader x.desk) z.0 ∙ none))
-      read i v given sent told (inr (inl r)) =
-          goes_more (Station.Board n) k.reader.position l.reader.position (λ c. noted_of k.reader c) (λ c. noted_of l.reader c) v.desk v.entry (λ e. cc)
-          (at_board w n k here) (at_board m.after n l is) (ap (λ (z : ReaderState). z.position) r.2 ∙ noting_at k.reader v.desk v.entry)
-          (inl (λ e. cc, (i, given, brought_as v k.reader.position i r.0 sent))) told r.1
-          (ap (λ (z : ReaderState). noted_of z v.desk) r.2 ∙ noting_there k.reader v.desk v.entry)
-          (ap (λ (z : ReaderState). noted_of z (other v.desk)) r.2 ∙ noting_other k.reader v.desk v.entry)
-      read i v given sent told (inr (inr r)) =
-          goes_far (Station.Board n) k.reader.position l.reader.position (λ c. noted_of k.reader c) (λ c. noted_of l.reader c) (λ e. cc)
-          (at_board w n k here) (at_board m.after n l is) r.0 (λ c. no_reader_kept l.reader c r.1 r.2)
+      read i v given sent told (inl r) = board_stays (λ e. cc) r.0 (λ c b j none. grind (arith, same_vote, at_board))
+      read i v given sent told (inr (inl r)) = More v.desk (record { at = k.reader.position; entry = v.entry }) (grind (arith, at_board, noting_at, noting_there, noting_other, brought_as))
+      read i v given sent told (inr (inr r)) = grind (arith, goes_far, at_board, no_reader_kept)
 
       board_given : (i : ℕ) (v : Message) (told : BoardAnswer) → m.event ≡ Event.Give i (Station.Board n) → IsGiven w.sent i v → m.answer ≡ board_told told
           → BoardReceives s.rules k v told l → Leaves s w m (Station.Board n)

@@ -39,7 +39,7 @@ module _ {Disk Why : Type 0} (s : Setting Disk Why) where
 
   module _ (Q : List Ballot → Type 0) (view : FileView Disk) where
     stays : (votes : List Ballot) (old new : Disk) → Stays view old new → HeldBy Q view votes old → HeldBy Q view votes new
-    stays votes old new t h = record { of_votes = h.of_votes; of_reads = λ vs e. h.of_reads vs (sym t.0 ∙ e); of_images = λ vs i. h.of_images vs ((t.1 (Some vs)).0 i) }
+    stays votes old new t h = grind arith
 
     loses_power : (votes : List Ballot) (old new : Disk) → LosesPower view old new → HeldBy Q view votes old → HeldBy Q view votes new
     loses_power votes old new h0 h1 = grind arith
@@ -114,28 +114,16 @@ module _ {Disk Why : Type 0} (s : Setting Disk Why) where
   abbrev ThesePenned : Configuration Disk → List (Moment Disk Why) → DeskId → List Ballot → Type 0
   ThesePenned w ms d vs = (b : Ballot) → In b vs → WasPenned w ms d b
 
+  now : (w : Configuration Disk) (m : Moment Disk Why) (ms : List (Moment Disk Why)) → PensKeep (ThesePenned w (m ∷ ms)) (last_of w ms) m.event m.answer
+  now w m ms d k g q t i may old b (inl j) = inl (cc, (k, i, cc), t)
+  now w m ms d k g q t i may old b (inr j) = old b j
+
   penned : (version : FileVersion) (n : ℕ) (w : Configuration Disk) (ms : List (Moment Disk Why)) → Begins s version n w → Run s w ms → BothHold (ThesePenned w ms) w
       → BothHold (ThesePenned w ms) (last_of w ms)
   penned version n w [] e r h = h
-  penned version n w (m ∷ ms) e r h0 =
-      let none : BothHold (ThesePenned w ms) w = begins_hold (ThesePenned w ms) (λ d b i. absurd i) version n w e in
-      let before = penned version n w ms e r.0 none in
-      let wide : BothHold (ThesePenned w (m ∷ ms)) (last_of w ms) = λ d.
-      let b = before d in
-      record { of_votes = λ c i. inr (b.of_votes c i); of_reads = λ vs e c i. inr (b.of_reads vs e c i); of_images = λ vs e c i. inr (b.of_images vs e c i) } in
-      step_holds (ThesePenned w (m ∷ ms)) (last_of w ms) m.event m.answer m.after (now m ms) wide r.1
-    where
-      now : (m : Moment Disk Why) (ms : List (Moment Disk Why)) → PensKeep (ThesePenned w (m ∷ ms)) (last_of w ms) m.event m.answer
-      now m ms d k g q t i may old b (inl j) =
-          let entry : b.entry ≡ g = ap (λ (c : Ballot). c.entry) j in
-          inl (q ∙ ap (Event.Pen d) (sym entry), (k, i, ap (λ (c : Ballot). c.at) (sym j)), t)
-      now m ms d k g q t i may old b (inr j) = old b j
+  penned version n w (m ∷ ms) e r h =
+      let before = penned version n w ms e r.0 (begins_hold (ThesePenned w ms) (λ d b i. absurd i) version n w e) in
+      step_holds (ThesePenned w (m ∷ ms)) (last_of w ms) m.event m.answer m.after (now w m ms) (λ d. let b = before d in grind arith) r.1
 
   pub all_penned : (version : FileVersion) (n : ℕ) (w : Configuration Disk) (ms : List (Moment Disk Why)) → Begins s version n w → Run s w ms → ArePenned w ms
-  all_penned version n w ms e r d b i =
-      let h = penned version n w ms e r (begins_hold (ThesePenned w ms) (λ d b i. absurd i) version n w e) d in
-      h.of_votes b (subst (In b) (votes_at s (last_of w ms) d) i)
-
-  pub penned_before : (version : FileVersion) (n : ℕ) (w : Configuration Disk) (ms : List (Moment Disk Why)) → Begins s version n w → Run s w ms → AfterEach ms (ArePenned w)
-  penned_before version n w [] e r = all_penned version n w [] e r
-  penned_before version n w (m ∷ ms) e r = (all_penned version n w (m ∷ ms) e r, penned_before version n w ms e r.0)
+  all_penned version n w ms e r d b i = grind (arith, votes_at, (penned version n w ms e r (begins_hold (ThesePenned w ms) (λ d b i. absurd i) version n w e) d))

@@ -23,13 +23,10 @@ pub one_score : {Disk Why : Type 0} (s : Setting Disk Why) (innings : ℕ) (vers
     → Run s w ms → HaveOneScore innings w ms
 one_score s innings version boards w ms begins run t u n score other p q =
     let f = begins_fine s version boards w begins in
-    let j = all_justified s (last_of w ms) (run_keeps s w ms f run) in
     let x = moment s w ms (λ v. ShowsScore innings v t n score) f run p in
     let y = moment s w ms (λ v. ShowsScore innings v u n other) f run q in
-    let xs = x.3.0 in
-    let ys = y.3.0 in
-    let size : length xs ≡ length ys = sym x.3.2 ∙ y.3.2 in
-    let equal = one_of_length (all_votes (last_of w ms)) (all_votes x.0) (all_votes y.0) j xs ys x.2 y.2 (shown_settled s x.0 t xs x.1 x.3.1) (shown_settled s y.0 u ys y.1 y.3.1) size in
-    let a = x.3.3 in
-    let b = y.3.3 in
-    one_standing score other innings (history_of ys) (subst (λ (o : List Entry). StandsFor score innings (history_of o)) equal a.score) b.score
+    let j = all_justified s (last_of w ms) (run_keeps s w ms f run) in
+    let xs = shown_settled s x.0 t x.3.0 x.1 x.3.1 in
+    let ys = shown_settled s y.0 u y.3.0 y.1 y.3.1 in
+    let same = one_of_length (all_votes (last_of w ms)) (all_votes x.0) (all_votes y.0) j x.3.0 y.3.0 x.2 y.2 xs ys (sym x.3.2 ∙ y.3.2) in
+    one_standing score other innings (history_of y.3.0) (rw same at x.3.3.score) y.3.3.score

@@ -82,28 +82,18 @@ module _ {Disk Why : Type 0} (s : Setting Disk Why) where
       → Keeps w (Station.Board number) book c b → slice_get w.sent n ≡ Some (Message.Vote (vote_of (other c) b)) → Step s w (Event.Give n (Station.Board number)) answer new → IsVoteAnswer answer
       → Shows new (Station.Board number) (book ++ b.entry ∷ [])
   board_given w number c n book b answer new f g sent p i =
+      let h = board_keeps w number c p.0 book b p.3 g in
       let q = p.4 in
-      let k = p.0 in
-      let v = vote_of (other c) b in
-      let h = board_keeps w number c k book b p.3 g in
-      let this : q.0 ≡ Message.Vote v = given_there w.sent n q.0 (Message.Vote v) sent q.2 in
-      let fine = board_fine_at (all_votes w) w.boards number k p.3 f.on_boards in
-      let none = reader_alone k.reader c b.entry fine.waits h.2 in
-      let noted : noted_of k.reader (other (other c)) ≡ Some b.entry = subst (λ (d : DeskId). noted_of k.reader d ≡ Some b.entry) (sym (other_twice c)) h.2 in
-      let received : BoardReceives s.rules k (Message.Vote v) q.1 p.1 = subst (λ (z : Message). BoardReceives s.rules k z q.1 p.1) this q.3 in
-      let grown = board_told_second k p.1 v q.1 (sym h.1) none noted received (subst IsVoteAnswer q.4 i) in
-      let there : board_at new.boards number ≡ Some p.1 = ap (λ (z : Configuration Disk). board_at z.boards number) p.5 ∙ board_put w.boards number p.0 p.1 p.3 in
-      (p.1, there, grown ∙ ap (λ (o : List Entry). o ++ b.entry ∷ []) h.0)
+      let this = given_there w.sent n q.0 (Message.Vote (vote_of (other c) b)) sent q.2 in
+      let fine = board_fine_at (all_votes w) w.boards number p.0 p.3 f.on_boards in
+      (p.1, grind (arith, board_put), grind (arith, reader_alone, other_twice, board_told_second))
 
   second_taken : (w : Configuration Disk) (event : Event) (answer : Answer Why) (new : Configuration Disk) (t : Station) (book : List Entry) (b : Ballot) (c : DeskId) → Fine s w → Keeps w t book c b
       → Brings w event t (other c) b → Step s w event answer new → IsVoteAnswer answer → Shows new t (book ++ b.entry ∷ [])
   second_taken w event answer new (Station.Desk d) book b c f h (inl (apart, (n, e, sent))) p i =
-      desk_given w d c n book b answer new f h (λ q. apart (ap Station.Desk (sym q))) sent (subst (λ (z : Event). Step s w z answer new) e p) i
-  second_taken w event answer new (Station.Board number) book b c f h (inl (apart, (n, e, sent))) p i =
-      board_given w number c n book b answer new f h sent (subst (λ (z : Event). Step s w z answer new) e p) i
-  second_taken w event answer new t book b c f h (inr (here, e)) p i =
-      subst (λ (z : Station). Shows new z (book ++ b.entry ∷ [])) (sym here)
-      (desk_penned w c book b answer new (subst (λ (z : Station). Keeps w z book c b) here h) (subst (λ (z : Event). Step s w z answer new) e p) i)
+      desk_given w d c n book b answer new f h (λ q. apart (ap Station.Desk (sym q))) sent (rw e at p) i
+  second_taken w event answer new (Station.Board number) book b c f h (inl (apart, (n, e, sent))) p i = board_given w number c n book b answer new f h sent (rw e at p) i
+  second_taken w event answer new t book b c f h (inr (here, e)) p i = rw here (desk_penned w c book b answer new (rw here at h) (rw e at p) i)
 
   -- of what is noted, since that is kept
   pub takes_second : (version : FileVersion) (n : ℕ) (w : Configuration Disk) → Begins s version n w → (ms : List (Moment Disk Why)) → Run s w ms → TakesSecond s w ms

@@ -16,7 +16,7 @@ use Rattle.headline.specs.Runs.{AtEachMoment, AtSomeMoment, Moment, Run, Shows, 
 use Rattle.headline.specs.Kept.{kept_by_process, NoneKeepsBoth}
 use Rattle.headline.specs.Besides.{KeepsVotes, KeptSafe, StandsFast, WithinAgreed, AtEachEvent}
 use Rattle.headline.specs.Headline.{ArePrefixes, ByBoth}
-use Rattle.agree_core.specs.Keeping.{MessageFine, ShowsMore}
+use Rattle.agree_core.specs.Keeping.{MessageFine, ShowsMore, DiskFine}
 use Rattle.agree_core.proofs.Both.{both_at, both_settled, both_turned, same}
 use Rattle.agree_core.proofs.Desks.{more_within}
 use Rattle.headline.proofs.BoardKeeping.{board_fine_at, item_at}
@@ -35,7 +35,7 @@ module _ {Disk Why : Type 0} (s : Setting Disk Why) where
   shown_both w h1 book f h = grind (arith, process_both, both_turned)
 
   pub shown_settled : (w : Configuration Disk) (t : Station) (book : List Entry) → Fine s w → Shows w t book → AllSettled (all_votes w) 0 book
-  shown_settled w t book f h = both_settled (all_votes w) (all_justified s w f) 0 book (shown_both w t book f h)
+  shown_settled w t book f h = grind (arith, both_settled, all_justified, shown_both)
 
   pub by_both : (w : Configuration Disk) → Fine s w → ByBoth w
   by_both w h0 = grind (arith, both_at, shown_both)
@@ -90,28 +90,25 @@ module _ {Disk Why : Type 0} (s : Setting Disk Why) where
   pub none_keeps_both : (w : Configuration Disk) → Fine s w → NoneKeepsBoth w
   none_keeps_both w h0 = grind (arith, board_waits, node_fine, process_waits)
 
-  image_has : (theirs votes : List Ballot) (o : Option (List Ballot)) → ShowsMore theirs votes o → (these : List Ballot) × (o ≡ Some these) × Within votes these
-  image_has theirs votes o h = (h.0, h.1, more_within theirs votes h.0 h.2)
+  image_has : (w : Configuration Disk) (d : DeskId) (o : Option (List Ballot)) → ShowsMore (votes_by (all_votes w) (other d)) (process_votes (node w d).process) o
+      → (these : List Ballot) × (o ≡ Some these) × Within (votes_by (all_votes w) d) these
+  image_has w d o h = (h.0, h.1, rw (votes_at s w d) (more_within (votes_by (all_votes w) (other d)) (process_votes (node w d).process) h.0 h.2))
+
+  disk_fine : (w : Configuration Disk) (d : DeskId) → Fine s w
+      → DiskFine (s.view d (node w d).version) d (votes_by (all_votes w) (other d)) (process_votes (node w d).process) (process_disk (node w d).process)
+  disk_fine w d f = fine_disk s (node w d).version d (votes_by (all_votes w) (other d)) (node w d).process (node_fine s w d f)
 
   pub kept_safe : (w : Configuration Disk) → Fine s w → KeptSafe s w
   kept_safe w f = record {
-    sent = λ n v e. item_at (MessageFine (all_votes w)) w.sent n (Message.Vote v) e f.on_sent;
-    images = λ d image i.
-        let theirs = votes_by (all_votes w) (other d) in
-        rw (votes_at s w d) (image_has theirs (process_votes (node w d).process) image ((fine_disk s (node w d).version d theirs (node w d).process (node_fine s w d f)).1 image i));
-    reads = λ d.
-        let theirs = votes_by (all_votes w) (other d) in
-        let disk = fine_disk s (node w d).version d theirs (node w d).process (node_fine s w d f) in
-        rw (votes_at s w d) (image_has theirs (process_votes (node w d).process) ((s.view d (node w d).version).reads (process_disk (node w d).process)) disk.0);
+    sent = λ n v e. grind (arith, item_at);
+    images = λ d image i. image_has w d image ((disk_fine w d f).1 image i);
+    reads = λ d. image_has w d ((s.view d (node w d).version).reads (process_disk (node w d).process)) (disk_fine w d f).0;
   }
 
   pub stands_fast : (w : Configuration Disk) → Fine s w → StandsFast s w
   stands_fast w f =
       let j = all_justified s w f in
-      record {
-        safe = kept_safe w f;
-        votes = record { one_each = one_vote_each (all_votes w) j; rounds = rounds_differ (all_votes w) j; places = places_settled (all_votes w) j };
-      }
+      record { safe = kept_safe w f; votes = grind (arith, one_vote_each, rounds_differ, places_settled) }
 
   pub votes_kept : (w : Configuration Disk) (ms : List (Moment Disk Why)) → Fine s w → Run s w ms → AtEachEvent w ms KeepsVotes
   votes_kept w [] f r = tt

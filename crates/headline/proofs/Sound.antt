@@ -34,7 +34,7 @@ use Rattle.agree_core.specs.Keeping.{BoardFine, MessageFine, NotedFine, SeatFine
 use Rattle.agree_core.proofs.Both.{both_grow, both_settled, both_turned, same}
 use Rattle.headline.proofs.BoardKeeping.{board_fine_at}
 use Rattle.headline.proofs.Given.{given_fine}
-use Rattle.headline.proofs.Keeping.{Fine, ProcessFine, all_justified, begins_fine, run_keeps, running, node_fine}
+use Rattle.headline.proofs.Keeping.{Fine, ProcessFine, all_justified, begins_fine, run_keeps, running, node_fine, votes_at}
 use Rattle.headline.proofs.PennedVotes.{BothHold, HeldBy, PensKeep, begins_hold, step_holds}
 
 -- the list after each vote was one that the rules take
@@ -51,7 +51,7 @@ closed_taken rules kept book e h0 h1 = grind arith
 -- the book that a file shows is one that the rules take
 taken_book : {Why : Type 0} (rules : Rules Why) (b : Ballot) (bs : List Ballot) → Lawful rules bs → AllTaken rules [] (book_of (b ∷ bs))
 taken_book rules b [] h = tt
-taken_book rules b (c ∷ rest) h = closed_taken rules (nat_eq b.at.place c.at.place) (book_of (c ∷ rest)) c.entry (taken_book rules c rest h.1) h.0
+taken_book rules b (c ∷ rest) h = grind (arith, closed_taken, taken_book rules c rest h.1)
 
 -- the last of entries that are all taken
 taken_last : {Why : Type 0} (rules : Rules Why) (book xs : List Entry) (e : Entry) → AllTaken rules book (xs ++ e ∷ []) → rules (book ++ xs) e ≡ None
@@ -74,6 +74,9 @@ pub one_of_length : (v a b : AllVotes) → AllJustified v → (xs ys : List Entr
     → AllSettled a 0 xs → AllSettled b 0 ys → length xs ≡ length ys → xs ≡ ys
 one_of_length v a b j xs ys g h p q size =
     ⊎_elim (λ (z : BeginsWith ys xs). same_length xs ys z size) (λ (z : BeginsWith xs ys). sym (same_length ys xs z (sym size))) (one_book v j a b xs ys g h p q)
+
+one_both : (v : AllVotes) (xs ys : List Entry) → AllJustified v → AllBoth v.a v.b 0 xs → AllBoth v.a v.b 0 ys → length xs ≡ length ys → xs ≡ ys
+one_both v xs ys j p q size = one_of_length v v v j xs ys (same v.a, same v.b) (same v.a, same v.b) (both_settled v j 0 xs p) (both_settled v j 0 ys q) size
 
 -- a desk has one vote at a position
 two_entries : (theirs votes : List Ballot) (x : Option Entry) (v : Vote) (e : Entry) (at : _) → Justified theirs votes → NotedFine votes at x → x ≡ Some e → In (ballot_of v) votes
@@ -98,28 +101,21 @@ module _ {Disk Why : Type 0} (s : Setting Disk Why) where
       (lawful_pens (last_of w ms) m.event m.answer (run_keeps s w ms (begins_fine s version n w e) r.0)) (lawful_run version n w ms e r.0) r.1
 
   pub lawful_votes : (w : Configuration Disk) (d : DeskId) → BothHold s (λ d. Lawful s.rules) w → Lawful s.rules (votes_by (all_votes w) d)
-  lawful_votes w A l = let h = l A in h.of_votes
-  lawful_votes w B l = let h = l B in h.of_votes
-
-  board_takes : (w : Configuration Disk) (k : BoardState) (v : Vote) (reader : ReaderState) → Fine s w → BothHold s (λ d. Lawful s.rules) w → BoardFine (all_votes w) k
-      → In (ballot_of v) (votes_by (all_votes w) v.desk) → Listens k.reader v Heard.Agreed reader → s.rules k.book v.entry ≡ None
-  board_takes w k v reader f l b i h =
-      let d = v.desk in
-      let g = taken_at s.rules (votes_by (all_votes w) (other d)) (votes_by (all_votes w) d) (justified_of w d f) (lawful_votes w d l) (ballot_of v) i in
-      let j = all_justified s w f in
-      let here = both_settled (all_votes w) j 0 g.0 (turned w d g.0 g.1) in
-      let there = both_settled (all_votes w) j 0 k.book b.both in
-      let size : length g.0 ≡ length k.book = g.2 ∙ ap (λ p. p.place) h.0 ∙ sym b.long in
-      let grow : ballots.VotesGrow (all_votes w) (all_votes w) = (same (all_votes w).a, same (all_votes w).b) in
-      let equal = one_of_length (all_votes w) (all_votes w) (all_votes w) j g.0 k.book grow grow here there size in
-      subst (λ (o : List Entry). s.rules o v.entry ≡ None) equal g.3
-    where
-      turned : (w : Configuration Disk) (d : DeskId) (book : List Entry) → AllBoth (votes_by (all_votes w) d) (votes_by (all_votes w) (other d)) 0 book → AllBoth (all_votes w).a (all_votes w).b 0 book
-      turned w h1 book h = grind (arith, both_turned)
+  lawful_votes w d l = let h = l d in rw (votes_at s w d) h.of_votes
 
   two_at_desk : (w : Configuration Disk) (d : DeskId) (k : DeskState Disk) (v : Vote) (t : SeatState) → Fine s w → SeatFine d k.votes (votes_by (all_votes w) (other d)) k.seat k.book
       → MessageFine (all_votes w) (Message.Vote v) → Hears k.seat v Heard.TwoVotes t → ⊥
   two_at_desk w d k v t h0 h1 h2 h3 = grind (arith, two_entries)
+
+  turned : (w : Configuration Disk) (d : DeskId) (book : List Entry) → AllBoth (votes_by (all_votes w) d) (votes_by (all_votes w) (other d)) 0 book → AllBoth (all_votes w).a (all_votes w).b 0 book
+  turned w d book h = grind (arith, both_turned)
+
+  -- the entry of a vote is taken after the book of its place, of entries that both voted for
+  pub voted_taken : (w : Configuration Disk) (d : DeskId) (b : Ballot) (book : List Entry) → Fine s w → BothHold s (λ d. Lawful s.rules) w → In b (votes_by (all_votes w) d)
+      → AllBoth (all_votes w).a (all_votes w).b 0 book → length book ≡ b.at.place → s.rules book b.entry ≡ None
+  voted_taken w d b book f l i both size =
+      let g = taken_at s.rules (votes_by (all_votes w) (other d)) (votes_by (all_votes w) d) (justified_of w d f) (lawful_votes w d l) b i in
+      rw (one_both (all_votes w) book g.0 (all_justified s w f) both (turned w d g.0 g.1) (size ∙ sym g.2)) g.3
 
   receive_sound : (event : Event) (w : Configuration Disk) (d : DeskId) (x : Node Disk) (k l : DeskState Disk) (m : Message) (told : ReceiveAnswer) (out : List Message)
       (answer : Answer Why) (y : Node Disk) → Fine s w → SeatFine d k.votes (votes_by (all_votes w) (other d)) k.seat k.book → MessageFine (all_votes w) m
@@ -139,9 +135,13 @@ module _ {Disk Why : Type 0} (s : Setting Disk Why) where
       receive_sound (Event.Give n t) w d (node w d) p.0 p.1 p.2 p.3 out answer y f fine.seat (given_fine (all_votes w) w.sent n p.2 f.on_sent p.5) p.6 p.7
   desk_sound w d h2 answer y out f l p = grind (arith, open_sound)
 
+  board_takes : (w : Configuration Disk) (k : BoardState) (v : Vote) (reader : ReaderState) → Fine s w → BothHold s (λ d. Lawful s.rules) w → BoardFine (all_votes w) k
+      → In (ballot_of v) (votes_by (all_votes w) v.desk) → Listens k.reader v Heard.Agreed reader → s.rules k.book v.entry ≡ None
+  board_takes w k v reader f l b i h = voted_taken w v.desk (ballot_of v) k.book f l i b.both (b.long ∙ sym (ap (λ p. p.place) h.0))
+
   board_told_sound : (event : Event) (w : Configuration Disk) (k l : BoardState) (m : Message) (told : BoardAnswer) → Fine s w → BothHold s (λ d. Lawful s.rules) w → BoardFine (all_votes w) k
       → MessageFine (all_votes w) m → BoardReceives s.rules k m told l → IsSoundAnswer {Why = Why} event (board_told told)
-  board_told_sound event w k l m h5 f h b i p = grind (arith, board_takes, two_entries)
+  board_told_sound event w k l m told f h b i p = grind (arith, board_takes, two_entries)
 
   board_sound : (w : Configuration Disk) (event : Event) (k : BoardState) (answer : Answer Why) (l : BoardState) (out : List Message) → Fine s w → BothHold s (λ d. Lawful s.rules) w
       → BoardFine (all_votes w) k → AtBoard s w.sent event k answer l out → IsSoundAnswer event answer
