@@ -9,7 +9,7 @@ use Rattle.headline.specs.Answers.{Answer}
 use Rattle.headline.specs.DeskSteps.{AtDesk}
 use Rattle.headline.specs.BoardSteps.{AtBoard}
 use Rattle.headline.specs.Steps.{StepAt}
-use Rattle.headline.proofs.Heeding.{board_other, board_put, same_station}
+use Rattle.headline.proofs.Heeding.{board_other, board_put}
 
 module _ {Disk Why : Type 0} (s : Setting Disk Why) (w : Configuration Disk) (event : Event) (answer : Answer Why) (new : Configuration Disk) where
   pub at_desk : (t : Station) (d : DeskId) → StepAt s w event t answer new
@@ -20,4 +20,4 @@ module _ {Disk Why : Type 0} (s : Setting Disk Why) (w : Configuration Disk) (ev
       → ((t ≢ Station.Board n) × (board_at new.boards n ≡ board_at w.boards n))
       ⊎ ((t ≡ Station.Board n) × (k : BoardState) × (l : BoardState) × (out : List Message) × (board_at w.boards n ≡ Some k) × (board_at new.boards n ≡ Some l)
       × AtBoard s w.sent event k answer l out)
-  at_board t n p = grind (arith, board_other, board_put, same_station)
+  at_board t n p = grind (arith, board_other, board_put)

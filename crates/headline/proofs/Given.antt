@@ -7,7 +7,6 @@ use Rattle.agree_core.specs.Ballots.{AllVotes}
 use Rattle.agree_core.specs.Keeping.{Each, MessageFine}
 use Rattle.headline.specs.Given.{IsGiven}
 use Rattle.headline.proofs.BoardKeeping.{item_at}
-use Rattle.headline.proofs.Heeding.{same_some}
 
 -- a vote was sent
 pub given_vote : (sent : List Message) (n : ℕ) (v : Vote) → IsGiven sent n (Message.Vote v) → slice_get sent n ≡ Some (Message.Vote v)
@@ -15,7 +14,7 @@ given_vote sent n v h3 = grind arith
 
 -- where a message has this number it is what is given
 pub given_there : (sent : List Message) (n : ℕ) (m there : Message) → slice_get sent n ≡ Some there → IsGiven sent n m → m ≡ there
-given_there sent n m there e h5 = grind (arith, same_some)
+given_there sent n m there e h5 = grind arith
 
 -- it is fine where all that was sent is
 pub given_fine : (v : AllVotes) (sent : List Message) (n : ℕ) (m : Message) → Each (MessageFine v) sent → IsGiven sent n m → MessageFine v m

@@ -27,38 +27,11 @@ set_there h0 n k l e = grind arith
 pub board_put : (boards : List BoardState) (n : ℕ) (k l : BoardState) → board_at boards n ≡ Some k → board_at (with_board boards n l) n ≡ Some l
 board_put boards n k l h0 = grind (arith, set_there)
 
-pub same_station : (t u : Station) → (t ≡ u) ⊎ (t ≢ u)
-same_station t u = grind arith
-
-pub own_kept : (k : SeatState) (d : DeskId) → kept_by_seat k d d ≡ k.mine
-own_kept k d = grind arith
-
-pub their_kept : (k : SeatState) (d c : DeskId) → c ≢ d → kept_by_seat k d c ≡ k.theirs
-their_kept k d c n = grind arith
-
-pub no_seat_kept : (k : SeatState) (d c : DeskId) → k.mine ≡ None → k.theirs ≡ None → kept_by_seat k d c ≡ None
-no_seat_kept k d c m t = grind arith
-
-pub which : (c d : DeskId) → (d ≡ c) ⊎ (d ≡ other c)
-which c d = grind arith
-
 pub other_not : (d : DeskId) → other d ≢ d
 other_not d = grind arith
 
-pub other_of : (c d : DeskId) → c ≢ d → other c ≡ d
-other_of c d n = grind arith
-
-pub next_place_differs : (p q : Position) → q ≡ record { place = p.place + 1; round = 0 } → p ≢ q
-next_place_differs p q e h = let a = ap (λ (x : Position). x.place) (h ∙ e) in omega (arith, a)
-
-pub next_round_differs : (p q : Position) → q ≡ record { place = p.place; round = p.round + 1 } → p ≢ q
-next_round_differs p q e h = let a = ap (λ (x : Position). x.round) (h ∙ e) in omega (arith, a)
-
 pub some_none : {X : Type 0} (o : Option X) (x : X) → o ≡ None → o ≡ Some x → ⊥
 some_none o x p q = cc
-
-pub same_some : {X : Type 0} (o : Option X) (x y : X) → o ≡ Some x → o ≡ Some y → x ≡ y
-same_some o x y p q = cc
 
 -- a vote that is heard changes nothing, where it isn't the first of the other desk for this position; else the seat
 -- keeps it, or is at another position without a vote
@@ -69,7 +42,7 @@ Heeds k v l =
     ⊎ ((k.position ≢ l.position) × (l.mine ≡ None) × (l.theirs ≡ None)))
 
 pub heeds : (k l : SeatState) (v : Vote) (h : Heard) → Hears k v h l → Heeds k v l
-heeds k l v h3 r = grind (arith, not_before, some_none, next_place_differs, next_round_differs)
+heeds k l v h3 r = grind (arith, not_before, some_none)
 
 -- the same of a board
 abbrev pub Reads : ReaderState → Vote → ReaderState → Type 0
@@ -79,16 +52,10 @@ Reads k v l =
     ⊎ ((k.position ≢ l.position) × (l.a ≡ None) × (l.b ≡ None)))
 
 pub reads : (k l : ReaderState) (v : Vote) (h : Heard) → Listens k v h l → Reads k v l
-reads k l v h3 r = grind (arith, not_before, some_none, next_place_differs, next_round_differs)
+reads k l v h3 r = grind (arith, not_before, some_none)
 
 pub noting_there : (k : ReaderState) (d : DeskId) (e : Entry) → noted_of (readers.noting k d e) d ≡ Some e
 noting_there k d e = grind arith
 
-pub noting_other : (k : ReaderState) (d : DeskId) (e : Entry) → noted_of (readers.noting k d e) (other d) ≡ noted_of k (other d)
-noting_other k d e = grind arith
-
 pub noting_at : (k : ReaderState) (d : DeskId) (e : Entry) → (readers.noting k d e).position ≡ k.position
 noting_at k d e = grind arith
-
-pub no_reader_kept : (k : ReaderState) (c : DeskId) → k.a ≡ None → k.b ≡ None → noted_of k c ≡ None
-no_reader_kept k c a b = grind arith

@@ -12,13 +12,13 @@ use Rattle.agree_core.proofs.Order.{justified_grows}
 use Rattle.headline.specs.Given.{IsGiven}
 use Rattle.headline.specs.declared.{event.Event.Event, event.Station.Station, fault.Fault.Fault, version.FileVersion.FileVersion}
 use Rattle.headline.specs.declared.fault.Fault.TheVariants.{Fail, Stop}
-use Rattle.headline.specs.declared.version.FileVersion.TheVariants.{Old, New}
+use Rattle.headline.specs.declared.version.FileVersion.TheVariants.{Old}
 use Rattle.headline.specs.Setting.{Setting}
 use Rattle.headline.specs.Configurations.{Process, Running, Down, Node, Configuration, node, process_disk, process_votes, all_votes, with_disk, with_node}
 use Rattle.headline.specs.Events.{station_of}
 use Rattle.headline.specs.Answers.{Answer}
 use Rattle.headline.specs.DeskFaults.{Breaks, FallsDue, LosesPower, StaysDownBy}
-use Rattle.headline.specs.Migrations.{MigratesAt, ToNew}
+use Rattle.headline.specs.Migrations.{MigratesAt}
 use Rattle.headline.specs.DeskSteps.{AtDesk}
 use Rattle.headline.specs.BoardSteps.{AtBoard}
 use Rattle.headline.specs.Steps.{Step, StepAt}
@@ -42,9 +42,6 @@ module _ {Disk Why : Type 0} (s : Setting Disk Why) where
     pub told : Each (OwnMessage d (process_votes y)) out
 
   module _ (v : FileVersion) (d : DeskId) (theirs : List Ballot) where
-    pub process_justified : (x : Process Disk) → ProcessFine v d theirs x → Justified theirs (process_votes x)
-    process_justified x h0 = grind arith
-
     pub fine_disk : (x : Process Disk) → ProcessFine v d theirs x → DiskFine (s.view d v) d theirs (process_votes x) (process_disk x)
     fine_disk x h0 = grind arith
 
@@ -56,9 +53,6 @@ module _ {Disk Why : Type 0} (s : Setting Disk Why) where
 
     on_other_disk : (x : Process Disk) (disk : Disk) → Stays (s.view d v) (process_disk x) disk → ProcessFine v d theirs x → NodeKept v d theirs x (with_disk x disk) []
     on_other_disk x disk h0 h1 = grind arith
-
-  shows_votes : (theirs votes found : List Ballot) (o : Option (List Ballot)) → o ≡ Some found → ShowsMore theirs votes o → OneMore theirs votes found
-  shows_votes theirs votes found o e h = grind arith
 
   module _ (d : DeskId) (theirs : List Ballot) (x : Node Disk) where
     abbrev KeptAt : Node Disk → List Message → Type 0
@@ -86,36 +80,14 @@ module _ {Disk Why : Type 0} (s : Setting Disk Why) where
       after_receive ReceiveAnswer.DeviceFailed answer y p = broken answer y p
       after_receive _ answer y p = runs_on y x.due p.1
 
-    -- a desk is down, on a disk that is fine
-    down_at : (y : Node Disk) (disk : Disk) → ProcessFine x.version d theirs x.process → DiskFine (s.view d x.version) d theirs (process_votes x.process) disk
-        → y ≡ record x { process = Down (process_votes x.process) disk; due = None } → KeptAt y []
-    down_at y disk h0 h1 h2 = grind arith
-
-    falls_due : (y : Node Disk) (fault : Fault) → ProcessFine x.version d theirs x.process → FallsDue (s.view d x.version) fault x y → KeptAt y []
-    falls_due y fault f p = grind (arith, on_other_disk)
-
     -- the same, of a desk that is told to be down
     module _ (votes : List Ballot) (old : Disk) (e : x.process ≡ Down votes old) (f : ProcessFine x.version d theirs x.process) where
-      down : ProcessFine x.version d theirs (Down votes old)
-      down = rw e at f
-
-      down_from : (y : Node Disk) (disk : Disk) (due : Option Fault) → DiskFine (s.view d x.version) d theirs votes disk → y ≡ record x { process = Down votes disk; due = due } → KeptAt y []
-      down_from y disk due h0 h1 = grind arith
-
-      stays_down : (y : Node Disk) (left : Disk) (fault : Fault) (answer : Answer Why) → DiskFine (s.view d x.version) d theirs votes left
-          → StaysDownBy (s.view d x.version) x fault votes left answer y → KeptAt y []
-      stays_down y left fault answer h0 h1 = grind arith
-
       after_open : (opening : Opening Disk) (answer : Answer Why) (y : Node Disk) → Opens (s.view d x.version) s.rules d old opening
           → AfterOpen (s.view d x.version) x votes opening answer y → KeptAt y []
-      after_open opening answer y h0 h1 = grind (arith, down, down_from, not_opened_keeps, opened_keeps, stays_down)
-
-      -- an old file that may have been synced
-      old_synced : (left : Disk) → x.version ≡ Old → MaySync (s.view d Old) old left → DiskFine (s.view d x.version) d theirs votes left
-      old_synced left h0 h1 = grind arith
+      after_open opening answer y h0 h1 = grind (arith, not_opened_keeps, opened_keeps)
 
       migrates_at : (version : FileVersion) (answer : Answer Why) (y : Node Disk) → x.version ≡ version → MigratesAt (s.view d) x version votes old answer y → KeptAt y []
-      migrates_at version answer y q p = grind (arith, shows_votes, same, down, down_from, old_synced, stays_down)
+      migrates_at version answer y q p = grind (arith, same)
 
   -- every event at a desk keeps it fine
   pub at_desk_keeps : (sent : List Message) (d : DeskId) (theirs : List Ballot) (event : Event) (x : Node Disk) (answer : Answer Why) (y : Node Disk) (out : List Message)
@@ -130,11 +102,11 @@ module _ {Disk Why : Type 0} (s : Setting Disk Why) where
   at_desk_keeps sent d theirs (Event.Tick u) x answer y out t f p =
       let kept = ticks_keep (s.view d x.version) d theirs p.0 out (running x.version d theirs x.process p.0 p.1 f) p.2 in
       runs_on d theirs x p.0 p.0 out p.1 kept y x.due (p.4 ∙ ap (λ (z : Process Disk). record x { process = z }) p.1)
-  at_desk_keeps sent d theirs (Event.Kill c) x answer y out t f p = grind (arith, stays_fine, fine_disk, down_at)
-  at_desk_keeps sent d theirs (Event.Power c choice) x answer y out t f p = grind (arith, down_at, loses_power)
+  at_desk_keeps sent d theirs (Event.Kill c) x answer y out t f p = grind (arith, stays_fine, fine_disk)
+  at_desk_keeps sent d theirs (Event.Power c choice) x answer y out t f p = grind (arith, loses_power)
   at_desk_keeps sent d theirs (Event.Open c) x answer y out t f p = rw p.6 (after_open d theirs x p.0 p.1 p.3 f p.2 answer y p.4 p.5)
   at_desk_keeps sent d theirs (Event.Migrate c) x answer y out t f p = rw p.4 (migrates_at d theirs x p.0 p.1 p.2 f x.version answer y refl p.3)
-  at_desk_keeps sent d theirs event x answer y out t f p = grind (arith, falls_due)
+  at_desk_keeps sent d theirs event x answer y out t f p = grind arith
 
   pub record Fine (w : Configuration Disk) : Type 0 where
     pub on_a : ProcessFine w.a.version A (all_votes w).b w.a.process
@@ -146,17 +118,11 @@ module _ {Disk Why : Type 0} (s : Setting Disk Why) where
   Grows w new = VotesGrow (all_votes w) (all_votes new)
 
   pub all_justified : (w : Configuration Disk) → Fine w → AllJustified (all_votes w)
-  all_justified w f = grind (arith, process_justified)
-
-  shows_grows : (theirs theirs' votes : List Ballot) → Within theirs theirs' → (o : Option (List Ballot)) → ShowsMore theirs votes o → ShowsMore theirs' votes o
-  shows_grows theirs theirs' votes h0 o h1 = grind (arith, justified_grows)
+  all_justified w f = grind arith
 
   process_grows : (v : FileVersion) (d : DeskId) (theirs theirs' : List Ballot) → Within theirs theirs' → (x : Process Disk) → ProcessFine v d theirs x → ProcessFine v d theirs' x
-  process_grows v d theirs theirs' g (Down votes disk) f = grind (arith, justified_grows, shows_grows)
+  process_grows v d theirs theirs' g (Down votes disk) f = grind (arith, justified_grows)
   process_grows v d theirs theirs' g (Running k) f = desk_grows (s.view d v) d theirs theirs' k g f
-
-  own_message : (v : AllVotes) (d : DeskId) (m : Message) → OwnMessage d (votes_by v d) m → MessageFine v m
-  own_message v d m h0 = grind arith
 
   pub their_message : (v : AllVotes) (d : DeskId) (m : Message) → MessageFine v m → TheirMessage d (votes_by v (other d)) m
   their_message v d m h0 = grind arith
@@ -180,7 +146,7 @@ module _ {Disk Why : Type 0} (s : Setting Disk Why) where
       let v = all_votes (with_node w d y out) in
       let g = votes_grow w d y out k.grows in
       let boards = each_other (BoardFine (all_votes w)) (BoardFine v) (board_grows (all_votes w) v g) w.boards f.on_boards in
-      let told = each_other (OwnMessage d (process_votes y.process)) (MessageFine v) (λ m o. grind (arith, own_message)) out k.told in
+      let told = each_other (OwnMessage d (process_votes y.process)) (MessageFine v) (λ m o. grind arith) out k.told in
       let sent = rest_grows (all_votes w) v g w.sent out f.on_sent told in
       (record { on_a = grind (arith, process_grows); on_b = grind (arith, process_grows); on_boards = grind arith; on_sent = grind arith }, g)
 
@@ -207,14 +173,11 @@ module _ {Disk Why : Type 0} (s : Setting Disk Why) where
   run_keeps w [] f r = f
   run_keeps w (m ∷ ms) f r = (step_keeps (last_of w ms) m.event m.answer m.after (run_keeps w ms f r.0) r.1).0
 
-  begins_at : (version : FileVersion) (d : DeskId) (x : Node Disk) → BeginsAt s version d x → ProcessFine x.version d [] x.process × (process_votes x.process ≡ [])
-  begins_at version d x h0 = grind arith
-
   pub begins_fine : (version : FileVersion) (n : ℕ) (w : Configuration Disk) → Begins s version n w → Fine w
   begins_fine version n w p =
       record {
-        on_a = grind (arith, begins_at);
-        on_b = grind (arith, begins_at);
+        on_a = grind arith;
+        on_b = grind arith;
         on_boards = subst (Each (BoardFine (all_votes w))) (sym p.boards_are_fresh) (fresh_boards_are (BoardFine (all_votes w)) (fresh_fine (all_votes w)) n);
         on_sent = subst (Each (MessageFine (all_votes w))) (sym p.nothing_sent) tt;
       }

@@ -1,5 +1,5 @@
 -- Each book that is shown is legal and has a score by the Laws, and what is shown as its score is that.
-use Rattle.std.proofs.Common.{◌≡◌, ℕ, ◌+◌, ◌≤◌, Bool, cond, Some, None, List, [], ◌∷◌, ◌++◌, length, refl, sym, ◌∙◌, subst, inl, inr, arith}
+use Rattle.std.proofs.Common.{◌≡◌, ℕ, ◌+◌, ◌≤◌, Bool, cond, Some, None, List, [], ◌∷◌, ◌++◌, length, refl, sym, subst, inl, inr, arith}
 use Rattle.std.specs.Prelude.{All, not, slice_get}
 use Rattle.std.proofs.lemmas.List.{append-nil, append_assoc}
 use Rattle.std.proofs.lemmas.List.Elements.{All-head, All-pop, All-tail}
@@ -26,8 +26,8 @@ use Rattle.corrections.proofs.BookGrowthLemmas.{in_range-items, items-push, kept
 use Rattle.corrections.proofs.LegalLemmas.{clean_items_of-push, history_of-clean_items, is_named, legal-none, legal_now, one_more}
 use Rattle.agree_core.specs.declared.messages.DeskId.TheVariants.{A}
 use Rattle.agree_core.specs.Agreed.{AllBoth}
-use Rattle.agree_core.specs.Ballots.{Ballot, In, VotesGrow, ballot_at}
-use Rattle.agree_core.proofs.Both.{both_at, both_settled, same}
+use Rattle.agree_core.specs.Ballots.{Ballot, In, ballot_at}
+use Rattle.agree_core.proofs.Both.{both_at}
 use Rattle.headline.specs.declared.version.FileVersion.{FileVersion}
 use Rattle.headline.specs.Setting.{Setting}
 use Rattle.headline.specs.Configurations.{Configuration, all_votes}
@@ -35,10 +35,10 @@ use Rattle.headline.specs.Events.{IsEvent}
 use Rattle.headline.specs.Runs.{AtEachMoment, Begins, Moment, Run, events_of, last_of}
 use Rattle.headline.specs.Headline.{HasRanges, AllHaveScores, ShowsLawsScores}
 use Rattle.headline.specs.Penned.{WasPenned}
-use Rattle.headline.proofs.Keeping.{Fine, all_justified, begins_fine, run_keeps}
+use Rattle.headline.proofs.Keeping.{Fine, begins_fine, run_keeps}
 use Rattle.headline.proofs.PennedVotes.{BothHold, all_penned}
 use Rattle.headline.proofs.Shown.{shown_both}
-use Rattle.headline.proofs.Sound.{Lawful, justified_of, lawful_run, lawful_votes, one_of_length, taken_at, voted_taken}
+use Rattle.headline.proofs.Sound.{Lawful, lawful_run, voted_taken}
 
 -- ---- a legal history has a standing
 

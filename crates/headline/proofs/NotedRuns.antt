@@ -1,5 +1,5 @@
 -- In each run seats and readers keep just what is noted.
-use Rattle.std.proofs.Common.{inl, inr, arith, ◌≡◌, ℕ, zero, suc, None, option_and_then, List, [], ◌∷◌, refl, ap, ◌∙◌}
+use Rattle.std.proofs.Common.{inl, inr, arith, ◌≡◌, ℕ, suc, None, option_and_then, List, [], ◌∷◌, refl, ap, ◌∙◌}
 use Rattle.agree_core.specs.declared.messages.{DeskId.DeskId}
 use Rattle.agree_core.specs.Boards.{BoardState}
 use Rattle.agree_core.specs.Readers.{noted_of}
@@ -31,12 +31,9 @@ module _ {Disk Why : Type 0} (s : Setting Disk Why) where
     | inr h ↦ board_leaves s w m n m.event h.1 h.2 h.3 refl h.0 h.4 h.5 h.6
   ]
 
-  begins_at_none : (version : FileVersion) (d : DeskId) (x : Node Disk) (c : DeskId) → BeginsAt s version d x → kept_by_process x.process d c ≡ None
-  begins_at_none version d x c h0 = grind arith
-
   begins_none : (version : FileVersion) (n : ℕ) (w : Configuration Disk) → Begins s version n w → (t : Station) (c : DeskId) → kept_at w t c ≡ None
   begins_none version n w e (Station.Board i) c = ap (λ (z : List BoardState). option_and_then (λ (k : BoardState). noted_of k.reader c) (board_at z i)) e.boards_are_fresh ∙ fresh_kept n i c
-  begins_none version n w e h4 c = grind (arith, begins_at_none)
+  begins_none version n w e h4 c = grind arith
 
   pub keeps_noted : (version : FileVersion) (n : ℕ) (w : Configuration Disk) (ms : List (Moment Disk Why)) → Begins s version n w → Run s w ms → KeepsNoted s w ms
   keeps_noted version n w [] e r t c b = (λ h. absurd h, λ k. absurd (some_none (kept_at w t c) b.entry (begins_none version n w e t c) k.1))

@@ -1,5 +1,5 @@
 -- How an event leaves what a station keeps, and that this is what is noted.
-use Rattle.std.proofs.Common.{arith, ◌≡◌, ◌≢◌, ◌⊎◌, ◌↔◌, Option, Some, None, List, ◌∷◌, refl, sym, ap, ◌∙◌, subst, inl, inr}
+use Rattle.std.proofs.Common.{arith, ◌≡◌, ◌≢◌, ◌↔◌, Option, Some, None, List, ◌∷◌, refl, sym, ap, ◌∙◌, inl, inr}
 use Rattle.notation.specs.declared.entry.Entry.{Entry}
 use Rattle.agree_core.specs.declared.{messages.DeskId.DeskId, position.Position.Position}
 use Rattle.agree_core.specs.Ballots.{Ballot}
@@ -8,7 +8,6 @@ use Rattle.headline.specs.declared.event.{Event.Event, Station.Station}
 use Rattle.headline.specs.Setting.{Setting}
 use Rattle.headline.specs.Configurations.{Configuration}
 use Rattle.headline.specs.Runs.{Moment, last_of}
-use Rattle.headline.proofs.Heeding.{same_some, some_none, which}
 use Rattle.headline.specs.Noted.{Brings, HasNoted, IsBrought, IsFound, beginning_of, position_at}
 use Rattle.headline.specs.Kept.{kept_at}
 
@@ -48,10 +47,6 @@ module _ {Disk Why : Type 0} (s : Setting Disk Why) where
     Same : Stays w m t → Leaves w m t
     More : (c : DeskId) (b : Ballot) → Adds w m t c b → Leaves w m t
 
-  -- an event brings one vote
-  pub brings_once : (w : Configuration Disk) (event : Event) (t : Station) (c d : DeskId) (a b : Ballot) → Brings w event t c a → Brings w event t d b → (c ≡ d) × (a.entry ≡ b.entry)
-  brings_once w event t c d a b h7 h8 = grind arith
-
   found_begins : (w : Configuration Disk) (m : Moment Disk Why) (t : Station) (c : DeskId) (b : Ballot) → t ≡ Station.Desk c → IsFound s w m c b → m.event ≡ beginning_of t
   found_begins w m t c b e f = f.0 ∙ sym (ap beginning_of e)
 
@@ -79,11 +74,11 @@ module _ {Disk Why : Type 0} (s : Setting Disk Why) where
 
   more_noted : (w : Configuration Disk) (m : Moment Disk Why) (ms : List (Moment Disk Why)) (t : Station) (d : DeskId) (a : Ballot) → Adds (last_of w ms) m t d a → KeepsAt w ms t
       → (c : DeskId) (b : Ballot) → HasNoted s w (m ∷ ms) t c b → KeepsVote m.after t c b
-  more_noted w m ms t d a g h c b n = grind (arith, brings_once, found_begins, which)
+  more_noted w m ms t d a g h c b n = grind (arith, found_begins)
 
   more_kept : (w : Configuration Disk) (m : Moment Disk Why) (ms : List (Moment Disk Why)) (t : Station) (d : DeskId) (a : Ballot) → Adds (last_of w ms) m t d a → KeepsAt w ms t
       → (c : DeskId) (b : Ballot) → KeepsVote m.after t c b → HasNoted s w (m ∷ ms) t c b
-  more_kept w m ms t d a g h c b k = grind (arith, which, same_some)
+  more_kept w m ms t d a g h c b k = grind arith
 
   pub follows : (w : Configuration Disk) (m : Moment Disk Why) (ms : List (Moment Disk Why)) (t : Station) → Leaves (last_of w ms) m t → KeepsAt w ms t → KeepsAt w (m ∷ ms) t
   follows w m ms t (Gone g) h c b = grind arith

@@ -1,5 +1,5 @@
 -- How each event leaves what a station keeps.
-use Rattle.std.proofs.Common.{arith, ◌≡◌, ◌≢◌, ◌⊎◌, ℕ, Option, Some, None, option_map, option_and_then, List, [], ◌∷◌, refl, sym, ap, ◌∙◌, subst, inl, inr}
+use Rattle.std.proofs.Common.{arith, ◌≡◌, ◌≢◌, ℕ, Option, Some, None, option_map, option_and_then, List, [], ◌∷◌, refl, sym, ap, ◌∙◌, subst, inl, inr}
 use Rattle.std.specs.Prelude.{slice_get}
 use Rattle.notation.specs.declared.entry.Entry.{Entry}
 use Rattle.agree_core.specs.declared.{messages.DeskId.DeskId, messages.Message.Message, messages.Vote.Vote, position.Position.Position, seat.Settled.Settled}
@@ -9,7 +9,7 @@ use Rattle.agree_core.specs.Books.{seat_of}
 use Rattle.agree_core.specs.Desks.{DeskState, PenAnswer, Pens, ReceiveAnswer, Receives}
 use Rattle.agree_core.specs.Openings.{Opening, Opens}
 use Rattle.agree_core.specs.Positions.{position_of}
-use Rattle.agree_core.specs.Readers.{ReaderState, noted_of, other}
+use Rattle.agree_core.specs.Readers.{noted_of, other}
 use Rattle.agree_core.specs.Seats.{Casts, SeatState}
 use Rattle.headline.specs.Given.{IsGiven}
 use Rattle.headline.proofs.Given.{given_vote}
@@ -24,15 +24,12 @@ use Rattle.headline.specs.Runs.{Moment}
 use Rattle.headline.specs.Noted.{Brings, IsBrought, IsFound, IsVoteAnswer, beginning_of, position_at, process_position}
 use Rattle.headline.specs.DeskAnswers.{AfterOpen, AfterPen, AfterReceive}
 use Rattle.headline.specs.Kept.{kept_at, kept_by_process, kept_by_seat}
-use Rattle.headline.proofs.Heeding.{Heeds, Reads, heeds, no_reader_kept, no_seat_kept, reads, same_some, some_none, which}
-use Rattle.headline.proofs.Heeding.{noting_at, noting_other, noting_there, other_not, other_of, own_kept, their_kept}
+use Rattle.headline.proofs.Heeding.{Heeds, Reads, heeds, reads}
+use Rattle.headline.proofs.Heeding.{noting_at, noting_there, other_not}
 use Rattle.headline.proofs.Keeping.{Fine, running, node_fine}
 use Rattle.headline.proofs.Noting.{Begun, Leaves, More, Same}
 
 module _ {Disk Why : Type 0} (s : Setting Disk Why) where
-  pub node_put : (w : Configuration Disk) (d : DeskId) (y : Node Disk) (out : List Message) → node (with_node w d y out) d ≡ y
-  node_put w d y out = grind arith
-
   -- the station is at this position, and keeps these
   abbrev SeenAt : Configuration Disk → Station → Position → (DeskId → Option Entry) → Type 0
   SeenAt w t at kept = (position_at w t ≡ Some at) × ((c : DeskId) → kept_at w t c ≡ kept c)
@@ -52,29 +49,13 @@ module _ {Disk Why : Type 0} (s : Setting Disk Why) where
   at_board : (w : Configuration Disk) (n : ℕ) (k : BoardState) → board_at w.boards n ≡ Some k → SeenAt w (Station.Board n) k.reader.position (λ c. noted_of k.reader c)
   at_board w n k e = (ap (option_map (λ (k : BoardState). k.reader.position)) e, λ c. ap (option_and_then (λ (k : BoardState). noted_of k.reader c)) e)
 
-  -- an event is for the station that it brings a vote to, or begins
-  brings_here : (w : Configuration Disk) (event : Event) (t : Station) (c : DeskId) (b : Ballot) → Brings w event t c b → station_of event ≡ t
-  brings_here w event t c b h0 = grind arith
-
-  begins_here : (event : Event) (t : Station) → event ≡ beginning_of t → station_of event ≡ t
-  begins_here event t h0 = grind arith
-
   -- a desk that was put there
   pub there : (w new : Configuration Disk) (d : DeskId) (y : Node Disk) (out : List Message) → new ≡ with_node w d y out → node new d ≡ y
-  there w new d y out e = grind (arith, node_put)
+  there w new d y out e = grind arith
 
   module _ (w : Configuration Disk) (m : Moment Disk Why) where
     pub elsewhere : (t : Station) → station_of m.event ≢ t → SameAt w m.after t → Leaves s w m t
-    elsewhere t n h = Same (grind (arith, begins_here, brings_here))
-
-    goes_more : (t : Station) (at next : Position) (kept then : DeskId → Option Entry) (c : DeskId) (e : Entry) → m.event ≢ beginning_of t
-        → SeenAt w t at kept → SeenAt m.after t next then → next ≡ at → Brings w m.event t c (record { at = at; entry = e })
-        → IsVoteAnswer m.answer → kept c ≡ None → then c ≡ Some e → then (other c) ≡ kept (other c) → Leaves s w m t
-    goes_more t at next kept then c e n h g q b i none has rest = More c (record { at = at; entry = e }) (grind arith)
-
-    goes_far : (t : Station) (at next : Position) (kept then : DeskId → Option Entry) → m.event ≢ beginning_of t
-        → SeenAt w t at kept → SeenAt m.after t next then → at ≢ next → ((c : DeskId) → then c ≡ None) → Leaves s w m t
-    goes_far t at next kept then h0 h1 h2 h3 h4 = grind arith
+    elsewhere t n h = Same (grind arith)
 
     -- a desk that runs on from one seat to another
     record Runs (d : DeskId) (k l : SeatState) : Type 0 where
@@ -91,22 +72,13 @@ module _ {Disk Why : Type 0} (s : Setting Disk Why) where
 
     casts : (d : DeskId) (k l : SeatState) (e : Entry) (settled : Settled) → Runs d k l → m.event ≡ Event.Pen d e → IsVoteAnswer m.answer → k.mine ≡ None
         → Casts k e settled l → Leaves s w m (Station.Desk d)
-    casts d k l e Settled.Pending r p i none c = More d (record { at = k.position; entry = e }) (grind (arith, own_kept, their_kept, other_not))
+    casts d k l e Settled.Pending r p i none c = More d (record { at = k.position; entry = e }) (grind (arith, other_not))
     casts d k l e h4 r p i none c = grind arith
-
-    -- the vote of the message that was given
-    same_vote : (n : ℕ) (t : Station) (v : Vote) (c : DeskId) (b : Ballot) → m.event ≡ Event.Give n t → slice_get w.sent n ≡ Some (Message.Vote v)
-        → Brings w m.event t c b → (v ≡ vote_of c b) × (t ≢ Station.Desk c)
-    same_vote n t v c b h0 h1 h2 = grind arith
-
-    brought_as : (v : Vote) (at : Position) (n : ℕ) → position_of v ≡ at → slice_get w.sent n ≡ Some (Message.Vote v)
-        → slice_get w.sent n ≡ Some (Message.Vote (vote_of v.desk (record { at = at; entry = v.entry })))
-    brought_as v at n p sent = grind arith
 
     heeded : (n : ℕ) (d : DeskId) (k l : SeatState) (v : Vote) → m.event ≡ Event.Give n (Station.Desk d) → k.desk ≡ d → Runs d k l
         → slice_get w.sent n ≡ Some (Message.Vote v) → IsVoteAnswer m.answer → Heeds k v l → Leaves s w m (Station.Desk d)
-    heeded n d k l v given desk r sent told (inl p) = runs_same d k l r p.0 (λ c b i none. grind (arith, same_vote, their_kept))
-    heeded n d k l v given desk r sent told (inr (inl p)) = More v.desk (record { at = k.position; entry = v.entry }) (grind (arith, own_kept, their_kept, other_not, other_of, brought_as))
+    heeded n d k l v given desk r sent told (inl p) = runs_same d k l r p.0 (λ c b i none. grind arith)
+    heeded n d k l v given desk r sent told (inr (inl p)) = More v.desk (record { at = k.position; entry = v.entry }) (grind (arith, other_not))
     heeded n d k l v given desk r sent told (inr (inr p)) = runs_far d k l r p.0 p.1 p.2
 
     -- what runs at a desk that was put there, or that it is down
@@ -127,28 +99,21 @@ module _ {Disk Why : Type 0} (s : Setting Disk Why) where
           heeded n d k.seat l.seat v p desk (runs_from k l (λ x. cc) q (ap (λ (z : Node Disk). z.process) a.1)) (given_vote w.sent n v sent) (subst IsVoteAnswer (sym a.0) tt) (heeds k.seat l.seat v h r.1)
       given n k l v h4 out p desk q sent r a = grind arith
 
-      found_last : (c : DeskId) (b : Ballot) (votes : List Ballot) → m.event ≡ Event.Open d → (s.view d (node w d).version).reads (process_disk (node w d).process) ≡ Some votes → IsFound s w m c b
-          → (c ≡ d) × ((rest : List Ballot) × (votes ≡ b ∷ rest))
-      found_last c b votes o e f = grind arith
-
       -- a desk that begins keeps its last vote alone
       opens : (k : DeskState Disk) (votes : List Ballot) (n : ℕ) → m.event ≡ Event.Open d → y.process ≡ Running k → k.seat ≡ seat_of d votes → m.answer ≡ Answer.Opened n
           → (s.view d (node w d).version).reads (process_disk (node w d).process) ≡ Some votes → Leaves s w m (Station.Desk d)
-      opens k [] n opened p seat told found = Begun (opened, λ c b at. (λ q. grind (arith, none), λ q. grind (arith, found_last)))
+      opens k [] n opened p seat told found = Begun (opened, λ c b at. (λ q. grind (arith, none), λ q. grind arith))
         where
           none : (c : DeskId) → kept_at m.after (Station.Desk d) c ≡ None
-          none c = grind (arith, at_desk, no_seat_kept)
+          none c = grind (arith, at_desk)
       opens k (v ∷ rest) n opened p seat told found =
-          Begun (opened, λ c b at. (λ q. let same = is_last c b at q in rw (same.0, same.1) (refl, (opened, (n, told), (rest, found))), λ q. grind (arith, found_last, own)))
+          Begun (opened, λ c b at. (λ q. let same = is_last c b at q in rw (same.0, same.1) (refl, (opened, (n, told), (rest, found))), λ q. grind (arith, own)))
         where
-          seen : SeenAt m.after (Station.Desk d) k.seat.position (λ c. kept_by_seat k.seat d c)
-          seen = grind (arith, at_desk)
-
           own : kept_at m.after (Station.Desk d) d ≡ Some v.entry
-          own = grind (arith, seen, own_kept)
+          own = grind arith
 
           is_last : (c : DeskId) (b : Ballot) → position_at m.after (Station.Desk d) ≡ Some b.at → kept_at m.after (Station.Desk d) c ≡ Some b.entry → (c ≡ d) × (b ≡ v)
-          is_last c b q e = grind (arith, own, seen, which, their_kept, other_not)
+          is_last c b q e = grind (arith, own, other_not)
 
       opened : (votes : List Ballot) (disk : Disk) (opening : Opening Disk) → m.event ≡ Event.Open d → (node w d).process ≡ Down votes disk
           → Opens (s.view d (node w d).version) s.rules d disk opening → AfterOpen (s.view d (node w d).version) (node w d) votes opening m.answer y → Leaves s w m (Station.Desk d)
@@ -172,9 +137,9 @@ module _ {Disk Why : Type 0} (s : Setting Disk Why) where
 
       read : (i : ℕ) (v : Vote) → m.event ≡ Event.Give i (Station.Board n) → slice_get w.sent i ≡ Some (Message.Vote v) → IsVoteAnswer m.answer
           → Reads k.reader v l.reader → Leaves s w m (Station.Board n)
-      read i v given sent told (inl r) = board_stays (λ e. cc) r.0 (λ c b j none. grind (arith, same_vote, at_board))
-      read i v given sent told (inr (inl r)) = More v.desk (record { at = k.reader.position; entry = v.entry }) (grind (arith, at_board, noting_at, noting_there, noting_other, brought_as))
-      read i v given sent told (inr (inr r)) = grind (arith, goes_far, at_board, no_reader_kept)
+      read i v given sent told (inl r) = board_stays (λ e. cc) r.0 (λ c b j none. grind (arith, at_board))
+      read i v given sent told (inr (inl r)) = More v.desk (record { at = k.reader.position; entry = v.entry }) (grind (arith, at_board, noting_at, noting_there))
+      read i v given sent told (inr (inr r)) = grind (arith, at_board)
 
       board_given : (i : ℕ) (v : Message) (told : BoardAnswer) → m.event ≡ Event.Give i (Station.Board n) → IsGiven w.sent i v → m.answer ≡ board_told told
           → BoardReceives s.rules k v told l → Leaves s w m (Station.Board n)

@@ -15,7 +15,7 @@ use Rattle.headline.specs.Migrations.{MigratesAt}
 use Rattle.headline.specs.DeskSteps.{AtDesk}
 use Rattle.headline.specs.Events.{station_of}
 use Rattle.headline.specs.Steps.{Step}
-use Rattle.headline.specs.Runs.{Begins, Moment, Run, last_of, AfterEach}
+use Rattle.headline.specs.Runs.{Begins, Moment, Run, last_of}
 use Rattle.headline.specs.Headline.{ArePenned}
 use Rattle.headline.specs.DeskAnswers.{AfterOpen, AfterPen, AfterReceive}
 use Rattle.headline.specs.Penned.{MayStore, WasPenned}
@@ -38,9 +38,6 @@ module _ {Disk Why : Type 0} (s : Setting Disk Why) where
   Stores _ = Unit {0}
 
   module _ (Q : List Ballot → Type 0) (view : FileView Disk) where
-    stays : (votes : List Ballot) (old new : Disk) → Stays view old new → HeldBy Q view votes old → HeldBy Q view votes new
-    stays votes old new t h = grind arith
-
     loses_power : (votes : List Ballot) (old new : Disk) → LosesPower view old new → HeldBy Q view votes old → HeldBy Q view votes new
     loses_power votes old new h0 h1 = grind arith
 
@@ -49,17 +46,6 @@ module _ {Disk Why : Type 0} (s : Setting Disk Why) where
 
     abbrev DeskHolds : DeskState Disk → Type 0
     DeskHolds k = HeldBy Q view k.votes k.disk
-
-    pen_holds : (k l : DeskState Disk) (e : Entry) (told : PenAnswer Why) (out : List Message) → (Stores told → MayPen s.rules k e → Q k.votes → Q (next_ballot k e ∷ k.votes))
-        → DeskHolds k → Pens view s.rules k e told l out → DeskHolds l
-    pen_holds k l e told out h0 h1 h2 = grind arith
-
-    receive_holds : (k l : DeskState Disk) (m : Message) (told : ReceiveAnswer) (out : List Message) → DeskHolds k → Receives view k m told l out → DeskHolds l
-    receive_holds k l m told out h0 h1 = grind arith
-
-  -- what is answered then
-  stored : (view : FileView Disk) (x : Node Disk) (l : DeskState Disk) (told : PenAnswer Why) (answer : Answer Why) (y : Node Disk) → AfterPen view x told l answer y → Stores told → MayStore answer
-  stored view x l told answer y h0 h1 = grind arith
 
   abbrev NodeHolds : (List Ballot → Type 0) → (FileVersion → FileView Disk) → Node Disk → Type 0
   NodeHolds Q view y = ProcessHolds Q (view y.version) y.process
@@ -86,7 +72,7 @@ module _ {Disk Why : Type 0} (s : Setting Disk Why) where
   desk_holds : (Q : List Ballot → Type 0) (sent : List Message) (d : DeskId) (event : Event) (x : Node Disk) (answer : Answer Why) (y : Node Disk) (out : List Message)
       → PenKeeps Q event answer x → NodeHolds Q (s.view d) x → AtDesk s sent d event x answer y out → NodeHolds Q (s.view d) y
   desk_holds h0 sent d h3 x answer y out f h p =
-      grind (arith, stored, after_pen, pen_holds, after_receive, receive_holds, stays, loses_power, on_other_disk, after_open, migrates_at)
+      grind (arith, after_pen, after_receive, loses_power, on_other_disk, after_open, migrates_at)
 
   abbrev pub BothHold : (DeskId → List Ballot → Type 0) → Configuration Disk → Type 0
   BothHold Q w = (d : DeskId) → NodeHolds (Q d) (s.view d) (node w d)

@@ -1,7 +1,6 @@
 -- Books of one length have one score.
 use Rattle.std.proofs.Common.{arith}
-use Rattle.std.proofs.Common.{◌≡◌, ℕ, List, length, sym, ◌∙◌, subst}
-use Rattle.notation.specs.declared.entry.Entry.{Entry}
+use Rattle.std.proofs.Common.{◌≡◌, ℕ, List, sym, ◌∙◌}
 use Rattle.ball_laws.specs.History.{History}
 use Rattle.match_laws.specs.declared.standing.Standing.{Standing}
 use Rattle.match_laws.specs.Stands.{StandsFor}

@@ -1,5 +1,5 @@
 -- The call that brings the second of two equal votes takes their entry.
-use Rattle.std.proofs.Common.{arith, ◌≡◌, ◌≢◌, ◌⊎◌, ℕ, Option, Some, None, List, [], ◌∷◌, ◌++◌, sym, ap, ◌∙◌, subst, inl, inr}
+use Rattle.std.proofs.Common.{arith, ◌≡◌, ◌≢◌, ◌⊎◌, ℕ, Option, Some, None, List, [], ◌∷◌, ◌++◌, sym, ap, inl, inr}
 use Rattle.std.specs.Prelude.{slice_get}
 use Rattle.notation.specs.declared.entry.Entry.{Entry}
 use Rattle.agree_core.specs.declared.messages.{DeskId.DeskId, Message.Message, Vote.Vote}
@@ -27,56 +27,24 @@ use Rattle.headline.proofs.Heeding.{board_put}
 use Rattle.headline.proofs.NotedRuns.{keeps_noted}
 use Rattle.headline.proofs.Shown.{none_keeps_both}
 
--- the other vote isn't there
-alone : (x y : Option Entry) (e : Entry) → (x ≡ None) ⊎ (y ≡ None) → x ≡ Some e → y ≡ None
-alone x y e h q = grind arith
-
-reader_alone : (r : ReaderState) (c : DeskId) (e : Entry) → ReaderWaits r → noted_of r c ≡ Some e → noted_of r (other c) ≡ None
-reader_alone r c e h0 h1 = grind arith
-
-other_twice : (c : DeskId) → other (other c) ≡ c
-other_twice c = grind arith
-
--- what a desk keeps of itself or of the other
-kept_own : (k : SeatState) (c d : DeskId) → other c ≢ d → kept_by_seat k d c ≡ k.mine
-kept_own k c d n = grind arith
-
 module _ {Disk Why : Type 0} (s : Setting Disk Why) where
   -- a station shows this book, and keeps this vote for its position
   abbrev Keeps : Configuration Disk → Station → List Entry → DeskId → Ballot → Type 0
   Keeps w t book c b = Shows w t book × (position_at w t ≡ Some b.at) × (kept_at w t c ≡ Some b.entry)
 
-  -- so its desk or board has them
-  desk_keeps : (w : Configuration Disk) (d c : DeskId) (k : DeskState Disk) (book : List Entry) (b : Ballot) → (node w d).process ≡ Running k → Keeps w (Station.Desk d) book c b
-      → (k.book ≡ book) × (k.seat.position ≡ b.at) × (kept_by_seat k.seat d c ≡ Some b.entry)
-  desk_keeps w d c k book b h0 h1 = grind arith
-
   board_keeps : (w : Configuration Disk) (n : ℕ) (c : DeskId) (k : BoardState) (book : List Entry) (b : Ballot) → board_at w.boards n ≡ Some k → Keeps w (Station.Board n) book c b
       → (k.book ≡ book) × (k.reader.position ≡ b.at) × (noted_of k.reader c ≡ Some b.entry)
   board_keeps w n c k book b h0 h1 = grind arith
-
-  shows_at : (w new : Configuration Disk) (d : DeskId) (y : Node Disk) (out : List Message) (book : List Entry) → new ≡ with_node w d y out → process_shows y.process book
-      → Shows new (Station.Desk d) book
-  shows_at w new d y out book h0 h1 = grind arith
-
-  after_vote : (d : DeskId) (x : Node Disk) (k l : DeskState Disk) (v : Vote) (told : ReceiveAnswer) (out : List Message) (answer : Answer Why) (y : Node Disk) → IsVoteAnswer answer
-      → v.desk ≢ k.seat.desk → position_of v ≡ k.seat.position → k.seat.mine ≡ Some v.entry → k.seat.theirs ≡ None → Receives (s.view d x.version) k (Message.Vote v) told l out
-      → AfterReceive (s.view d x.version) x told l out answer y → process_shows y.process (k.book ++ v.entry ∷ [])
-  after_vote d x k l v told out answer y h0 h1 h2 h3 h4 h5 h6 = grind arith
 
   desk_given : (w : Configuration Disk) (d c : DeskId) (n : ℕ) (book : List Entry) (b : Ballot) (answer : Answer Why) (new : Configuration Disk) → Fine s w → Keeps w (Station.Desk d) book c b
       → other c ≢ d → slice_get w.sent n ≡ Some (Message.Vote (vote_of (other c) b)) → Step s w (Event.Give n (Station.Desk d)) answer new → IsVoteAnswer answer
       → Shows new (Station.Desk d) (book ++ b.entry ∷ [])
   desk_given w d c n book b answer new f g apart sent p i =
-      grind (arith, desk_keeps, given_there, running, node_fine, kept_own, after_vote, alone, shows_at)
+      grind (arith, given_there, running, node_fine)
 
   desk_penned : (w : Configuration Disk) (c : DeskId) (book : List Entry) (b : Ballot) (answer : Answer Why) (new : Configuration Disk) → Keeps w (Station.Desk (other c)) book c b
       → Step s w (Event.Pen (other c) b.entry) answer new → IsVoteAnswer answer → Shows new (Station.Desk (other c)) (book ++ b.entry ∷ [])
   desk_penned w c book b answer new h0 h1 h2 = grind arith
-
-  board_told_second : (k l : BoardState) (v : Vote) (told : BoardAnswer) → position_of v ≡ k.reader.position → noted_of k.reader v.desk ≡ None → noted_of k.reader (other v.desk) ≡ Some v.entry
-      → BoardReceives s.rules k (Message.Vote v) told l → IsVoteAnswer {Why = Why} (board_told told) → l.book ≡ k.book ++ v.entry ∷ []
-  board_told_second k l v told h0 h1 h2 h3 h4 = grind arith
 
   board_given : (w : Configuration Disk) (number : ℕ) (c : DeskId) (n : ℕ) (book : List Entry) (b : Ballot) (answer : Answer Why) (new : Configuration Disk) → Fine s w
       → Keeps w (Station.Board number) book c b → slice_get w.sent n ≡ Some (Message.Vote (vote_of (other c) b)) → Step s w (Event.Give n (Station.Board number)) answer new → IsVoteAnswer answer
@@ -86,7 +54,7 @@ module _ {Disk Why : Type 0} (s : Setting Disk Why) where
       let q = p.4 in
       let this = given_there w.sent n q.0 (Message.Vote (vote_of (other c) b)) sent q.2 in
       let fine = board_fine_at (all_votes w) w.boards number p.0 p.3 f.on_boards in
-      (p.1, grind (arith, board_put), grind (arith, reader_alone, other_twice, board_told_second))
+      (p.1, grind (arith, board_put), grind arith)
 
   second_taken : (w : Configuration Disk) (event : Event) (answer : Answer Why) (new : Configuration Disk) (t : Station) (book : List Entry) (b : Ballot) (c : DeskId) → Fine s w → Keeps w t book c b
       → Brings w event t (other c) b → Step s w event answer new → IsVoteAnswer answer → Shows new t (book ++ b.entry ∷ [])

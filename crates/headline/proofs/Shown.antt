@@ -1,7 +1,7 @@
 -- What stations show in a run is one book, of entries that both desks voted for.
 use Rattle.std.proofs.Common.{◌≡◌, ℕ, Option, Some, None, option_and_then, List, [], ◌∷◌, subst, inl, inr, arith}
 use Rattle.notation.specs.declared.entry.Entry.{Entry}
-use Rattle.agree_core.specs.declared.messages.{DeskId.DeskId, Message.Message}
+use Rattle.agree_core.specs.declared.messages.{DeskId.DeskId}
 use Rattle.agree_core.specs.declared.messages.DeskId.TheVariants.{A, B}
 use Rattle.agree_core.specs.Agreed.{AllSettled}
 use Rattle.agree_core.specs.Ballots.{Ballot, Within, votes_by}
@@ -16,23 +16,19 @@ use Rattle.headline.specs.Runs.{AtEachMoment, AtSomeMoment, Moment, Run, Shows, 
 use Rattle.headline.specs.Kept.{kept_by_process, NoneKeepsBoth}
 use Rattle.headline.specs.Besides.{KeepsVotes, KeptSafe, StandsFast, WithinAgreed, AtEachEvent}
 use Rattle.headline.specs.Headline.{ArePrefixes, ByBoth}
-use Rattle.agree_core.specs.Keeping.{MessageFine, ShowsMore, DiskFine}
+use Rattle.agree_core.specs.Keeping.{ShowsMore, DiskFine}
 use Rattle.agree_core.proofs.Both.{both_at, both_settled, both_turned, same}
 use Rattle.agree_core.proofs.Desks.{more_within}
 use Rattle.headline.proofs.BoardKeeping.{board_fine_at, item_at}
 use Rattle.headline.proofs.Keeping.{Fine, Grows, ProcessFine, all_justified, fine_disk, run_keeps, node_fine, step_keeps, votes_at}
 
 module _ {Disk Why : Type 0} (s : Setting Disk Why) where
-  process_both : (v : FileVersion) (d : DeskId) (theirs : List Ballot) (x : Process Disk) (book : List Entry) → ProcessFine s v d theirs x → process_shows x book
-      → AllBoth (process_votes x) theirs 0 book
-  process_both v d theirs x book h0 h1 = grind arith
-
   -- for each entry of a book that is shown both have a vote
   pub shown_both : (w : Configuration Disk) (t : Station) (book : List Entry) → Fine s w → Shows w t book → AllBoth (all_votes w).a (all_votes w).b 0 book
   shown_both w (Station.Board n) book f h =
       let k = board_fine_at (all_votes w) w.boards n h.0 h.1 f.on_boards in
       subst (AllBoth (all_votes w).a (all_votes w).b 0) h.2 k.both
-  shown_both w h1 book f h = grind (arith, process_both, both_turned)
+  shown_both w h1 book f h = grind (arith, both_turned)
 
   pub shown_settled : (w : Configuration Disk) (t : Station) (book : List Entry) → Fine s w → Shows w t book → AllSettled (all_votes w) 0 book
   shown_settled w t book f h = grind (arith, both_settled, all_justified, shown_both)
@@ -72,10 +68,6 @@ module _ {Disk Why : Type 0} (s : Setting Disk Why) where
       let x = moment w ms (λ v. Shows v t xs) f r p in
       agreed_begins (all_votes x.0) (all_votes (last_of w ms)) x.2 (all_justified s (last_of w ms) (run_keeps s w ms f r)) xs agreed (shown_settled x.0 t xs x.1 x.3) g
 
-  process_waits : (v : FileVersion) (d : DeskId) (theirs : List Ballot) (x : Process Disk) (e f : Entry) → ProcessFine s v d theirs x
-      → kept_by_process x d A ≡ Some e → kept_by_process x d B ≡ Some f → ⊥
-  process_waits v d theirs x e f h0 h1 h2 = grind arith
-
   reader_waits : (k : BoardState) (e f : Entry) → ReaderWaits k.reader → k.reader.a ≡ Some e → k.reader.b ≡ Some f → ⊥
   reader_waits k e f w p q = grind arith
 
@@ -88,7 +80,7 @@ module _ {Disk Why : Type 0} (s : Setting Disk Why) where
   board_waits w n (Some k) e f g h p q = let fine = board_fine_at (all_votes w) w.boards n k h g.on_boards in reader_waits k e f fine.waits p q
 
   pub none_keeps_both : (w : Configuration Disk) → Fine s w → NoneKeepsBoth w
-  none_keeps_both w h0 = grind (arith, board_waits, node_fine, process_waits)
+  none_keeps_both w h0 = grind (arith, board_waits, node_fine)
 
   image_has : (w : Configuration Disk) (d : DeskId) (o : Option (List Ballot)) → ShowsMore (votes_by (all_votes w) (other d)) (process_votes (node w d).process) o
       → (these : List Ballot) × (o ≡ Some these) × Within (votes_by (all_votes w) d) these

@@ -1,10 +1,8 @@
 -- No event of a run meets two votes of one desk, votes that are no book or a file that isn't sound.
 use Rattle.std.proofs.Common.{◌≡◌, ◌≢◌, ℕ, Bool, Option, Some, None, List, [], ◌∷◌, ◌++◌, length, sym, ap, ◌∙◌, subst, inl, inr, arith, ⊎_elim}
 use Rattle.std.proofs.Common.{append-nil, append_assoc, length-append}
-use Rattle.std.specs.Prelude.{nat_eq}
 use Rattle.notation.specs.declared.entry.Entry.{Entry}
 use Rattle.agree_core.specs.declared.{messages.DeskId.DeskId, messages.Message.Message, messages.Vote.Vote, seat.Heard.Heard}
-use Rattle.agree_core.specs.declared.messages.DeskId.TheVariants.{A, B}
 use Rattle.agree_core.specs.Agreed.{AllSettled, BeginsWith}
 use Rattle.agree_core.specs.Ballots.{AllJustified, AllVotes, Ballot, In, Justified, ballot_of, votes_by}
 use Rattle.agree_core.specs.Ballots as ballots
@@ -45,13 +43,10 @@ Lawful rules (b ∷ bs) = AllTaken rules [] (voted_list (b ∷ bs)) × Lawful ru
 lawful_list : {Why : Type 0} (rules : Rules Why) (bs : List Ballot) → Lawful rules bs → AllTaken rules [] (voted_list bs)
 lawful_list rules bs h0 = grind arith
 
-closed_taken : {Why : Type 0} (rules : Rules Why) (kept : Bool) (book : List Entry) (e : Entry) → AllTaken rules [] book → AllTaken rules [] (book ++ e ∷ []) → AllTaken rules [] (closing kept book e)
-closed_taken rules kept book e h0 h1 = grind arith
-
 -- the book that a file shows is one that the rules take
 taken_book : {Why : Type 0} (rules : Rules Why) (b : Ballot) (bs : List Ballot) → Lawful rules bs → AllTaken rules [] (book_of (b ∷ bs))
 taken_book rules b [] h = tt
-taken_book rules b (c ∷ rest) h = grind (arith, closed_taken, taken_book rules c rest h.1)
+taken_book rules b (c ∷ rest) h = grind (arith, taken_book rules c rest h.1)
 
 -- the last of entries that are all taken
 taken_last : {Why : Type 0} (rules : Rules Why) (book xs : List Entry) (e : Entry) → AllTaken rules book (xs ++ e ∷ []) → rules (book ++ xs) e ≡ None
