@@ -28,10 +28,6 @@ not_at p q h = grind (arith, nat_tests)
 not_before : (p q : Position) → Before q p → is_before p q ≡ false
 not_before p q h = grind (arith, nat_tests)
 
--- the next round and the next place are two positions
-round_is_no_place : (p : Position) → is_at (next_round p) (next_place p) ≡ false
-round_is_no_place p = grind (arith, nat_tests)
-
 place_is_no_round : (p : Position) → is_at (next_place p) (next_round p) ≡ false
 place_is_no_round p = grind (arith, nat_tests)
 
@@ -61,7 +57,7 @@ module _ (s : SeatState) (c : Ballot) (less : Before c.at s.position) where
     same_round here next d = grind (arith, one_vote, place_is_no_round, at_itself, two_codes)
 
     same_place : c.at ≡ z.at → s.position ≡ next_place z.at → In z theirs → is_another s (z ∷ zs) c.at (code c.entry) ≡ false
-    same_place here next k = grind (arith, one_vote, round_is_no_place, at_itself, one_code)
+    same_place here next k = grind (arith, one_vote, at_itself, one_code)
 
     -- none is for a position between that and the desk's own
     not_between : Before z.at c.at → ((s.position ≡ next_round z.at) × Differed theirs z) ⊎ ((s.position ≡ next_place z.at) × In z theirs) → ⊥

@@ -8,8 +8,7 @@ use Rattle.agree_core.specs.declared.messages.DeskId.TheVariants.{A, B}
 use Rattle.agree_core.specs.Agreed.{AllBoth}
 use Rattle.agree_core.specs.Ballots.{AllVotes, Ballot, In, VotesGrow, votes_by}
 use Rattle.agree_core.specs.Boards.{BoardState}
-use Rattle.agree_core.specs.Desks.{DeskState, PenAnswer, Pens, ReceiveAnswer, Receives}
-use Rattle.agree_core.specs.FileView.{FileView}
+use Rattle.agree_core.specs.Desks.{DeskState}
 use Rattle.agree_core.specs.Keeping.{Each, SeatFine}
 use Rattle.agree_core.specs.LostLines.{is_at, is_before, is_voted}
 use Rattle.agree_core.specs.Positions.{Before}
@@ -50,27 +49,14 @@ ask_grows v w g (Message.Vote x) h = tt
 ask_grows v w g (Message.Ask q) h = rounds_grow v w g (record { place = q.place; round = q.round }) h
 
 module _ (v : AllVotes) where
-  nothing : (out : List Message) → out ≡ [] → Each (AskFine v) out
-  nothing out e = subst (Each (AskFine v)) (sym e) tt
-
-  one_vote_out : (out : List Message) (x : _) → out ≡ Message.Vote x ∷ [] → Each (AskFine v) out
-  one_vote_out out x e = subst (Each (AskFine v)) (sym e) (tt, tt)
-
-  receives_ask : {Disk : Type 0} → (view : FileView Disk) (k l : DeskState Disk) (m : Message) (told : ReceiveAnswer) (out : List Message) → Receives view k m told l out
-      → Each (AskFine v) out
-  receives_ask view k l m h4 out p = grind (arith, nothing, one_vote_out)
-
   module _ {Disk Why : Type 0} (s : Setting Disk Why) where
-    pens_ask : (view : FileView Disk) (k l : DeskState Disk) (e : Entry) (told : PenAnswer Why) (out : List Message) → Pens view s.rules k e told l out → Each (AskFine v) out
-    pens_ask view k l e h4 out p = grind (arith, one_vote_out, nothing)
-
     at_desk_ask : (sent : List Message) (d : DeskId) (event : Event) (x y : Node Disk) (answer : Answer Why) (out : List Message)
         → ((k : DeskState Disk) → x.process ≡ Running k → RoundsFine v k.seat.position) → AtDesk s sent d event x answer y out → Each (AskFine v) out
-    at_desk_ask sent d h2 x y answer out r p = grind (arith, pens_ask, receives_ask)
+    at_desk_ask sent d h2 x y answer out r p = grind arith
 
     at_board_ask : (sent : List Message) (event : Event) (k l : BoardState) (answer : Answer Why) (out : List Message) → RoundsFine v k.reader.position
         → AtBoard s sent event k answer l out → Each (AskFine v) out
-    at_board_ask sent h1 k l answer out r p = grind (arith, nothing)
+    at_board_ask sent h1 k l answer out r p = grind arith
 
 module _ {Disk Why : Type 0} (s : Setting Disk Why) where
   abbrev AllAsks : Configuration Disk → Type 0

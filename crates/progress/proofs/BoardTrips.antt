@@ -1,13 +1,12 @@
 -- How a board goes on in calm moments, and hears what a desk says.
-use Rattle.std.proofs.Common.{◌≡◌, ◌≢◌, ◌⊎◌, ℕ, Some, None, List, [], ◌∷◌, ◌++◌, refl, ap, ◌∙◌, subst, inl, inr, arith}
-use Rattle.notation.specs.declared.entry.Entry.{Entry}
-use Rattle.agree_core.specs.declared.{messages.Asker.Asker, messages.DeskId.DeskId, messages.Message.Message, messages.Vote.Vote, seat.Heard.Heard}
+use Rattle.std.proofs.Common.{◌≡◌, ◌≢◌, ◌⊎◌, ℕ, Some, List, [], ◌∷◌, ◌++◌, refl, ap, ◌∙◌, subst, inl, inr, arith}
+use Rattle.agree_core.specs.declared.{messages.Asker.Asker, messages.DeskId.DeskId, messages.Message.Message, messages.Vote.Vote}
 use Rattle.agree_core.specs.Ballots.{AllVotes, Justified, votes_by}
 use Rattle.agree_core.specs.Boards.{BoardAnswer, BoardReceives, BoardState, BoardTicks}
 use Rattle.agree_core.specs.Books.{Rules}
 use Rattle.agree_core.specs.Desks.{ask_for}
 use Rattle.agree_core.specs.Positions.{Before, position_of}
-use Rattle.agree_core.specs.Readers.{Listens, ReaderState, noted_of, noting, other}
+use Rattle.agree_core.specs.Readers.{ReaderState, noted_of, other}
 use Rattle.headline.specs.declared.{event.Event.Event, event.Station.Station}
 use Rattle.headline.specs.Answers.{Answer}
 use Rattle.headline.specs.Besides.{IsSoundAnswer}
@@ -19,12 +18,11 @@ use Rattle.headline.specs.Setting.{Setting}
 use Rattle.headline.specs.Steps.{Step, StepAt}
 use Rattle.headline.proofs.AtStations.{at_board}
 use Rattle.headline.proofs.Given.{given_there}
-use Rattle.headline.proofs.Heeding.{board_put, noting_there}
+use Rattle.headline.proofs.Heeding.{board_put}
 use Rattle.headline.proofs.Sound.{justified_of}
 use Rattle.progress.specs.Calm.{AllCalm, IsCalm}
 use Rattle.progress.specs.Exchange.{ComesTo, HandsOut}
 use Rattle.progress.proofs.CalmRuns.{Steady, last_out, steady_votes}
-use Rattle.progress.proofs.CalmSeats.{place_later, round_later}
 use Rattle.progress.proofs.Exchanges.{Ear, Hearer, Knows, NoVote, On, none_full, on_on}
 
 -- what a reader has of a desk
@@ -38,17 +36,8 @@ BoardOn r t = (d : DeskId) → On (ear d r) (ear d t)
 on_same : (r t : ReaderState) → t ≡ r → BoardOn r t
 on_same r t e d = inr (ap (λ (z : ReaderState). z.position) e, λ f q. ap (λ (z : ReaderState). noted_of z d) e ∙ q)
 
-notes_on : (r : ReaderState) (c : DeskId) (e : Entry) → noted_of r c ≡ None → BoardOn r (noting r c e)
-notes_on r c e n d = grind arith
-
-listens_on : (r t : ReaderState) (v : Vote) (h : Heard) → Listens r v h t → BoardOn r t
-listens_on r t v h3 c = grind (arith, on_same, notes_on)
-
 receives_on : {Why : Type 0} → (rules : Rules Why) (k l : BoardState) (m : Message) (told : BoardAnswer) → BoardReceives rules k m told l → BoardOn k.reader l.reader
-receives_on rules k l h3 h4 p = grind (arith, listens_on, on_same)
-
-listens_to : (r t : ReaderState) (v : Vote) (h : Heard) → position_of v ≡ r.position → Listens r v h t → Before r.position t.position ⊎ Knows (ear v.desk t)
-listens_to r t v h at c = grind (arith, noting_there, place_later, round_later)
+receives_on rules k l h3 h4 p = grind (arith, on_same)
 
 pub same_or_other : (n m : ℕ) → (n ≡ m) ⊎ (n ≢ m)
 same_or_other n m = grind arith
@@ -88,7 +77,7 @@ module _ {Disk Why : Type 0} (s : Setting Disk Why) where
   board_hears w m n k l v p (r, e, get) at there pos sound =
       let q = subst (λ (z : Event). Step s w z m.answer m.after) e p in
       let it = given_there w.sent r q.4.0 (Message.Vote v) get q.4.2 in
-      grind (arith, board_put, listens_to)
+      grind (arith, board_put)
 
   -- a board asks at its tick
   pub board_ticks : (v : AllVotes) (n : ℕ) (d : DeskId) (w : Configuration Disk) (m : Moment Disk Why) → Steady s v w → Step s w m.event m.answer m.after

@@ -6,13 +6,12 @@ use Rattle.agree_core.specs.declared.messages.DeskId.TheVariants.{A, B}
 use Rattle.agree_core.specs.Ballots.{AllVotes, votes_by}
 use Rattle.agree_core.specs.Desks.{DeskState}
 use Rattle.agree_core.specs.Readers.{other}
-use Rattle.headline.specs.declared.{event.Event.Event, event.Station.Station}
-use Rattle.headline.specs.Answers.{Answer}
+use Rattle.headline.specs.declared.{event.Station.Station}
 use Rattle.headline.specs.Configurations.{Node, Configuration, all_votes, node, process_votes, with_node}
 use Rattle.headline.specs.Events.{station_of}
 use Rattle.headline.specs.Runs.{Moment, Run, last_of}
 use Rattle.headline.specs.Setting.{Setting}
-use Rattle.headline.specs.Steps.{Step, StepAt}
+use Rattle.headline.specs.Steps.{Step}
 use Rattle.headline.proofs.Keeping.{Fine, step_keeps}
 use Rattle.progress.specs.Calm.{AllCalm, IsCalm, IsUp}
 use Rattle.progress.specs.Exchange.{Amid, ComesTo, Reaches}
@@ -65,15 +64,11 @@ module _ {Disk Why : Type 0} (s : Setting Disk Why) where
   run_split w [] ys r = (r, tt)
   run_split w (x ∷ xs) ys r = grind (arith, last_split, (run_split w xs ys r.0))
 
-  pub step_sent : (w : Configuration Disk) (event : Event) (t : Station) (answer : Answer Why) (new : Configuration Disk) → StepAt s w event t answer new
-      → (out : List Message) × (new.sent ≡ w.sent ++ out)
-  step_sent w event h2 answer new p = grind (arith, sent_set)
-
   -- a message keeps its number
   pub run_keeps_sent : (w : Configuration Disk) (ms : List (Moment Disk Why)) (n : ℕ) (m : Message) → Run s w ms → slice_get w.sent n ≡ Some m
       → slice_get (last_of w ms).sent n ≡ Some m
   run_keeps_sent w [] n m r e = e
-  run_keeps_sent w (x ∷ xs) n m r e = grind (arith, step_sent, get_append, (run_keeps_sent w xs n m r.0 e))
+  run_keeps_sent w (x ∷ xs) n m r e = grind (arith, get_append, (run_keeps_sent w xs n m r.0 e))
 
   -- both desks are up, with these votes
   pub record Steady (v : AllVotes) (w : Configuration Disk) : Type 0 where

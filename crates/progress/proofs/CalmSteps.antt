@@ -18,7 +18,7 @@ use Rattle.headline.proofs.AtStations.{at_desk}
 use Rattle.headline.proofs.Given.{given_fine}
 use Rattle.headline.proofs.Keeping.{Fine, node_fine, running, their_message}
 use Rattle.progress.specs.Calm.{IsCalm, IsUp}
-use Rattle.progress.proofs.CalmSeats.{GoesOn, hears_on}
+use Rattle.progress.proofs.CalmSeats.{GoesOn}
 
 module _ {Disk : Type 0} where
   pub one_process : (x : Node Disk) (k l : DeskState Disk) → x.process ≡ Running k → x.process ≡ Running l → k ≡ l
@@ -31,7 +31,7 @@ module _ {Disk : Type 0} where
   receives_on : {Why : Type 0} → (view : FileView Disk) (d : DeskId) (theirs : List Ballot) (x y : Node Disk) (k l : DeskState Disk) (m : Message) (told : ReceiveAnswer) (out : List Message)
       (answer : Answer Why) → x.due ≡ None → k.failed ≡ false → DeskFine view d theirs k → TheirMessage d theirs m → Receives view k m told l out
       → AfterReceive view x told l out answer y → UpFrom theirs k y
-  receives_on view d theirs x y k l m told out answer none sound f t r a = (l, grind arith, grind arith, grind (arith, hears_on))
+  receives_on view d theirs x y k l m told out answer none sound f t r a = (l, grind arith, grind arith, grind arith)
 
   module _ {Why : Type 0} (s : Setting Disk Why) where
     at_desk_on : (sent : List Message) (d : DeskId) (theirs : List Ballot) (event : Event) (x y : Node Disk) (k : DeskState Disk) (answer : Answer Why) (out : List Message)

@@ -37,12 +37,9 @@ between a b (z ∷ zs) y c q ja jb i lo hi (inr n) (inl g) w =
       | inr (inr more) ↦ grind arith
     ]
 
-follows_later : (theirs : List Ballot) (c z : Ballot) (zs : List Ballot) → Follows theirs c (z ∷ zs) → Before z.at c.at
-follows_later theirs c z zs h = grind arith
-
 -- what a desk may vote next is behind each of its votes
 pub before_next : (theirs own : List Ballot) (c x : Ballot) → Justified theirs own → Follows theirs c own → In x own → Before x.at c.at
-before_next theirs h1 c x j f i = grind (arith, earlier, follows_later)
+before_next theirs h1 c x j f i = grind (arith, earlier)
 
 -- a desk's last vote is for this position, or it may vote there next
 abbrev Here : List Ballot → List Ballot → Position → Entry → List Ballot → Type 0
@@ -111,12 +108,9 @@ stands d theirs own book s e f = mine_stands theirs own book s e s.mine f.justif
 longer : (c : Ballot) (xs : List Ballot) → xs ≡ c ∷ xs → ⊥
 longer c xs e = let l = ap length e in omega (arith, l)
 
-as_here : (theirs own : List Ballot) (s : SeatState) (h : Stands theirs own s) → Here theirs own s.position h.0 h.1
-as_here theirs own s h = (h.2, elim h.3 [ inl k ↦ inl k.0 | inr k ↦ inr k ])
-
 is_behind : (a b : List Ballot) (s t : SeatState) → Justified b a → Justified a b → Stands b a s → Stands a b t
     → Before s.position t.position → IsBehind b s t.position
-is_behind a b s t ja jb hs ht lo = grind (arith, behind, as_here)
+is_behind a b s t ja jb hs ht lo = grind (arith, behind)
 
 pub any : Entry
 any = Entry.Write Plain.Void

@@ -26,7 +26,7 @@ use Rattle.progress.specs.Calm.{IsCalm}
 use Rattle.progress.specs.Exchange.{Amid, Exchange, HandsOut, HasExchanges, IsAnswered, Reaches}
 use Rattle.progress.specs.Progress.{MayHear}
 use Rattle.progress.proofs.Exchanges.{in_range_or_full}
-use Rattle.progress.proofs.CalmRuns.{CalmRun, Steady, ends, join, last_split, run_keeps_sent, step_sent}
+use Rattle.progress.proofs.CalmRuns.{CalmRun, Steady, ends, join, last_split, run_keeps_sent}
 use Rattle.progress.proofs.CaughtUp.{voted_or_not}
 use Rattle.progress.proofs.Settled.{steady}
 use Rattle.progress.proofs.Near.{ordered}
@@ -230,7 +230,7 @@ module _ {Disk Why : Type 0} (s : Setting Disk Why) (v : AllVotes) where
 
   sent_stays : (w : Configuration Disk) (ms : List (Moment Disk Why)) → Run s w ms → length w.sent ≤ length (last_of w ms).sent
   sent_stays w [] r = omega arith
-  sent_stays w (m ∷ ms) r = grind (arith, step_sent, length-append, (sent_stays w ms r.0))
+  sent_stays w (m ∷ ms) r = grind (arith, length-append, (sent_stays w ms r.0))
 
   -- the station is given so many messages, from this number on
   all_given : (w : Configuration Disk) → Steady s v w → (t : Station) → Ready t w → (from many : ℕ) → from + many ≤ length w.sent

@@ -1,12 +1,11 @@
 -- What goes on, at each configuration that a run comes to.
 use Rattle.std.proofs.Common.{◌≡◌, ◌⊎◌, ℕ, true, false, List, subst, sym, arith}
-use Rattle.std.proofs.lemmas.Bool.Decides.{nat_tests}
 use Rattle.notation.specs.Code.{code}
 use Rattle.agree_core.specs.declared.{messages.DeskId.DeskId, position.Position.Position}
 use Rattle.agree_core.specs.declared.messages.DeskId.TheVariants.{A, B}
 use Rattle.agree_core.specs.Ballots.{Ballot, In, Justified, ballot_of, votes_by}
-use Rattle.agree_core.specs.LostLines.{is_another, is_before, is_in_reach, is_next}
-use Rattle.agree_core.specs.Positions.{next_place, next_round, position_of}
+use Rattle.agree_core.specs.LostLines.{is_another, is_in_reach}
+use Rattle.agree_core.specs.Positions.{position_of}
 use Rattle.agree_core.specs.Seats.{SeatState}
 use Rattle.agree_core.specs.Keeping.{MessageFine}
 use Rattle.agree_core.specs.Readers.{other}
@@ -44,14 +43,8 @@ module _ {Disk Why : Type 0} (s : Setting Disk Why) where
       let theirs : Justified (votes_by all d) (votes_by all (other d)) = justified_other s w d f in
       not_from_ahead d (votes_by all d) (votes_by all (other d)) k.seat k.book (ballot_of v) (fine_seat s w f d k runs).0 theirs there
 
-  not_ahead : (p q : Position) → NotBack q p → is_before p q ≡ false
-  not_ahead p q h = grind (arith, nat_tests)
-
-  next_or_later : (p q : Position) → (q ≡ next_place p) ⊎ (q ≡ next_round p) → is_next p q ≡ true
-  next_or_later p q h = grind (arith, nat_tests)
-
   reached : (s : SeatState) (theirs : List Ballot) (p : Position) → NotBack p s.position ⊎ IsBehind theirs s p → is_in_reach s p ≡ true
-  reached s theirs p h3 = grind (arith, not_ahead, next_or_later)
+  reached s theirs p h3 = grind arith
 
   all_in_reach : (w : Configuration Disk) → Fine s w → AllInReach w
   all_in_reach w f d k n v runs get by = reached k.seat (votes_by (all_votes w) (other d)) _ (none_from_ahead w f d k n v runs get by)

@@ -9,7 +9,6 @@ use Rattle.agree_core.specs.Ballots.{AllVotes, Ballot, In, Justified, votes_by}
 use Rattle.agree_core.specs.Books.{Rules}
 use Rattle.agree_core.specs.Desks.{DeskState, MayPen, PenAnswer, Pens}
 use Rattle.agree_core.specs.Keeping.{MineFine, SeatFine}
-use Rattle.agree_core.specs.Positions.{Before}
 use Rattle.agree_core.specs.Readers.{other}
 use Rattle.agree_core.specs.Seats.{SeatState, SeatWaits}
 use Rattle.agree_core.proofs.Order.{not_before, one_vote}
@@ -27,7 +26,7 @@ use Rattle.progress.specs.Calm.{BothUp, IsUp, NotBack}
 use Rattle.progress.specs.InStep.{BothVoted, EachKnows, InStep, IsBehind}
 use Rattle.progress.specs.Progress.{Hear, HearingAgainTells, HearingSettles, CanPen, CanPenInStep, StaysUp}
 use Rattle.progress.proofs.CalmRuns.{CalmRun, Steady, ends, seat_goes, steady_votes}
-use Rattle.progress.proofs.CalmSeats.{GoesOn, before_trans, not_back}
+use Rattle.progress.proofs.CalmSeats.{GoesOn, not_back}
 use Rattle.progress.proofs.CalmSteps.{one_process, step_at_on}
 use Rattle.progress.proofs.Near.{agree, before_next, never_far, not_cast}
 use Rattle.progress.proofs.Exchanges.{Done, Knows, NoVote, fine_at}
@@ -37,15 +36,8 @@ use Rattle.progress.proofs.Trips.{ear, others_justified, trip}
 abbrev pub Caught : List Ballot → SeatState → Type 0
 Caught theirs s = (s.mine ≡ None) ⊎ NoVote theirs s.position
 
--- a desk that has moved on has not cast
-moved_waits : (theirs : List Ballot) (s t : SeatState) → GoesOn theirs s t → Before s.position t.position → t.mine ≡ None
-moved_waits theirs s t h3 b = grind (arith, not_before)
-
-knows_waits : (s : SeatState) → SeatWaits s → Knows (ear s) → s.mine ≡ None
-knows_waits s h1 k = grind arith
-
 pub caught : (theirs : List Ballot) (s t : SeatState) → GoesOn theirs s t → SeatWaits t → Done theirs (ear s) (ear t) → Caught theirs t
-caught theirs s t g w h5 = grind (arith, moved_waits, knows_waits)
+caught theirs s t g w h5 = grind arith
 
 -- and it stays where it is
 caught_stays : (theirs : List Ballot) (s t : SeatState) → Caught theirs s → GoesOn theirs s t → t.position ≡ s.position
@@ -83,7 +75,7 @@ knows_it : (d : DeskId) (own theirs : List Ballot) (x : SeatState) (book : List 
 knows_it d own theirs x book e f j h i = grind (arith, one_vote)
 
 back_back : (p q r : Position) → NotBack p q → NotBack q r → NotBack p r
-back_back p q r h3 n = grind (arith, before_trans)
+back_back p q r h3 n = grind arith
 
 -- whose vote isn't cast has none there
 pub not_voted : (d : DeskId) (own theirs : List Ballot) (s : SeatState) (book : List Entry) → SeatFine d own theirs s book → s.mine ≡ None → NoVote own s.position

@@ -1,13 +1,13 @@
 -- What an exchange brings a desk.
 use Rattle.std.proofs.Common.{◌≡◌, ◌≢◌, ◌⊎◌, true≢false, Option, Some, None, List, [], ◌∷◌, ◌++◌, refl, sym, ap, ◌∙◌, subst, inl, inr, arith}
 use Rattle.notation.specs.declared.entry.Entry.{Entry}
-use Rattle.agree_core.specs.declared.{messages.Asker.Asker, messages.DeskId.DeskId, messages.Message.Message, messages.Vote.Vote, seat.Heard.Heard}
+use Rattle.agree_core.specs.declared.{messages.Asker.Asker, messages.DeskId.DeskId, messages.Message.Message, messages.Vote.Vote}
 use Rattle.agree_core.specs.Ballots.{AllVotes, Ballot, Justified, votes_by}
 use Rattle.agree_core.specs.Desks.{DeskState, Ticks, ask_for, ask_other, asker, own_vote}
 use Rattle.agree_core.specs.Keeping.{Each}
 use Rattle.agree_core.specs.Positions.{Before, position_of}
 use Rattle.agree_core.specs.Readers.{other}
-use Rattle.agree_core.specs.Seats.{Hears, SeatState}
+use Rattle.agree_core.specs.Seats.{SeatState}
 use Rattle.headline.specs.declared.{event.Event.Event, event.Station.Station}
 use Rattle.headline.specs.Configurations.{Configuration, Node, node}
 use Rattle.headline.specs.Runs.{Moment, last_of}
@@ -19,7 +19,7 @@ use Rattle.headline.proofs.Sound.{justified_other}
 use Rattle.progress.specs.Calm.{IsUp}
 use Rattle.progress.specs.Exchange.{Exchange, HandsOut}
 use Rattle.progress.proofs.CalmRuns.{CalmRun, Steady, ends, last_out, seat_goes, sent_set, steady_votes}
-use Rattle.progress.proofs.CalmSeats.{GoesOn, place_later, round_later}
+use Rattle.progress.proofs.CalmSeats.{GoesOn}
 use Rattle.progress.proofs.CalmSteps.{one_process}
 use Rattle.progress.proofs.Exchanges.{Done, Ear, Hearer, IsGivenTo, Knows, NoVote, On, exchange_brings, fine_at, given_to, none_full}
 
@@ -30,17 +30,12 @@ ear s = record { position = s.position; noted = s.theirs }
 on_of : (theirs : List Ballot) (s t : SeatState) → GoesOn theirs s t → On (ear s) (ear t)
 on_of theirs s t g = grind arith
 
--- a desk is given the other's vote for its position
-pub hears_vote : (s t : SeatState) (v : Vote) (h : Heard) → v.desk ≢ s.desk → position_of v ≡ s.position → Hears s v h t
-    → Before s.position t.position ⊎ Knows (ear t)
-hears_vote s t v h n at c = grind (arith, place_later, round_later)
-
 module _ {Disk Why : Type 0} (s : Setting Disk Why) where
   -- a desk that is up hears a vote for its position
   hears_it : (w : Configuration Disk) (m : Moment Disk Why) (d : DeskId) (k l : DeskState Disk) (v : Vote) → IsUp (node w d) k → IsUp (node m.after d) l
       → v.desk ≢ k.seat.desk → position_of v ≡ k.seat.position → IsGivenTo s w m d k (Message.Vote v)
       → Before k.seat.position l.seat.position ⊎ Knows (ear l.seat)
-  hears_it w m d k l v u u' n at g = grind (arith, one_process, hears_vote)
+  hears_it w m d k l v u u' n at g = grind (arith, one_process)
 
   pub others_justified : (w : Configuration Disk) (v : AllVotes) → Steady s v w → (d : DeskId) → Justified (votes_by v d) (votes_by v (other d))
   others_justified w v st d = subst (λ (z : AllVotes). Justified (votes_by z d) (votes_by z (other d))) (steady_votes s v w st) (justified_other s w d st.fine)
