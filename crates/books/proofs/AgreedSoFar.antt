@@ -22,10 +22,7 @@ none_agreed theirs = (tt, λ r e h. h.0)
 -- a sequence has one vote at a position
 pub one_vote : (votes : List Ballot) → IsSequence votes → (b c : Ballot) → In b votes → In c votes → b.at ≡ c.at → b ≡ c
 one_vote [] s b c i k e = absurd i
-one_vote (x ∷ xs) s b c (inl p) (inl q) e = p ∙ sym q
-one_vote (x ∷ xs) s b c (inl p) (inr q) e = absurd (not_before c.at x.at (sym e ∙ ap (λ (y : Ballot). y.at) p) (earlier x xs s.1 s.2 c q))
-one_vote (x ∷ xs) s b c (inr p) (inl q) e = absurd (not_before b.at x.at (e ∙ ap (λ (y : Ballot). y.at) q) (earlier x xs s.1 s.2 b p))
-one_vote (x ∷ xs) s b c (inr p) (inr q) e = one_vote xs s.2 b c p q e
+one_vote (x ∷ xs) s b c i k e = grind (arith, earlier, one_vote xs s.2 b c)
 
 all_settled_push : (v : AllVotes) (place next : ℕ) (es : List Entry) (e : Entry) → next ≡ place + length es → AllSettled v place es → SettledAt v next e →
     AllSettled v place (es ++ e ∷ [])
@@ -33,20 +30,12 @@ all_settled_push v place next [] e n a s = let same : next ≡ place = omega ari
 all_settled_push v place next (x ∷ xs) e n a s = (a.0, all_settled_push v (place + 1) next xs e (omega arith) a.1 s)
 
 module _ (own theirs : List Ballot) (b : Ballot) (s : IsSequence (b ∷ own)) where
-  is_at : {place round : ℕ} {e : Entry} → ballot_at place round e ≡ b → (place ≡ b.at.place) × (round ≡ b.at.round)
-  is_at p = (ap (λ (y : Ballot). y.at.place) p, ap (λ (y : Ballot). y.at.round) p)
-
-  not_so_late : (place round : ℕ) → place ≡ b.at.place → b.at.round < round → Before (record { place = place; round = round }) b.at → ⊥
-  not_so_late place round p less h = grind arith
-
   -- a place that is settled stays so
   still_settled : (place : ℕ) (e : Entry) → SettledAt (both own theirs) place e → SettledAt (both (b ∷ own) theirs) place e
-  still_settled place e (round, (equal, least)) = (round, ((inr equal.0, equal.1), none))
-    where
-      none : (r : ℕ) (f : Entry) → r < round → EqualVotes (both (b ∷ own) theirs) place r f → ⊥
-      none r f less (inl p, j) =
-          let at = is_at p in not_so_late place round at.0 (omega (arith, at.1)) (earlier b own s.1 s.2 (ballot_at place round e) equal.0)
-      none r f less (inr i, j) = least r f less (i, j)
+  still_settled place e (round, (equal, least)) = (
+    round,
+    ((inr equal.0, equal.1), λ r f less k. grind (arith, earlier b own s.1 s.2 (ballot_at place round e) equal.0, least r f less)),
+  )
 
   all_still_settled : (place : ℕ) (es : List Entry) → AllSettled (both own theirs) place es → AllSettled (both (b ∷ own) theirs) place es
   all_still_settled place [] a = tt
@@ -55,33 +44,18 @@ module _ (own theirs : List Ballot) (b : Ballot) (s : IsSequence (b ∷ own)) wh
   -- a vote that the other desk lacks, or that is for another place, settles nothing
   settles_nothing : (xs : List Entry) → IsAgreedList (both own theirs) xs → (b.at.place ≡ length xs → In b theirs → ⊥) →
       IsAgreedList (both (b ∷ own) theirs) xs
-  settles_nothing xs a other = (all_still_settled 0 xs a.0, none)
-    where
-      none : Unsettled (both (b ∷ own) theirs) (length xs)
-      none r e (inl p, j) = other (sym (is_at p).0) (rw p at j)
-      none r e (inr i, j) = a.1 r e (i, j)
+  settles_nothing xs a other = (all_still_settled 0 xs a.0, λ r e k. grind (arith, other, a.1 r e))
 
   -- a vote for the next place that the other desk has too settles it
   settles_next : (xs : List Entry) → IsAgreedList (both own theirs) xs → b.at.place ≡ length xs → In b theirs →
       IsAgreedList (both (b ∷ own) theirs) (xs ++ b.entry ∷ [])
-  settles_next xs a here i = (all_settled_push (both (b ∷ own) theirs) 0 (length xs) xs b.entry (omega arith) (all_still_settled 0 xs a.0) settled, none)
-    where
-      is : ballot_at (length xs) b.at.round b.entry ≡ b
-      is = λ k. ballot_at (sym here k) b.at.round b.entry
-
-      least : (r : ℕ) (f : Entry) → r < b.at.round → EqualVotes (both (b ∷ own) theirs) (length xs) r f → ⊥
-      least r f less (inl p, j) = omega (arith, (is_at p).1)
-      least r f less (inr k, j) = a.1 r f (k, j)
-
-      settled : SettledAt (both (b ∷ own) theirs) (length xs) b.entry
-      settled = (b.at.round, ((inl is, rw is i), least))
-
-      long : length (xs ++ b.entry ∷ []) ≡ b.at.place + 1
-      long = omega (arith, here, length-append xs (b.entry ∷ []))
-
-      none : Unsettled (both (b ∷ own) theirs) (length (xs ++ b.entry ∷ []))
-      none r e (inl p, j) = omega (arith, long, (is_at p).0)
-      none r e (inr k, j) = let late = earlier b own s.1 s.2 (ballot_at (length (xs ++ b.entry ∷ [])) r e) k in grind (arith, long, late)
+  settles_next xs a here i =
+      let is : ballot_at (length xs) b.at.round b.entry ≡ b = grind arith in
+      let settled : SettledAt (both (b ∷ own) theirs) (length xs) b.entry =
+      (b.at.round, ((inl is, rw is i), λ r f less k. grind (arith, a.1 r f))) in (
+        all_settled_push (both (b ∷ own) theirs) 0 (length xs) xs b.entry (omega arith) (all_still_settled 0 xs a.0) settled,
+        λ r e k. grind (arith, length-append xs (b.entry ∷ []), earlier b own s.1 s.2 (ballot_at (length (xs ++ b.entry ∷ [])) r e)),
+      )
 
 -- the agreed list of the first votes of one desk and all of the other's
 pub record AgreedSoFar (votes theirs : List Ballot) (i : ℕ) (xs : List Entry) : Type 0 where

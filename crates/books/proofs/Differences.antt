@@ -18,9 +18,15 @@ use Rattle.books.proofs.EntriesAt.{none_after, none_from}
 
 -- the test of two entries is that of their lines
 pub alike : (r : Bool) (x y : Entry) → IsEntry x → IsEntry y → IsTrue r ↔ (x ≡ y) → r ≡ bytes_eq (text_of x) (text_of y)
-alike r x y h k same =
-    same_from_decides r (bytes_eq (text_of x) (text_of y)) same
-    (Decides-like (bytes_eq (text_of x) (text_of y)) (text_once x y h k) (λ e. ap text_of e) (bytes_eq-Decides (text_of x) (text_of y)))
+alike r x y h k same = grind (arith, bytes_eq-Decides (text_of x) (text_of y), text_once x y h k)
+
+-- where nothing is added from some place on, all up to it is all
+no_more : (f g : ℕ → List Difference) → ((n : ℕ) → f (suc n) ≡ f n ++ g n) → (k : ℕ) → ((n : ℕ) → k ≤ n → g n ≡ []) → (n : ℕ) → k ≤ n → f n ≡ f k
+no_more f g next k none zero le = let same : k ≡ zero = omega arith in rw same refl
+no_more f g next k none (suc n) le = elim (cases_lt n k) [
+  | inl last ↦ let same : k ≡ suc n = omega (arith, last) in rw same refl
+  | inr more ↦ rw (next n, none n more) (append-nil (f n) ∙ no_more f g next k none n more)
+]
 
 module _ (v : AllVotes) (place : ℕ) where
   in_rounds-next : (n : ℕ) → in_rounds v place (n + 1) ≡ in_rounds v place n ++ difference_at v place n
@@ -40,17 +46,11 @@ module _ (v : AllVotes) (place : ℕ) where
     -- where neither desk has a vote in a round, the rounds up to it are all
     no_more_rounds : (n : ℕ) → round ≤ n → in_rounds v place n ≡ in_rounds v place round
     unfolding in_rounds
-    no_more_rounds zero le = let same : round ≡ zero = omega arith in rw same refl
-    no_more_rounds (suc n) le = elim (cases_lt n round) [
-      | inl last ↦ let same : round ≡ suc n = omega (arith, last) in rw same refl
-      | inr more ↦
-          rw (none_from v.a s place round n more a, none_from v.b t place round n more b) (append-nil (in_rounds v place n) ∙ no_more_rounds n more)
-    ]
+    no_more_rounds = no_more (in_rounds v place) (difference_at v place) (λ n. refl) round (λ n le. grind (arith, none_from v.a s place round n le a, none_from v.b t place round n le b))
 
     -- and what was added up to it is all of the place
     pub added_all : (n : ℕ) (old new : List Difference) → round < n → new ≡ old ++ in_rounds v place (round + 1) → new ≡ old ++ in_rounds v place n
-    added_all n old new less e =
-        e ∙ ap (λ l. old ++ l) (no_more_rounds (round + 1) (omega arith) ∙ sym (no_more_rounds n (omega arith)))
+    added_all n old new less e = grind (arith, no_more_rounds (round + 1), no_more_rounds n)
 
 pub placed_next : (v : AllVotes) (n : ℕ) (mid new : List Difference) → mid ≡ in_places v n → new ≡ mid ++ in_rounds v n ROUNDS → new ≡ in_places v (n + 1)
 unfolding in_places
@@ -58,18 +58,10 @@ placed_next v n mid new m e = rw (add-one) (rw (← m) e)
 
 module _ (v : AllVotes) (s : IsSequence v.a) (t : IsSequence v.b) where
   -- where neither desk has a vote at a place, the places up to it are all
-  none_in : (n : ℕ) → entry_at v.a n 0 ≡ None → entry_at v.b n 0 ≡ None → in_rounds v n ROUNDS ≡ []
-  unfolding in_rounds
-  none_in n a b = no_more_rounds v n s t 0 a b ROUNDS (omega arith)
-
   no_more_places : (place : ℕ) → entry_at v.a place 0 ≡ None → entry_at v.b place 0 ≡ None → (n : ℕ) → place ≤ n → in_places v n ≡ in_places v place
-  unfolding in_places
-  no_more_places place a b zero le = let same : place ≡ zero = omega arith in rw same refl
-  no_more_places place a b (suc n) le = elim (cases_lt n place) [
-    | inl last ↦ let same : place ≡ suc n = omega (arith, last) in rw same refl
-    | inr more ↦
-        rw (none_in n (none_after v.a s place n more a) (none_after v.b t place n more b)) (append-nil (in_places v n) ∙ no_more_places place a b n more)
-  ]
+  unfolding in_places in_rounds
+  no_more_places place a b = no_more (in_places v) (λ n. in_rounds v n ROUNDS) (λ n. refl) place (λ n le.
+      no_more_rounds v n s t 0 (none_after v.a s place n le a) (none_after v.b t place n le b) ROUNDS (omega arith))
 
   -- and what was placed up to it is all
   pub placed_all : (place : ℕ) (mid new : List Difference) → place < PLACES → entry_at v.a place 0 ≡ None → entry_at v.b place 0 ≡ None

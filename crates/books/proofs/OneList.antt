@@ -1,5 +1,5 @@
 -- Sound files have one agreed list.
-use Rattle.std.proofs.Common.{◌≡◌, ℕ, ◌+◌, ◌<◌, List, [], ◌∷◌, length, refl, ap, arith, zero-add}
+use Rattle.std.proofs.Common.{◌≡◌, ℕ, ◌+◌, ◌<◌, List, [], ◌∷◌, length, refl, ap, arith, add-zero, zero-add}
 use Rattle.notation.specs.declared.entry.Entry.{Entry}
 use Rattle.agree_core.specs.Agreed.{AllSettled, IsAgreedList, SettledAt, Unsettled}
 use Rattle.agree_core.specs.Ballots.{AllVotes, Ballot, IsSequence, ballot_at}
@@ -8,9 +8,7 @@ use Rattle.books.proofs.AgreedSoFar.{one_vote}
 module _ (v : AllVotes) (s : IsSequence v.a) where
   one_entry : (place : ℕ) (e f : Entry) → SettledAt v place e → SettledAt v place f → e ≡ f
   one_entry place e f (r, (equal, least)) (q, (equal', least')) =
-      let one : r ≡ q → e ≡ f = λ same.
-      ap (λ (b : Ballot). b.entry) (one_vote v.a s (ballot_at place r e) (ballot_at place q f) equal.0 equal'.0 (ap (λ k. record { place = place; round = k }) same)) in
-      grind (arith, one, λ (less : r < q). least' r e less equal, λ (less : q < r). least q f less equal')
+      grind (arith, one_vote v.a s (ballot_at place r e) (ballot_at place q f) equal.0 equal'.0, least q f, least' r e)
 
   same_from : (place : ℕ) (xs ys : List Entry) → AllSettled v place xs → AllSettled v place ys → Unsettled v (length xs + place) →
       Unsettled v (length ys + place) → xs ≡ ys
@@ -23,7 +21,4 @@ module _ (v : AllVotes) (s : IsSequence v.a) where
       rw (one_entry place x y a.0 b.0, same_from (place + 1) xs ys a.1 b.1 (rw long m) (rw many n)) refl
 
   pub one_list : (xs ys : List Entry) → IsAgreedList v xs → IsAgreedList v ys → xs ≡ ys
-  one_list xs ys a b =
-      let long : length xs + 0 ≡ length xs = omega arith in
-      let many : length ys + 0 ≡ length ys = omega arith in
-      same_from 0 xs ys a.0 b.0 (rw long a.1) (rw many b.1)
+  one_list xs ys a b = same_from 0 xs ys a.0 b.0 (rw add-zero a.1) (rw add-zero b.1)

@@ -18,13 +18,11 @@ use Rattle.books.proofs.EntriesAt.{found_in, none_at, some_at}
 -- each vote of a sequence is for a position in range, and for an entry
 in_range : (votes : List Ballot) → IsSequence votes → (b : Ballot) → In b votes → InRange b.at
 in_range [] s b i = absurd i
-in_range (x ∷ xs) s b (inl p) = rw p s.0
-in_range (x ∷ xs) s b (inr k) = in_range xs s.2 b k
+in_range (x ∷ xs) s b i = grind (arith, in_range xs s.2 b)
 
 pub entries_at : (votes : List Ballot) → AllEntries votes → (place round : ℕ) → IfSome (entry_at votes place round) IsEntry
 entries_at [] a place round = tt
-entries_at (b ∷ bs) a place round =
-    cond_both _ (Some b.entry) (entry_at bs place round) (λ o. IfSome o IsEntry) (λ _. a.0) (λ _. entries_at bs a.1 place round)
+entries_at (b ∷ bs) a place round = grind (arith, entries_at bs a.1 place round)
 
 -- ---- nothing is told
 
@@ -32,17 +30,14 @@ no_parts : (xs ys : List Difference) → xs ++ ys ≡ [] → (xs ≡ []) × (ys 
 no_parts [] ys e = (refl, e)
 no_parts (x ∷ xs) ys e = absurd (cc)
 
-none_in_round : (v : AllVotes) (place n : ℕ) → in_rounds v place n ≡ [] → (round : ℕ) → round < n → difference_at v place round ≡ []
-unfolding in_rounds
-none_in_round v place zero e round less = absurd (omega arith)
-none_in_round v place (suc n) e round less =
-    let parts = no_parts (in_rounds v place n) (difference_at v place n) e in grind (arith, none_in_round v place n parts.0 round)
+none_below : (f g : ℕ → List Difference) → ((n : ℕ) → f (suc n) ≡ f n ++ g n) → (n : ℕ) → f n ≡ [] → (k : ℕ) → k < n → g k ≡ []
+none_below f g next zero e k less = absurd (omega arith)
+none_below f g next (suc n) e k less = let parts = no_parts (f n) (g n) (sym (next n) ∙ e) in grind (arith, none_below f g next n parts.0 k)
 
-none_in_place : (v : AllVotes) (n : ℕ) → in_places v n ≡ [] → (place : ℕ) → place < n → in_rounds v place ROUNDS ≡ []
-unfolding in_places
-none_in_place v zero e place less = absurd (omega arith)
-none_in_place v (suc n) e place less =
-    let parts = no_parts (in_places v n) (in_rounds v n ROUNDS) e in grind (arith, none_in_place v n parts.0 place)
+none_in : (v : AllVotes) → differences v ≡ [] → (place round : ℕ) → place < PLACES → round < ROUNDS → difference_at v place round ≡ []
+unfolding in_places in_rounds
+none_in v none place round p r =
+    none_below (in_rounds v place) (difference_at v place) (λ n. refl) ROUNDS (none_below (in_places v) _ (λ n. refl) PLACES none place p) round r
 
 pub same_entry : (x y : Option Entry) → IfSome x IsEntry → IfSome y IsEntry → is_alike x y ≡ true → x ≡ y
 same_entry None None h k e = refl
@@ -59,42 +54,31 @@ module _ (v : AllVotes) (a : IsVotes v.a) (b : IsVotes v.b) where
   same_at none place round p r =
       let x = entry_at v.a place round in
       let y = entry_at v.b place round in
-      let here = none_in_round v place ROUNDS (none_in_place v PLACES none place p) round r in
-      let alike : is_alike x y ≡ true = grind (arith, here) in
-      same_entry x y (entries_at v.a a.entries place round) (entries_at v.b b.entries place round) alike
+      same_entry x y (entries_at v.a a.entries place round) (entries_at v.b b.entries place round) (grind (arith, none_in v none place round p r))
 
   pub same_votes : differences v ≡ [] → (x : Ballot) → In x v.a ↔ In x v.b
-  same_votes none x = (
-    λ i. let range = in_range v.a a.sequence x i in
-        found_in v.b x.at.place x.at.round x.entry
-        (sym (same_at none x.at.place x.at.round range.0 range.1) ∙ some_at v.a a.sequence x.at.place x.at.round x.entry i),
-    λ i. let range = in_range v.b b.sequence x i in
-        found_in v.a x.at.place x.at.round x.entry
-        (same_at none x.at.place x.at.round range.0 range.1 ∙ some_at v.b b.sequence x.at.place x.at.round x.entry i),
-  )
+  same_votes none x =
+      let here = same_at none x.at.place x.at.round in (
+        λ i. grind (arith, in_range v.a a.sequence x i, here, found_in v.b x.at.place x.at.round x.entry, some_at v.a a.sequence x.at.place x.at.round x.entry i),
+        λ i. grind (arith, in_range v.b b.sequence x i, here, found_in v.a x.at.place x.at.round x.entry, some_at v.b b.sequence x.at.place x.at.round x.entry i),
+      )
 
   -- ---- and the same votes tell nothing
 
   module _ (same : (x : Ballot) → In x v.a ↔ In x v.b) where
-    by_first : (place round : ℕ) (o : Option Entry) → entry_at v.a place round ≡ o → entry_at v.b place round ≡ o
+    by_first : (place round : ℕ) (o : Option Entry) → entry_at v.a place round ≡ o → o ≡ entry_at v.b place round
     by_first place round None e =
-        none_at v.b place round (λ x i. let some = some_at v.a a.sequence place round x ((same (ballot_at place round x)).1 i) in absurd (cc))
-    by_first place round (Some x) e = some_at v.b b.sequence place round x ((same (ballot_at place round x)).0 (found_in v.a place round x e))
+        sym (none_at v.b place round (λ x i. let some = some_at v.a a.sequence place round x ((same (ballot_at place round x)).1 i) in absurd (cc)))
+    by_first place round (Some x) e = sym (some_at v.b b.sequence place round x ((same (ballot_at place round x)).0 (found_in v.a place round x e)))
 
     none_at_all : (place round : ℕ) → difference_at v place round ≡ []
-    none_at_all place round =
-        let x = entry_at v.a place round in
-        rw (by_first place round x refl, alike_here x) refl
+    none_at_all place round = let x = entry_at v.a place round in rw (← by_first place round x refl, alike_here x) refl
 
-    none_of_rounds : (place n : ℕ) → in_rounds v place n ≡ []
-    unfolding in_rounds
-    none_of_rounds place zero = refl
-    none_of_rounds place (suc n) = rw (none_of_rounds place n) (none_at_all place n)
-
-    none_of_places : (n : ℕ) → in_places v n ≡ []
-    unfolding in_places
-    none_of_places zero = refl
-    none_of_places (suc n) = rw (none_of_places n) (none_of_rounds n ROUNDS)
+    none_of : (f g : ℕ → List Difference) → f 0 ≡ [] → ((n : ℕ) → f (suc n) ≡ f n ++ g n) → ((n : ℕ) → g n ≡ []) → (n : ℕ) → f n ≡ []
+    none_of f g first next none zero = first
+    none_of f g first next none (suc n) = rw (next n, none_of f g first next none n, none n) refl
 
     pub no_difference : differences v ≡ []
-    no_difference = none_of_places PLACES
+    unfolding in_places in_rounds
+    no_difference =
+        none_of (in_places v) _ refl (λ n. refl) (λ place. none_of (in_rounds v place) _ refl (λ n. refl) (none_at_all place) ROUNDS) PLACES

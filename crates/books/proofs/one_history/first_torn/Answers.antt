@@ -1,7 +1,10 @@
 use Rattle.std.proofs.Common.{◌∙◌, sym}
+use borrow.Author.Count.{below_more}
 use Rattle.books.specs.DeskVotes.{votes_of_both}
+use Rattle.agree_core.specs.declared.position.TheConstants.{ROUNDS}
+use Rattle.books.specs.OneHistory.{IsWholeAt}
 use Rattle.books.proofs.SoundVotes.{are_votes}
-use Rattle.books.proofs.Tears.{none_torn, place_more}
+use Rattle.books.proofs.Tears.{none_torn}
 use Rattle.books.proofs.one_history.first_torn.Goals as goal
 
 pub returns-then-not-has_vote : goal.returns-then-not-has_vote
@@ -11,5 +14,5 @@ returns-then-not-has_vote c =
 
 pub loop-place-preserved : goal.loop-place-preserved
 loop-place-preserved c =
-    place_more (votes_of_both c.args.a.now c.args.b.now) c.loop-place.place c.loop-place.invariant
+    below_more (λ p. IsWholeAt (votes_of_both c.args.a.now c.args.b.now) p ROUNDS) c.loop-place.place c.loop-place.invariant
     (c.is_torn_at.ensures.whole c.if-is_torn_at.false)
