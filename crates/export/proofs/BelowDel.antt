@@ -1,5 +1,5 @@
 -- Whether each byte of a text stands before DEL, by a search for it and a test.
-use Rattle.std.proofs.Common.{◌≡◌, ◌≤◌, ℕ, Bool, true, false, List, length, slice_index, nat_lt, sym, inl, inr, arith}
+use Rattle.std.proofs.Common.{◌≡◌, ◌≤◌, ℕ, Bool, true, false, List, length, slice_index, nat_lt, sym, arith}
 use Rattle.std.specs.Prelude.{IsAscii}
 use Rattle.std.specs.Bool.{MatchBool}
 use Rattle.std.specs.List.{list_all}
@@ -19,10 +19,7 @@ abbrev IsDel : List ℕ → ℕ → Type 0
 IsDel bytes = Passes (is_byte 0x7f) bytes
 
 from_del : (bytes : List ℕ) (i : ℕ) → 0x7f ≤ slice_index bytes i → list_all is_below bytes ≡ false
-from_del bytes i high = elim (cases_lt i (length bytes)) [
-  | inl less ↦ list_all_at is_below bytes i 0 less (grind (arith, nat_tests))
-  | inr past ↦ let zero = get_or_past bytes i 0 past in absurd (omega (arith, zero, high))
-]
+from_del bytes i high = grind (arith, nat_tests, cases_lt i (length bytes), list_all_at is_below bytes i 0, get_or_past bytes i 0)
 
 -- where DEL is found, not each does
 pub found : (bytes : List ℕ) (i : ℕ) → NoneBefore (IsDel bytes) 0 (length bytes) i × IsDel bytes i → false ≡ list_all is_below bytes

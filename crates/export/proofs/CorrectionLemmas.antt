@@ -1,10 +1,9 @@
 -- What is put of a book's corrections is what is put of its entries.
-use Rattle.std.proofs.Common.{◌≡◌, ℕ, zero, suc, ◌<◌, Option, Some, List, [], ◌∷◌, refl, ◌∙◌, append-nil, arith}
+use Rattle.std.proofs.Common.{◌≡◌, ℕ, zero, suc, ◌<◌, Option, List, [], ◌∷◌, refl, append-nil, arith}
 use Rattle.std.specs.Prelude.{All, flat_map, if◌then◌else◌, slice_get}
 use Rattle.std.proofs.lemmas.List.Concat.{flat_map-append}
 use Rattle.std.proofs.lemmas.List.Elements.{All-append, All-cons, All-nil, All-weaker}
 use Rattle.notation.specs.declared.entry.Entry.{Entry}
-use Rattle.notation.specs.declared.entry.Entry.TheVariants.{Fix}
 use Rattle.json.specs.Json.{Json}
 use Rattle.corrections.specs.Refusal.{is_fix}
 use Rattle.json_fields.specs.Values.{up_to}
@@ -13,8 +12,7 @@ use Rattle.export.specs.inner.Corrections.{fix_places}
 
 -- a place that is one
 one_more : (f : ℕ → List Json) (p n : ℕ) (o : Option Entry) → f n ≡ fix_at p n o → flat_map f (if is_fix o then n ∷ [] else []) ≡ fix_at p n o
-one_more f p n (Some (Fix q x)) is = append-nil (f n) ∙ is
-one_more f p n o is = refl
+one_more f p n o is = grind (arith, append-nil)
 
 pub each-places : (p : ℕ) (book : List Entry) (n : ℕ) →
     flat_map (λ k. fix_at p k (slice_get book k)) (fix_places book n) ≡ up_to (λ k. fix_at p k (slice_get book k)) n
@@ -25,8 +23,7 @@ each-places p book (suc n) =
     rw (flat_map-append f (fix_places book n), each-places p book n, one_more f p n (slice_get book n) refl) refl
 
 now_below : (n : ℕ) (o : Option Entry) → All (λ k. k < suc n) (if is_fix o then n ∷ [] else [])
-now_below n (Some (Fix q x)) = All-cons (λ k. k < suc n) n [] (omega arith) (All-nil (λ k. k < suc n))
-now_below n o = All-nil (λ k. k < suc n)
+now_below n o = grind (arith, All-cons (λ k. k < suc n) n [], All-nil (λ k. k < suc n))
 
 pub places-below : (book : List Entry) (n : ℕ) → All (λ k. k < n) (fix_places book n)
 places-below book zero = All-nil (λ k. k < 0)

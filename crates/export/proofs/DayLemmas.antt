@@ -1,17 +1,16 @@
 -- What tells a day or a revision has its value: a text that is a day is the day's text.
 use Rattle.std.proofs.Common.{◌≡◌, ℕ, ◌+◌, ◌-◌, ◌*◌, ◌/◌, ◌%◌, ◌<◌, Bool, true, false, cond, ◌&&◌, ◌==◌, nat_le}
 use Rattle.std.proofs.Common.{pos, List, [], ◌∷◌, ◌++◌, Option, Some, None, option_map, option_and_then, get_or}
-use Rattle.std.proofs.Common.{refl, sym, ap, ◌∙◌, arith, append_assoc, append-nil, lt-ltb, eqb-true}
+use Rattle.std.proofs.Common.{sym, ap, ◌∙◌, arith, append_assoc, append-nil, lt-ltb}
 use Rattle.std.specs.Prelude.{is_none}
 use Rattle.std.specs.Char.{is_ascii_digit}
 use Rattle.std.specs.Fmt.{decimal}
-use Rattle.std.proofs.lemmas.Bool.{and_parts}
 use Rattle.std.proofs.lemmas.Bool.Decides.{nat_tests}
-use Rattle.std.proofs.lemmas.Option.{cond_some, none-some, option_and_then_some, same_Some}
+use Rattle.std.proofs.lemmas.Option.{cond_some, none-some, option_and_then_some}
 use Rattle.toml_datetime.specs.declared.datetime.{Date.Date, Time.Time, Offset.Offset, Datetime.Datetime}
 use Rattle.toml_datetime.specs.Valid.{is_valid_date}
-use Rattle.toml_datetime.specs.Parse.{after_byte, after_date, after_time, colon, dash, full_date, is_time_delim}
-use Rattle.toml_datetime.specs.Parse.{parse_datetime, partial_time, time_offset, two_digits, whole}
+use Rattle.toml_datetime.specs.Parse.{after_byte, after_date, after_time, colon, dash, full_date}
+use Rattle.toml_datetime.specs.Parse.{parse_datetime, partial_time, two_digits, whole}
 use Rattle.toml_datetime.specs.Text.{date_text, datetime_text, delim_text, offset_text, part_text, time_text, two_wide}
 use Rattle.toml.specs.Data as toml
 use Rattle.toml.specs.Data.{Data}
@@ -35,17 +34,10 @@ two_back : (text : List ℕ) (p : ℕ × List ℕ) → two_digits text ≡ Some 
 unfolding two_digits
 two_back [] p e = absurd (none-some p e)
 two_back (a ∷ []) p e = absurd (none-some p e)
-two_back (a ∷ b ∷ rest) p e =
-    let (digits, same) = cond_some (is_ascii_digit a && is_ascii_digit b) (10 * (a - 48) + (b - 48), rest) p e in
-    let (tens, ones) = and_parts (is_ascii_digit a) (is_ascii_digit b) digits in
-    let (small, text) = digits_back a b tens ones in
-    rw (← same) (small, ap (λ ds. ds ++ rest) (sym text))
+two_back (a ∷ b ∷ rest) p e = grind (arith, digits_back a b)
 
 after_back : (byte : ℕ) (text rest : List ℕ) → after_byte byte text ≡ Some rest → text ≡ byte ∷ rest
-after_back byte [] rest e = absurd (none-some rest e)
-after_back byte (c ∷ more) rest e =
-    let (is, same) = cond_some (c == byte) more rest e in
-    ap (λ b. b ∷ more) (eqb-true c byte is) ∙ ap (λ ds. byte ∷ ds) same
+after_back byte text rest e = grind (arith, nat_tests)
 
 marked_back : (text : List ℕ) (p : ℕ × List ℕ) → option_and_then two_digits (after_byte dash text) ≡ Some p → text ≡ dash ∷ two_wide p.0 ++ p.1
 marked_back text p e = option_and_then_some two_digits (after_byte dash text) p e λ rest behind read.
@@ -53,10 +45,7 @@ marked_back text p e = option_and_then_some two_digits (after_byte dash text) p 
 
 in_a_row : (century year month day rest : List ℕ)
     → century ++ (year ++ (dash ∷ month ++ (dash ∷ day ++ rest))) ≡ (century ++ (year ++ (dash ∷ month ++ dash ∷ day))) ++ rest
-in_a_row century year month day rest =
-    let last = dash ∷ month ++ dash ∷ day in
-    ap (λ ds. century ++ (year ++ dash ∷ ds)) (sym (append_assoc month (dash ∷ day) rest))
-    ∙ sym (append_assoc century (year ++ last) rest ∙ ap (λ ds. century ++ ds) (append_assoc year last rest))
+in_a_row century year month day rest = simp append_assoc
 
 full_date_back : (text : List ℕ) (p : Date × List ℕ) → full_date text ≡ Some p → text ≡ date_text p.0 ++ p.1
 unfolding full_date date_text
@@ -70,39 +59,23 @@ full_date_back text p e =
     let (small, behind) = two_back century.1 year is₂ in
     let hundreds : (100 * century.0 + year.0) / 100 ≡ century.0 = omega (arith, small) in
     let units : (100 * century.0 + year.0) % 100 ≡ year.0 = omega (arith, small) in
-    let all : text ≡ two_wide century.0 ++ (two_wide year.0 ++ (dash ∷ two_wide month.0 ++ (dash ∷ two_wide day.0 ++ day.1))) =
-    (two_back text century is₁).1 ∙ ap (λ ds. two_wide century.0 ++ ds) (behind
-    ∙ ap (λ ds. two_wide year.0 ++ ds) (marked_back year.1 month is₃ ∙ ap (λ ds. dash ∷ two_wide month.0 ++ ds) (marked_back month.1 day is₄))) in
-    rw (← same, hundreds, units) (all ∙ in_a_row (two_wide century.0) (two_wide year.0) (two_wide month.0) (two_wide day.0) day.1)
+    rw (← same, hundreds, units, (two_back text century is₁).1, behind, marked_back year.1 month is₃, marked_back month.1 day is₄) (in_a_row (two_wide century.0) (two_wide year.0) (two_wide month.0) (two_wide day.0) day.1)
 
 -- ---- a date-time that is a day alone
 
-mapped : (d : Date) (t : Time) (o : Option Offset) (dt : Datetime) (day : Date) →
-    option_map (λ x. record { date = Some d; time = Some t; offset = Some x }) o ≡ Some dt → local_date dt ≡ Some day → ⊥
-mapped d t None dt day e is = none-some dt e
-mapped d t (Some x) dt day e is = none-some day (ap local_date (same_Some _ dt e) ∙ is)
-
-timed : (d : Date) (t : Time) (rest : List ℕ) (dt : Datetime) (day : Date) → after_time d t rest ≡ Some dt → local_date dt ≡ Some day → ⊥
-timed d t [] dt day e is = none-some day (ap local_date (same_Some _ dt e) ∙ is)
-timed d t (c ∷ rest) dt day e is = mapped d t (whole (time_offset (c ∷ rest))) dt day e is
-
 delimited : (b : Bool) (d : Date) (o : Option (Time × List ℕ)) (dt : Datetime) (day : Date)
     → cond b (option_and_then (λ time. after_time d time.0 time.1) o) None ≡ Some dt → local_date dt ≡ Some day → ⊥
-delimited false d o dt day e is = none-some dt e
-delimited true d None dt day e is = none-some dt e
-delimited true d (Some time) dt day e is = timed d time.0 time.1 dt day e is
+delimited b d o dt day e is = grind arith
 
 after_day : (d : Date) (more : List ℕ) (dt : Datetime) (day : Date) → after_date d more ≡ Some dt → local_date dt ≡ Some day → (more ≡ []) × (d ≡ day)
 unfolding after_date
-after_day d [] dt day e is = (refl, same_Some d day (ap local_date (same_Some _ dt e) ∙ is))
-after_day d (c ∷ rest) dt day e is = absurd (delimited (is_time_delim c) d (partial_time rest) dt day e is)
+after_day d more dt day e is = grind (arith, delimited)
 
 parsed_day : (b : Bool) (o : Option Time) (text : List ℕ) (dt : Datetime) (day : Date)
     → cond b (option_map (λ t. record { date = None; time = Some t; offset = None }) o)
     (option_and_then (λ date. after_date date.0 date.1) (full_date text)) ≡ Some dt
     → local_date dt ≡ Some day → text ≡ date_text day
-parsed_day true None text dt day e is = absurd (none-some dt e)
-parsed_day true (Some t) text dt day e is = absurd (none-some day (ap local_date (same_Some _ dt e) ∙ is))
+parsed_day true o text dt day e is = grind arith
 parsed_day false o text dt day e is = option_and_then_some _ (full_date text) dt e λ p read rest.
     let (none, same) = after_day p.0 p.1 dt day rest is in
     full_date_back text p read ∙ (ap (λ ds. date_text p.0 ++ ds) none ∙ (append-nil (date_text p.0) ∙ ap date_text same))
@@ -114,10 +87,7 @@ day_text text day e = option_and_then_some local_date (parse_datetime text) day 
 
 parts_text : (date : Option Date) (time : Option Time) (offset : Option Offset) (day : Date) → cond (is_none time && is_none offset) date None ≡ Some day
     → date_text day ≡ part_text date_text date ++ (delim_text date time ++ (part_text time_text time ++ part_text offset_text offset))
-parts_text None None None day e = absurd (none-some day e)
-parts_text (Some d) None None day e = ap date_text (sym (same_Some d day e)) ∙ sym (append-nil (date_text d))
-parts_text date None (Some o) day e = absurd (none-some day e)
-parts_text date (Some t) offset day e = absurd (none-some day e)
+parts_text date time offset day e = grind (arith, append-nil)
 
 -- ---- the values
 

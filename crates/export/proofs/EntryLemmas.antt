@@ -1,5 +1,5 @@
 -- Each entry of a book stands once, at its place.
-use Rattle.std.proofs.Common.{◌≡◌, ℕ, zero, suc, ◌<◌, ◌≤◌, List, [], ◌∷◌, length, Some, refl, ap, ◌∙◌, arith, inl, inr, length-append}
+use Rattle.std.proofs.Common.{◌≡◌, ℕ, zero, suc, ◌<◌, ◌≤◌, List, [], ◌∷◌, length, Some, refl, ap, arith, length-append}
 use Rattle.std.proofs.lemmas.Bool.{cases_lt}
 use Rattle.std.specs.Prelude.{slice_get}
 use Rattle.std.proofs.lemmas.Option.{slice_get_cases, slice_get_within}
@@ -17,10 +17,7 @@ one_entry : (book : List Entry) (p : ℕ) (e : Entry) → slice_get book p ≡ S
 one_entry book p e is = ap (entry_at book p) is
 
 one_long : (book : List Entry) (p : ℕ) → p < length book → length (at book p) ≡ 1
-one_long book p lt = elim ((slice_get_cases book p).1) [
-  | inl there ↦ ap length (one_entry book p there.0 there.2)
-  | inr past ↦ absurd (omega (arith, past.0, lt))
-]
+one_long book p lt = grind (arith, (slice_get_cases book p).1)
 
 count : (book : List Entry) (n : ℕ) → n ≤ length book → length (up_to (at book) n) ≡ n
 unfolding up_to
@@ -33,14 +30,14 @@ each : (book : List Entry) (n p : ℕ) (e : Entry) → n ≤ length book → p <
 unfolding up_to
 each book zero p e le lt is = absurd (omega arith)
 each book (suc n) p e le lt is =
-    let long = count book n (omega arith) in
-    elim (cases_lt p n) [
-      | inl below ↦ slice_get-append_left (up_to (at book) n) (at book n) p (omega (arith, long, below)) ∙ each book n p e (omega arith) below is
-      | inr above ↦
-          let same : n ≡ p = omega (arith, lt, above) in
-          let here : at book n ≡ entry_of book p e ∷ [] = rw same (one_entry book p e is) in
-          rw here (rw (long ∙ same) at (slice_get-last (up_to (at book) n) (entry_of book p e)))
-    ]
+    grind (
+      arith,
+      cases_lt p n,
+      count book n,
+      each book n p e,
+      slice_get-append_left (up_to (at book) n) (at book n) p,
+      slice_get-last (up_to (at book) n) (entry_of book p e),
+    )
 
 pub has_each : (book : List Entry) → HasEachEntry book
 has_each book = record {

@@ -56,10 +56,4 @@ read_back c more h =
 
 pub plain_text : (c : ℕ) → is_obeyed c ≡ true → IsPlain c
 plain_text c h =
-    rw (
-      h,
-      printable_digit (c / 4096 % 16) (omega arith),
-      printable_digit (c / 256 % 16) (omega arith),
-      printable_digit (c / 16 % 16) (omega arith),
-      printable_digit (c % 16) (omega arith),
-    )
+    grind (arith, h, printable_digit)

@@ -1,5 +1,5 @@
 -- Each string of an export's text is read as it was before what a terminal obeys in it was escaped.
-use Rattle.std.proofs.Common.{◌≡◌, ◌⊎◌, ℕ, zero, suc, ◌+◌, ◌*◌, ◌/◌, ◌%◌, ◌<◌, ◌≤◌, Bool, true, false, ◌&&◌, nat_lt, if◌then◌else◌, List, [], ◌∷◌, ◌++◌, Option, None, Some, IsUtf8, chars, flat_map, encode_utf8, encode_utf8_all, inl, inr, refl, sym, ap, ◌∙◌, subst, arith, append_assoc, append-nil, length, get_or, lt-ltb, le-ltb, ne_eqb, ltb-true}
+use Rattle.std.proofs.Common.{◌≡◌, ◌⊎◌, ℕ, zero, suc, ◌+◌, ◌*◌, ◌/◌, ◌%◌, ◌<◌, ◌≤◌, Bool, true, false, ◌&&◌, nat_lt, if◌then◌else◌, List, [], ◌∷◌, ◌++◌, Option, Some, IsUtf8, chars, flat_map, encode_utf8, encode_utf8_all, inl, inr, refl, sym, ap, ◌∙◌, subst, arith, append_assoc, append-nil, length, get_or, lt-ltb, le-ltb, ne_eqb, ltb-true}
 use Rattle.std.proofs.lemmas.Bool.{and_parts, cases_lt, cases_eq}
 use Rattle.std.proofs.lemmas.Bool.Decides.{nat_tests}
 use Rattle.std.proofs.lemmas.Grind.{flat_map-append}
@@ -22,9 +22,8 @@ put c = if is_obeyed c then escape_of c else escape (encode_utf8 c)
 shown_past : (c : ℕ) (more : List ℕ) → IsScalar c → shown (encode_utf8 c ++ more) ≡ shown_char c ++ shown more
 shown_past c more ok =
     let text = IsUtf8-encode c ok in
-    let one : chars (encode_utf8 c) ≡ c ∷ [] = chars_past_char (encode_utf8 c) [] c text (sym (append-nil (encode_utf8 c))) ∙ ap (λ (l : List ℕ). c ∷ l) chars-nil in
-    let all : chars (encode_utf8 c ++ more) ≡ c ∷ chars more = chars-append (encode_utf8 c) more text ∙ ap (λ (l : List ℕ). l ++ chars more) one in
-    ap (flat_map shown_char) all
+    let one = chars_past_char (encode_utf8 c) [] c text (sym (append-nil (encode_utf8 c))) in
+    rw (chars-append (encode_utf8 c) more text, one, chars-nil) refl
 
 seen : (c : ℕ) → c < 127 → is_obeyed c ≡ false
 seen c h = grind (arith, nat_tests)
@@ -40,7 +39,7 @@ shown_below (x ∷ xs) more h =
     let low : x < 127 = ltb-true _ _ p.0 in
     let one : encode_utf8 x ≡ x ∷ [] = encode_ascii x (omega arith) in
     let past : shown (x ∷ (xs ++ more)) ≡ x ∷ shown (xs ++ more) = rw (one, seen x low) at (shown_past x (xs ++ more) (low_scalar x (omega arith))) in
-    past ∙ ap (λ (l : List ℕ). x ∷ l) (shown_below xs more p.1)
+    rw (past, shown_below xs more p.1) refl
 
 -- so a text of such bytes stays
 pub shown_whole : (xs : List ℕ) → are_below xs ≡ true → shown xs ≡ xs
@@ -67,10 +66,7 @@ abbrev AreHigh : List ℕ → Type 0
 AreHigh xs = (k : ℕ) → k < length xs → 127 ≤ get_or xs k 0
 
 high_bytes : (c : ℕ) → 127 ≤ c → AreHigh (encode_utf8 c)
-high_bytes c h k below = elim (cases_lt (get_or (encode_utf8 c) k 0) 127) [
-  | inl low ↦ absurd (omega (arith, inside_one c [] (encode_utf8 c) k (sym (append-nil _)) below (omega arith)))
-  | inr high ↦ high
-]
+high_bytes c h k below = grind (arith, inside_one c [] (encode_utf8 c) k (sym (append-nil _)) below)
 
 escape_high : (xs : List ℕ) → AreHigh xs → escape xs ≡ xs
 escape_high [] h = refl
@@ -88,19 +84,15 @@ shown_string : (cs more : List ℕ) → scalars cs ≡ true → shown (escape (e
 shown_string [] more ok = refl
 shown_string (c ∷ cs) more ok =
     let p = and_parts _ _ ok in
-    let parts : escape (encode_utf8 c ++ encode_utf8_all cs) ++ more ≡ escape (encode_utf8 c) ++ (escape (encode_utf8_all cs) ++ more) =
-    ap (λ (l : List ℕ). l ++ more) (flat_map-append escape_byte (encode_utf8 c) (encode_utf8_all cs)) ∙ append_assoc (escape (encode_utf8 c)) _ _ in
-    ap shown parts ∙ shown_put c _ p.0 ∙ ap (λ (l : List ℕ). put c ++ l) (shown_string cs more p.1) ∙ sym (append_assoc (put c) (flat_map put cs) (shown more))
+    rw (flat_map-append escape_byte (encode_utf8 c), append_assoc, shown_put c _ p.0, shown_string cs more p.1) (sym (append_assoc (put c) (flat_map put cs) (shown more)))
 
 -- ---- what a reader makes of that
 
 prepend-prepend : (a b : List ℕ) (r : Option (List ℕ)) → prepend a (prepend b r) ≡ prepend (a ++ b) r
-prepend-prepend a b None = refl
-prepend-prepend a b (Some s) = ap Some (sym (append_assoc a b s))
+prepend-prepend a b r = grind (arith, append_assoc)
 
 prepend-nil : (r : Option (List ℕ)) → prepend [] r ≡ r
-prepend-nil None = refl
-prepend-nil (Some s) = refl
+prepend-nil r = grind arith
 
 abbrev IsRead : List ℕ → List ℕ → Type 0
 IsRead text chars = (more : List ℕ) → content plain (text ++ more) ≡ prepend chars (content plain more)
@@ -117,42 +109,12 @@ read_high (x ∷ xs) h more =
 abbrev IsLowRead : ℕ → Type 0
 IsLowRead x = IsRead (escape_byte x) (x ∷ [])
 
-record Letters : Type 0 where
-  eight : IsLowRead 8
-  nine : IsLowRead 9
-  ten : IsLowRead 10
-  twelve : IsLowRead 12
-  thirteen : IsLowRead 13
-  quote : IsLowRead 34
-  backslash : IsLowRead 92
-
-letters : Letters
-unfolding escape_byte content short_escape
-letters = record {
-  eight = λ more. refl;
-  nine = λ more. refl;
-  ten = λ more. refl;
-  twelve = λ more. refl;
-  thirteen = λ more. refl;
-  quote = λ more. refl;
-  backslash = λ more. refl;
-}
-
-read_control : (x : ℕ) → x < 32 → (x ≡ 8 → ⊥) → (x ≡ 9 → ⊥) → (x ≡ 10 → ⊥) → (x ≡ 12 → ⊥) → (x ≡ 13 → ⊥) → IsLowRead x
+read_control : (x : ℕ) → x < 32 → (x ≡ 34 → ⊥) → (x ≡ 92 → ⊥) → (x ≡ 8 → ⊥) → (x ≡ 9 → ⊥) → (x ≡ 10 → ⊥) → (x ≡ 12 → ⊥) → (x ≡ 13 → ⊥) → IsLowRead x
 unfolding escape_byte
-read_control x low n8 n9 n10 n12 n13 more =
+read_control x low q b n8 n9 n10 n12 n13 more =
     let unit = read_digits 0 0 (x / 16) (x % 16) (omega arith) (omega arith) (omega arith) (omega arith) in
     let whole : 0 * 4096 + 0 * 256 + x / 16 * 16 + x % 16 ≡ x = omega arith in
-    rw (
-      ne_eqb x 34 (λ e. omega arith),
-      ne_eqb x 92 (λ e. omega arith),
-      ne_eqb x 8 n8,
-      ne_eqb x 12 n12,
-      ne_eqb x 10 n10,
-      ne_eqb x 13 n13,
-      ne_eqb x 9 n9,
-      lt-ltb x 32 low,
-    )
+    simp (ne_eqb, lt-ltb)
     (rw (encode_ascii x (omega arith)) at (read_unit 48 48 (digit_char (x / 16)) (digit_char (x % 16)) x more (rw whole at unit) (omega arith)))
 
 read_plain : (x : ℕ) → 32 ≤ x → (x ≡ 34 → ⊥) → (x ≡ 92 → ⊥) → IsLowRead x
@@ -160,19 +122,20 @@ unfolding content
 read_plain x l q b more = rw (escape_byte_plain x q b l, ne_eqb x 34 q, ne_eqb x 92 b, le-ltb x 32 l)
 
 read_low : (x : ℕ) → IsLowRead x
+unfolding escape_byte content short_escape
 read_low x = go (cases_eq x 34) (cases_eq x 92) (cases_lt x 32) (cases_eq x 8) (cases_eq x 9) (cases_eq x 10) (cases_eq x 12) (cases_eq x 13)
   where
     go : (x ≡ 34) ⊎ (x ≡ 34 → ⊥) → (x ≡ 92) ⊎ (x ≡ 92 → ⊥) → (x < 32) ⊎ (32 ≤ x) → (x ≡ 8) ⊎ (x ≡ 8 → ⊥) → (x ≡ 9) ⊎ (x ≡ 9 → ⊥)
         → (x ≡ 10) ⊎ (x ≡ 10 → ⊥) → (x ≡ 12) ⊎ (x ≡ 12 → ⊥) → (x ≡ 13) ⊎ (x ≡ 13 → ⊥) → IsLowRead x
-    go (inl e) b c d f g h i = subst IsLowRead (sym e) letters.quote
-    go (inr q) (inl e) c d f g h i = subst IsLowRead (sym e) letters.backslash
+    go (inl e) b c d f g h i = rw e (λ more. refl)
+    go (inr q) (inl e) c d f g h i = rw e (λ more. refl)
     go (inr q) (inr b) (inr l) d f g h i = read_plain x l q b
-    go (inr q) (inr b) (inl low) (inl e) f g h i = subst IsLowRead (sym e) letters.eight
-    go (inr q) (inr b) (inl low) (inr d) (inl e) g h i = subst IsLowRead (sym e) letters.nine
-    go (inr q) (inr b) (inl low) (inr d) (inr f) (inl e) h i = subst IsLowRead (sym e) letters.ten
-    go (inr q) (inr b) (inl low) (inr d) (inr f) (inr g) (inl e) i = subst IsLowRead (sym e) letters.twelve
-    go (inr q) (inr b) (inl low) (inr d) (inr f) (inr g) (inr h) (inl e) = subst IsLowRead (sym e) letters.thirteen
-    go (inr q) (inr b) (inl low) (inr d) (inr f) (inr g) (inr h) (inr i) = read_control x low d f g h i
+    go (inr q) (inr b) (inl low) (inl e) f g h i = rw e (λ more. refl)
+    go (inr q) (inr b) (inl low) (inr d) (inl e) g h i = rw e (λ more. refl)
+    go (inr q) (inr b) (inl low) (inr d) (inr f) (inl e) h i = rw e (λ more. refl)
+    go (inr q) (inr b) (inl low) (inr d) (inr f) (inr g) (inl e) i = rw e (λ more. refl)
+    go (inr q) (inr b) (inl low) (inr d) (inr f) (inr g) (inr h) (inl e) = rw e (λ more. refl)
+    go (inr q) (inr b) (inl low) (inr d) (inr f) (inr g) (inr h) (inr i) = read_control x low q b d f g h i
 
 read_put : (c : ℕ) → IsRead (put c) (encode_utf8 c)
 read_put c more = elim (cases_lt c 127) [
@@ -187,8 +150,7 @@ read_put c more = elim (cases_lt c 127) [
 read_string : (cs : List ℕ) → IsRead (flat_map put cs) (encode_utf8_all cs)
 read_string [] more = sym (prepend-nil _)
 read_string (c ∷ cs) more =
-    ap (content plain) (append_assoc (put c) (flat_map put cs) more) ∙ read_put c _ ∙ ap (prepend (encode_utf8 c)) (read_string cs more)
-    ∙ prepend-prepend (encode_utf8 c) (encode_utf8_all cs) _
+    rw (append_assoc (put c), read_put c, read_string cs more) (prepend-prepend (encode_utf8 c) (encode_utf8_all cs) _)
 
 closed : (s more : List ℕ) → prepend s (content plain (34 ∷ more)) ≡ Some s
 unfolding content

@@ -1,13 +1,11 @@
 -- What the deliveries and the penalty runs of an export add up to.
-use Rattle.std.proofs.Common.{◌≡◌, ℕ, ◌+◌, ◌*◌, ◌==◌, ◌&&◌, cond, Bool, true, false, List, [], ◌∷◌, ◌++◌, filter}
-use Rattle.std.proofs.Common.{map, nat_lt, codes, None, Option, refl, sym, ap, ◌∙◌, arith}
+use Rattle.std.proofs.Common.{◌≡◌, ℕ, ◌+◌, ◌*◌, ◌==◌, ◌&&◌, cond, Bool, true, List, [], ◌∷◌, ◌++◌, filter}
+use Rattle.std.proofs.Common.{map, nat_lt, codes, None, Option, refl, ap, ◌∙◌, arith}
 use Rattle.std.specs.List.{flat_map, list_any}
 use Rattle.std.proofs.lemmas.Bool.{eqb-true}
 use Rattle.std.proofs.lemmas.Bool.Decides.{nat_tests}
 use Rattle.notation.specs.declared.entry.{Ball.Ball, Plain.Plain, Entry.Entry}
-use Rattle.notation.specs.declared.entry.Plain.TheVariants.{Ball as Bowl, Gone}
 use Rattle.ball_laws.specs.History.{History, is_wicket}
-use Rattle.std.specs.Prelude.{is_some}
 use Rattle.ball_laws.specs.Sums.{tally, count_of}
 use Rattle.match_laws.specs.History.{begun, side_of, awards, is_at, Award}
 use Rattle.match_laws.specs.Figures.{runs_of, total, wickets, award_innings, penalty_runs}
@@ -22,7 +20,7 @@ use Rattle.corrections.proofs.LegalLemmas.{history_after-clean, scored_legal}
 use Rattle.corrections.proofs.ScoringLemmas.{first_refused-cons}
 use Rattle.cards.specs.Sheet.{Sheet}
 use Rattle.archive_deliveries.specs.declared.{begun.Begun.Begun, notes.Noted.Noted}
-use Rattle.archive_deliveries.specs.Notes.{note, notes, begun_of, awards_to, is_awarded, carried, items_in, earlier_of}
+use Rattle.archive_deliveries.specs.Notes.{notes, begun_of, awards_to, carried, items_in, earlier_of}
 use Rattle.archive_deliveries.specs.Deliveries.{penalties}
 use Rattle.json.specs.Json.{Json, null}
 use Rattle.json_fields.specs.Values.{Field, members_of, number_field, object_of, flag_if}
@@ -46,9 +44,7 @@ abbrev pub wickets_listed : List Noted → ℕ → ℕ
 wickets_listed xs i = count_of (λ x. is_wicket x.item && (x.innings == i)) xs
 
 same_wicket : (n : ℕ) (h : History) (x : Plain) (i : ℕ) → refusal n h x ≡ None → (is_wicket x && (current h == i)) ≡ (is_wicket x && (begun h == i + 1))
-same_wicket n h (Bowl b) i e = ap (λ t. is_some b.out && t) (sym (ball_here n h b i e))
-same_wicket n h (Gone way p) i e = grind (arith, gone_here n h way p i e)
-same_wicket n h x i e = refl
+same_wicket n h x i e = grind (arith, ball_here, gone_here)
 
 wickets_so_far : (n : ℕ) (h : History) (xs : List Placed) (i : ℕ) → first_refused n h xs ≡ None →
     wickets_listed (notes h xs) i + wickets h i ≡ wickets (history_after h xs) i
@@ -60,14 +56,11 @@ wickets_so_far n h (x ∷ xs) i e =
 
 -- ---- penalty runs: each award that counts in an innings stands in one place
 
-penalties-cons : (f : Begun) (i : ℕ) (x : Noted) (xs : List Noted) → penalties f i (x ∷ xs) ≡ cond (is_awarded f i x) 5 0 + penalties f i xs
-penalties-cons f i x xs = grind arith
-
 module _ (f : Begun) (i : ℕ) where
   -- the totals of the deliveries, and what was awarded before the first, are all that stands there
   totals_sum : (xs : List Noted) → tally (λ k. k) (totals_of f i xs) + penalties f i (carried xs) ≡ tally (noted_weight own_runs) xs + penalties f i xs
   totals_sum [] = refl
-  totals_sum (x ∷ xs) = grind (arith, totals_sum xs, penalties-cons f i x xs, penalties-cons f i x (carried xs))
+  totals_sum (x ∷ xs) = grind (arith, totals_sum xs)
 
   -- an item stands in this innings, in one before it or in one after it
   places : (xs : List Noted) → penalties f i (items_in i xs)
@@ -92,8 +85,7 @@ awards_one h i g x = grind arith
 awards_so_far : (h : History) (i : ℕ) (g : History) (xs : List Placed) →
     penalties (begun_of h) i (notes g xs) + 5 * count_of (counts_at h i) (awards g) ≡ 5 * count_of (counts_at h i) (awards (history_after g xs))
 awards_so_far h i g [] = omega arith
-awards_so_far h i g (x ∷ xs) =
-    omega (arith, awards_one h i g x.item, penalties-cons (begun_of h) i (note g x) (notes (x.item ∷ g) xs), awards_so_far h i (x.item ∷ g) xs)
+awards_so_far h i g (x ∷ xs) = grind (arith, awards_so_far h i (x.item ∷ g) xs)
 
 pub wickets_added : (n : ℕ) (book : List Entry) → IsLegalBook n book → (i : ℕ) → wickets_listed (noted_items book) i ≡ wickets (history_of book) i
 unfolding wickets
@@ -116,17 +108,11 @@ total_added n book legal i =
 
 -- ---- what a reader looks up
 
-pre_post : (no_pre no_post : Bool) (n m : ℕ) → (no_pre ≡ true → n ≡ 0) → (no_post ≡ true → m ≡ 0) →
-    let there = members_of (cond no_pre [] (number_field (codes "pre") n ∷ []) ++ cond no_post [] (number_field (codes "post") m ∷ [])) in
-    IsCount n (member_at (codes "pre") there) × IsCount m (member_at (codes "post") there)
-pre_post no_pre no_post n m pre post = grind (arith, pre, post)
-
 -- behind the penalty runs nothing has their key
 none_there : (d e t m : Bool) (runs overs : Json) (ps : List Powerplay)
     → member_at (codes "penalty_runs") (members_of ((((flag_if d (codes "declared") ++ flag_if e (codes "forfeited"))
     ++ cond t ((codes "target", runs) ∷ []) []) ++ powerplay_fields ps) ++ cond m ((codes "miscounted_overs", overs) ∷ []) [])) ≡ null
-none_there d e t m runs overs [] = grind arith
-none_there d e t m runs overs (p ∷ ps) = grind arith
+none_there d e t m runs overs ps = grind arith
 
 abbrev rest : Bool → Bool → Bool → Bool → Bool → ℕ → ℕ → Json → Json → List Powerplay → List Field
 rest z d e t m before after runs overs ps =
@@ -136,8 +122,7 @@ rest z d e t m before after runs overs ps =
 rest_read : (d e t m : Bool) (before after : ℕ) (runs overs : Json) (ps : List Powerplay) (z : Bool) → (z ≡ true → before + after ≡ 0)
     → let there = member_at (codes "penalty_runs") (members_of (rest z d e t m before after runs overs ps)) in
     IsCount before (at (codes "pre") there) × IsCount after (at (codes "post") there)
-rest_read d e t m before after runs overs ps true none = let sum = none refl in rw (none_there d e t m runs overs ps) (omega (arith, sum), omega (arith, sum))
-rest_read d e t m before after runs overs ps false none = pre_post (before == 0) (after == 0) before after (eqb-true before 0) (eqb-true after 0)
+rest_read d e t m before after runs overs ps z none = grind (arith, none, none_there d e t m runs overs ps, eqb-true before 0, eqb-true after 0)
 
 pub totals_add_up : (s : Sheet) (n : ℕ) (book : List Entry) → IsLegalBook n book → TotalsAddUp s book
 totals_add_up s n book legal i =

@@ -5,12 +5,9 @@ use Rattle.std.specs.Cmp.{nat_eq_equiv}
 use Rattle.std.proofs.lemmas.Bool.{or_left, or_right}
 use Rattle.std.proofs.lemmas.List.Folds.{list_any-append}
 use Rattle.std.specs.List.{cons_option, filter_map, list_any}
-use Rattle.notation.specs.declared.entry.{Ball.Ball, Out.Out}
-use Rattle.notation.specs.declared.entry.Leave.TheVariants.{TimedOut}
-use Rattle.notation.specs.declared.entry.Plain.TheVariants.{Innings, Come, Ball as Bowl, Gone, Over, Swap, End}
+use Rattle.notation.specs.declared.entry.{Ball.Ball}
+use Rattle.notation.specs.declared.entry.Plain.TheVariants.{Innings, Come, Ball as Bowl, End}
 use Rattle.ball_laws.specs.declared.ends.Ends.{Ends}
-use Rattle.ball_laws.specs.Ends.{ends_after, vacated}
-use Rattle.std.specs.Prelude.{is_none}
 use Rattle.ball_laws.specs.History.{History}
 use Rattle.ball_laws.specs.Laws.{state_after}
 use Rattle.ball_laws.specs.Sums.{tally}
@@ -75,8 +72,7 @@ takes test (Some k) = test k
 -- ---- a sum over deliveries is one over players, each of whom stands among the names
 
 among_more : (o : Option ℕ) (k : ℕ) (ps : List ℕ) → among k ps ≡ true → among k (cons_option o ps) ≡ true
-among_more None k ps e = e
-among_more (Some p) k ps e = or_right (p == k) (among k ps) e
+among_more o k ps e = grind arith
 
 module _ (i : ℕ) (key : Delivery → Option ℕ) where
   abbrev pub AreNamed : List ℕ → List Delivery → Type 0
@@ -117,18 +113,6 @@ bowlers_named i (d ∷ ds) = (named_more i bowler_of (bowler_in i d) (filter_map
 abbrev at_ends : ℕ → Ends → Bool
 at_ends k e = is_at e.striker k || is_at e.other k
 
--- who is at an end now was at one before
-stays_bowled : (k : ℕ) (o : Option Out) (b : Ball) (e : Ends) → at_ends k (ends_after o b e) ≡ true → at_ends k e ≡ true
-stays_bowled k o b e at = grind arith
-
-stays_vacated : (k p : ℕ) (e : Ends) → at_ends k (vacated p e) ≡ true → at_ends k e ≡ true
-stays_vacated k p e at = grind arith
-
-came : (k p : ℕ) (st ot : Option ℕ) →
-    at_ends k (cond (is_none st) (record { striker = Some p; other = ot }) (record { striker = st; other = Some p })) ≡ true →
-    ((p == k) || (is_at st k || is_at ot k)) ≡ true
-came k p st ot at = grind arith
-
 abbrev pub comers : History → ℕ → List ℕ
 comers h i = filter_map (comer i) (annotated h)
 
@@ -136,15 +120,8 @@ has_come_in : (h : History) (i k : ℕ) → begun h ≡ i + 1 → at_ends k (sta
 has_come_in [] i k e at = absurd cc
 has_come_in (Innings s ∷ h) i k e at = absurd cc
 has_come_in (End c ∷ h) i k e at = absurd cc
-has_come_in (Come p ∷ h) i k e at =
-    let now = came k p ((state_after h).ends).striker ((state_after h).ends).other at in
-    grind (arith, now, eq-eqb (begun h) (i + 1) e, has_come_in h i k e)
-has_come_in (Bowl b ∷ h) i k e at = has_come_in h i k e (stays_bowled k b.out b (state_after h).ends at)
-has_come_in (Gone TimedOut p ∷ h) i k e at = among_more (if begun h == i + 1 then Some p else None) k (comers h i) (has_come_in h i k e at)
-has_come_in (Gone _ p ∷ h) i k e at = has_come_in h i k e (stays_vacated k p (state_after h).ends at)
-has_come_in (Over ∷ h) i k e at = has_come_in h i k e (grind arith)
-has_come_in (Swap ∷ h) i k e at = has_come_in h i k e (grind arith)
-has_come_in (_ ∷ h) i k e at = has_come_in h i k e at
+has_come_in (Come p ∷ h) i k e at = grind (arith, eq-eqb (begun h) (i + 1) e, has_come_in h i k e)
+has_come_in (_ ∷ h) i k e at = grind (arith, has_come_in h i k e)
 
 abbrev pub striker_of : Delivery → Option ℕ
 striker_of d = d.striker

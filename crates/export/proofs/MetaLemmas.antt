@@ -1,5 +1,5 @@
 -- What stands under `meta`.
-use Rattle.std.proofs.Common.{◌≡◌, true, Option, Some, None, is_some, option_and_then, codes, refl, sym, ap, ◌∙◌, subst}
+use Rattle.std.proofs.Common.{◌≡◌, true, Option, Some, None, is_some, option_and_then, codes, refl, sym, ap, ◌∙◌, arith, subst}
 use Rattle.std.specs.Prelude.{unwrap_or}
 use Rattle.std.proofs.lemmas.Bool.{and_parts, true≢false}
 use Rattle.toml.specs.Data.{Members}
@@ -27,12 +27,10 @@ fine_parts document fine =
 
 at_created : (document : Members) (o : Option Date) → created_in document ≡ o →
     in_meta (codes "created") document ≡ elim o [ None ↦ null | Some day ↦ string (date_text day) ]
-at_created document None e = rw e
-at_created document (Some day) e = rw e
+at_created document o e = grind arith
 
 at_revision : (document : Members) (o : Option Date) → created_in document ≡ o → in_meta (codes "revision") document ≡ number_value (revision_in document)
-at_revision document None e = rw e
-at_revision document (Some day) e = rw e
+at_revision document o e = grind arith
 
 pub at_version : (document : Members) → in_meta (codes "data_version") document ≡ string (codes "1.1.0")
 at_version document = refl

@@ -1,5 +1,5 @@
 -- The names of the sides in an export.
-use Rattle.std.proofs.Common.{◌≡◌, ℕ, List, ◌∷◌, ◌++◌, nat_eq, Bool, true, false, if◌then◌else◌, bytes_eq, codes, refl, sym, ap, ◌∙◌, subst}
+use Rattle.std.proofs.Common.{◌≡◌, ℕ, List, ◌∷◌, ◌++◌, nat_eq, Bool, true, false, if◌then◌else◌, bytes_eq, codes, ap, arith}
 use Rattle.std.proofs.lemmas.List.{append_cancel_left}
 use Rattle.std.proofs.lemmas.Slice.Eq.{bytes_eq-Decides}
 
@@ -11,11 +11,5 @@ marks_differ : codes " (home)" ≡ codes " (away)" → ⊥
 marks_differ e = let clash : true ≡ false = ap is_homes e in (cc)
 
 -- told apart by a mark where they are one, and two anyhow else
-apart : (b : Bool) (x y : List ℕ) → bytes_eq x y ≡ b → (if b then x ++ codes " (home)" else x) ≡ (if b then y ++ codes " (away)" else y) → ⊥
-apart true x y one e =
-    let same : x ≡ y = (bytes_eq-Decides x y).0 one in
-    marks_differ (append_cancel_left x (codes " (home)") (codes " (away)") (subst (λ (z : List ℕ). x ++ codes " (home)" ≡ z ++ codes " (away)") (sym same) e))
-apart false x y two e = let clash : true ≡ false = sym ((bytes_eq-Decides x y).1 e) ∙ two in (cc)
-
 pub two_names : (x y : List ℕ) → (if bytes_eq x y then x ++ codes " (home)" else x) ≡ (if bytes_eq x y then y ++ codes " (away)" else y) → ⊥
-two_names x y e = apart (bytes_eq x y) x y refl e
+two_names x y e = grind (arith, marks_differ, append_cancel_left x (codes " (home)") (codes " (away)"), bytes_eq-Decides x y)

@@ -1,5 +1,5 @@
 -- What a reader takes of a delivery.
-use Rattle.std.proofs.Common.{◌≡◌, ℕ, ◌+◌, ◌≤◌, ◌==◌, ◌&&◌, ◌||◌, not, cond, Bool, true, false, List, [], ◌∷◌, ◌++◌, Option, Some, None, codes, refl, ap, ◌∙◌, arith, eqb-true, ne_eqb, bytes_eq}
+use Rattle.std.proofs.Common.{◌≡◌, ℕ, ◌+◌, ◌≤◌, ◌==◌, ◌&&◌, ◌||◌, not, cond, Bool, true, false, List, [], ◌∷◌, ◌++◌, Option, codes, refl, ap, arith, eqb-true, ne_eqb, bytes_eq}
 use Rattle.std.specs.Prelude.{is_some}
 use Rattle.std.specs.List.{list_any}
 use Rattle.std.proofs.lemmas.Bool.Decides.{nat_tests}
@@ -14,7 +14,7 @@ use Rattle.match_laws.specs.Figures.{batted_of, credit_of, credited, faced_of, f
 use Rattle.match_laws.proofs.Bounds.{ball-small}
 use Rattle.cards.specs.Sheet.{Sheet, player_of}
 use Rattle.json.specs.Json.{Json, null}
-use Rattle.json_fields.specs.Values.{flag_if, members_of, number_field, number_value}
+use Rattle.json_fields.specs.Values.{array_of, flag_if, members_of, number_field, number_value}
 use Rattle.archive_deliveries.specs.declared.notes.Noted.{Noted}
 use Rattle.archive_deliveries.specs.Wickets as listing
 use Rattle.archive_deliveries.specs.Wickets.{gone_of, has_wickets, how_words, is_gone, own_wickets}
@@ -46,9 +46,6 @@ extras_read : (key : List ℕ) (w e : Bool) (v x : Json) →
     at key (member_at (codes "extras") (members_of (cond w ((codes "wickets", v) ∷ []) [] ++ cond e [] ((codes "extras", x) ∷ [])))) ≡ cond e null (at key x)
 extras_read key w e v x = grind arith
 
-if_any : (e : Bool) (value : Json) (n : ℕ) → (e ≡ true → n ≡ 0) → number_in value ≡ n → number_in (cond e null value) ≡ n
-if_any e value n none is = grind (arith, none)
-
 -- ---- a delivery
 
 flag_read : (holds : Bool) → is_set (member_at (codes "non_boundary") (members_of (flag_if holds (codes "non_boundary")))) ≡ holds
@@ -59,11 +56,7 @@ module _ (s : Sheet) (side : Side) (penalty : ℕ) (early late : List Noted) (en
   delivery = delivery_of s side penalty early ends b late
 
   pub batter_read : (name : List ℕ) → is_text name (at (codes "batter") delivery) ≡ takes (λ p. bytes_eq name (player_of s side p)) ends.striker
-  batter_read name = step ends.striker
-    where
-      step : (o : Option ℕ) → is_text name (listing.batter_value s side o) ≡ takes (λ p. bytes_eq name (player_of s side p)) o
-      step None = refl
-      step (Some p) = refl
+  batter_read name = grind arith
 
   module _ (low : b.ran ≤ 20) where
     pub bat_read : bat_runs delivery ≡ batted_of b
@@ -77,9 +70,8 @@ module _ (s : Sheet) (side : Side) (penalty : ℕ) (early late : List Noted) (en
         let x = split_of_ball b in
         let found = noballs_at (x.wides == 0) (x.noballs == 0) (x.byes == 0) (x.legs == 0) (penalty == 0) x.noballs (number_value x.wides) (number_value x.byes)
         (number_value x.legs) (number_value penalty) (eqb-true x.noballs 0) (ball-small b low).noballs in
-        let none : (extra_runs x + penalty == 0) ≡ true → x.noballs ≡ 0 = λ e. omega (arith, eqb-true (extra_runs x + penalty) 0 e) in
-        ap number_in (extras_read (codes "noballs") (has_wickets early b late) (extra_runs x + penalty == 0) _ ((extras_field x penalty).1))
-        ∙ if_any (extra_runs x + penalty == 0) _ x.noballs none found
+        let read = extras_read (codes "noballs") (has_wickets early b late) (extra_runs x + penalty == 0) (array_of (listing.wickets_of s side early ends b late)) ((extras_field x penalty).1) in
+        grind (arith, found, read, eqb-true (extra_runs x + penalty) 0)
 
     pub faced_read : faced_in delivery ≡ faced_of b
     faced_read = rw wides_read (grind arith)
@@ -113,8 +105,7 @@ how_credited bowlers how = grind arith
 
 module _ (s : Sheet) (side : Side) where
   own_credited : (ends : Ends) (bowler : ℕ) (out : Option Out) → count_of is_credited (own_wickets s side ends bowler out) ≡ credit_of out
-  own_credited ends bowler None = refl
-  own_credited ends bowler (Some out) = ap (λ b. cond b 1 0) (how_credited (out.fielder == bowler) out.how)
+  own_credited ends bowler out = grind (arith, how_credited)
 
   none_gone : (p : Plain) → count_of is_credited (gone_of s side p) ≡ cond (is_gone p && false) 1 0
   none_gone p = grind arith

@@ -102,8 +102,7 @@ all_by p [] e = refl
 all_by p (b ∷ bs) e = grind (arith, all_by p bs)
 
 alone_by : (p : ℕ) (bs : List Ball) → alone p bs ≡ true → counting_by p bs ≡ counting bs
-alone_by p [] e = refl
-alone_by p (b ∷ bs) e = all_by p (b ∷ bs) e
+alone_by p bs e = grind (arith, all_by)
 
 -- of the called overs, those that he bowled alone and the others
 overs_apart : (p : ℕ) (overs : List (List Ball)) → tally (counting_by p) overs

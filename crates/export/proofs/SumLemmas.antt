@@ -1,18 +1,16 @@
 -- A sum over the deliveries of an export is one over those of the Laws, where each value is read as a number of its ball.
-use Rattle.std.proofs.Common.{◌≡◌, ℕ, ◌+◌, ◌≤◌, ◌==◌, if◌then◌else◌, List, [], ◌∷◌, ◌++◌, All, Option, refl, ap, ◌∙◌, arith}
+use Rattle.std.proofs.Common.{◌≡◌, ℕ, ◌+◌, ◌≤◌, ◌==◌, List, [], ◌∷◌, All, Option, refl, ap, ◌∙◌, arith}
 use Rattle.std.specs.List.{AllByRecursion, flat_map}
-use Rattle.std.proofs.lemmas.Bool.{cond_both}
 use Rattle.std.proofs.lemmas.List.Elements.{All-append, All-cons, All-filter, All-from_recursion, All-nil, recursion_from_All}
 use Rattle.notation.specs.declared.entry.{Side.Side, Ball.Ball, Plain.Plain, Entry.Entry}
 use Rattle.notation.specs.declared.entry.Plain.TheVariants.{Ball as Bowl}
-use Rattle.notation.specs.declared.entry.Entry.TheVariants.{Write, Fix, Late}
 use Rattle.notation.specs.Written.{IsEntry, IsPlain}
 use Rattle.ball_laws.specs.declared.ends.Ends.{Ends}
 use Rattle.ball_laws.specs.History.{History}
 use Rattle.ball_laws.specs.Sums.{tally}
 use Rattle.match_laws.specs.History.{deliveries, side_of}
 use Rattle.corrections.specs.declared.placed.Placed.{Placed}
-use Rattle.corrections.specs.CleanList.{clean, clean_items_from, clean_items_of, fixed, history_of, item_at, is_kept, lates_from}
+use Rattle.corrections.specs.CleanList.{clean, clean_items_from, clean_items_of, fixed, history_of, is_kept, lates_from}
 use Rattle.corrections.specs.Legal.{IsLegalBook}
 use Rattle.corrections.proofs.LegalLemmas.{history_after-clean, scored_legal}
 use Rattle.cards.specs.Sheet.{Sheet}
@@ -32,27 +30,18 @@ IsPlainItem x = IsPlain x.item
 
 fixed_plain : (es : List Entry) (p : ℕ) (x : Plain) → AllByRecursion IsEntry es → IsPlain x → IsPlain (fixed es p x)
 fixed_plain [] p x are is = is
-fixed_plain (Fix q y ∷ es) p x are is = fixed_plain es p (if q == p then y else x) are.1 (cond_both (q == p) y x IsPlain (λ _. (are.0).1) (λ _. is))
-fixed_plain (e ∷ es) p x are is = fixed_plain es p x are.1 is
+fixed_plain (e ∷ es) p x are is = grind (arith, fixed_plain es p)
 
 module _ (book : List Entry) (are_all : AllByRecursion IsEntry book) where
   lates_plain : (a p : ℕ) (es : List Entry) → AllByRecursion IsEntry es → All IsPlainItem (lates_from book a p es)
   lates_plain a p [] are = All-nil IsPlainItem
-  lates_plain a p (Late q x ∷ es) are =
-      let rest = lates_plain a (p + 1) es are.1 in
-      let more = lates_from book a (p + 1) es in
-      let one = item_at book a p x in
-      cond_both (q == a) (one ∷ more) more (All IsPlainItem) (λ _. All-cons IsPlainItem one more (fixed_plain book p x are_all (are.0).1) rest) (λ _. rest)
-  lates_plain a p (e ∷ es) are = lates_plain a (p + 1) es are.1
+  lates_plain a p (e ∷ es) are =
+      grind (arith, All-cons IsPlainItem, fixed_plain book, lates_plain a (p + 1) es are.1)
 
   items_plain : (p : ℕ) (es : List Entry) → AllByRecursion IsEntry es → All IsPlainItem (clean_items_from book p es)
   items_plain p [] are = All-nil IsPlainItem
-  items_plain p (Write x ∷ es) are =
-      let lates = lates_from book p 0 book in
-      let more = clean_items_from book (p + 1) es in
-      All-cons IsPlainItem (item_at book p p x) (lates ++ more) (fixed_plain book p x are_all are.0)
-      (All-append IsPlainItem lates more (lates_plain p 0 book are_all) (items_plain (p + 1) es are.1))
-  items_plain p (e ∷ es) are = items_plain (p + 1) es are.1
+  items_plain p (e ∷ es) are =
+      grind (arith, All-cons IsPlainItem, All-append IsPlainItem, fixed_plain book, lates_plain p 0 book, items_plain (p + 1) es are.1)
 
 clean_plain : (book : List Entry) → All IsEntry book → All IsPlainItem (clean book)
 unfolding clean clean_items_of

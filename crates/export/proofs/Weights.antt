@@ -1,6 +1,6 @@
 -- A number of each delivery: its sum over the items of an innings is that over the deliveries of the Laws.
-use Rattle.std.proofs.Common.{◌≡◌, ℕ, suc, ◌+◌, ◌==◌, cond, if◌then◌else◌, List, [], ◌∷◌, None, Option, refl, ap, ◌∙◌, arith, add-one}
-use Rattle.std.proofs.Math.Dec.{eqb-suc-suc}
+use Rattle.std.proofs.Common.{◌≡◌, ℕ, ◌+◌, ◌==◌, cond, if◌then◌else◌, List, [], ◌∷◌, None, Option, refl, arith}
+use Rattle.std.proofs.lemmas.Bool.Decides.{nat_tests}
 use Rattle.notation.specs.declared.entry.{Ball.Ball, Leave.Leave, Plain.Plain}
 use Rattle.notation.specs.declared.entry.Plain.TheVariants.{Ball as Bowl, Gone}
 use Rattle.ball_laws.specs.History.{History}
@@ -19,7 +19,7 @@ use Rattle.archive_deliveries.specs.Notes.{items_in, notes}
 
 -- a delivery or a departure stands in the innings that is on
 same_number : (m c i : ℕ) → m ≡ c + 1 → (m == i + 1) ≡ (c == i)
-same_number m c i e = ap (λ k. k == i + 1) (e ∙ add-one c) ∙ (ap (λ k. suc c == k) (add-one i) ∙ eqb-suc-suc c i)
+same_number m c i e = grind (arith, nat_tests)
 
 pub ball_here : (n : ℕ) (h : History) (b : Ball) (i : ℕ) → refusal n h (Bowl b) ≡ None → (begun h == i + 1) ≡ (current h == i)
 ball_here n h b i e = same_number (begun h) (current h) i (current-open h (ball_open n h b e))
@@ -48,8 +48,7 @@ module _ (w : Option ℕ → Ball → ℕ) where
 
   weight_one : (n : ℕ) (h : History) (x : Plain) (i : ℕ) → refusal n h x ≡ None
       → cond (current h == i) (weight x ((state_after h).ends).striker) 0 + tally (delivery_weight i) (deliveries h) ≡ tally (delivery_weight i) (deliveries (x ∷ h))
-  weight_one n h (Bowl b) i e = grind (arith, ball_here n h b i e)
-  weight_one n h x i e = grind arith
+  weight_one n h x i e = grind (arith, ball_here)
 
   pub weights_so_far : (n : ℕ) (h : History) (xs : List Placed) (i : ℕ) → first_refused n h xs ≡ None
       → weights_in i (notes h xs) + tally (delivery_weight i) (deliveries h) ≡ tally (delivery_weight i) (deliveries (history_after h xs))

@@ -1,5 +1,5 @@
 -- The wickets that a reader finds in an export.
-use Rattle.std.proofs.Common.{◌≡◌, ◌≢◌, ℕ, ◌+◌, ◌==◌, ◌&&◌, ◌||◌, not, cond, Bool, false, List, [], ◌∷◌, ◌++◌, codes, Option, Some, None, refl, ap, ◌∙◌, arith}
+use Rattle.std.proofs.Common.{◌≡◌, ℕ, ◌+◌, ◌==◌, ◌&&◌, ◌||◌, cond, Bool, false, List, [], ◌∷◌, ◌++◌, codes, Option, refl, ap, ◌∙◌, arith}
 use Rattle.std.specs.Prelude.{bytes_eq, is_some}
 use Rattle.std.specs.List.{flat_map}
 use Rattle.notation.specs.declared.entry.{Side.Side, Ball.Ball, Entry.Entry, How.How, Out.Out, Plain.Plain}
@@ -94,8 +94,7 @@ module _ (s : Sheet) (side : Side) where
   one_fell p = grind arith
 
   own_fell : (ends : Ends) (bowler : ℕ) (out : Option Out) → count_of has_fallen (own_wickets s side ends bowler out) ≡ cond (is_some out) 1 0
-  own_fell ends bowler None = refl
-  own_fell ends bowler (Some out) = ap (λ b. cond (not b) 1 0) (how_fell (out.fielder == bowler) out.how)
+  own_fell ends bowler out = grind (arith, how_fell)
 
   all_fell : (penalty : ℕ) (early late : List Noted) (ends : Ends) (b : Ball)
       → count_of has_fallen (wickets_of (delivery_of s side penalty early ends b late)) ≡ gone early + cond (is_some b.out) 1 0 + gone late
@@ -119,9 +118,6 @@ own_wickets_here : (i : ℕ) (xs : List Noted) → fell (items_in i xs) ≡ wick
 own_wickets_here i [] = refl
 own_wickets_here i (x ∷ xs) = grind (arith, own_wickets_here i xs)
 
-where_any : (b : Bool) (ds : List Json) (n w g : ℕ) → (b ≡ false → ds ≡ []) → ds ≢ [] → n + g ≡ w + cond b g 0 → n ≡ w
-where_any b ds n w g none some e = grind (arith, none, some)
-
 pub wickets_add_up : (s : Sheet) (n : ℕ) (book : List Entry) → IsLegalBook n book → WicketsAddUp s book
 wickets_add_up s n book legal i some =
     let h = history_of book in
@@ -131,7 +127,6 @@ wickets_add_up s n book legal i some =
     let listed = all_listed s side f i (carried ys) ys in
     let same : deliveries_in (innings_at s book i) ≡ listed =
     ap (flat_map in_over) (elements-of (overs_of s side f i ys)) ∙ overs_all s side f i (carried ys) ys in
+    let counted = all_fallen s side f i (carried ys) ys in
     ap fallen same
-    ∙ (where_any (has_ball ys) listed (fallen listed) (fell ys) (gone (carried ys)) (none_listed s side f i (carried ys) ys) (λ e. some (same ∙ e))
-    (all_fallen s side f i (carried ys) ys)
-    ∙ (own_wickets_here i (noted_items book) ∙ wickets_added n book legal i))
+    ∙ grind (arith, counted, none_listed s side f i (carried ys) ys, λ (e : listed ≡ []). some (same ∙ e), own_wickets_here i (noted_items book), wickets_added n book legal i)
