@@ -1,5 +1,5 @@
 -- What a side that bats last needs, and what it has won.
-use Rattle.std.proofs.Common.{◌≡◌, ℕ, zero, suc, ◌+◌, ◌-◌, ◌≤◌, ◌<◌, Bool, true, false, Some, [], ◌∷◌, refl, sym, subst, ap, ◌∙◌, arith, inl, inr, ◌⊎◌}
+use Rattle.std.proofs.Common.{◌≡◌, ℕ, zero, suc, ◌+◌, ◌-◌, ◌≤◌, ◌<◌, Bool, true, Some, [], ◌∷◌, refl, sym, subst, ap, ◌∙◌, arith, ◌⊎◌}
 use Rattle.std.proofs.lemmas.Bool.{le-leb, leb-true}
 use Rattle.std.specs.Prelude.{nat_le, nat_lt, if◌then◌else◌}
 use Rattle.notation.specs.declared.entry.Side.{Side}
@@ -42,8 +42,7 @@ reach_same theirs ours here le = grind arith
 
 outcome_won : (n : ℕ) (h : History) (side : Side) → has_won n h side ≡ true → outcome n h ≡ won_by n h side
 unfolding outcome
-outcome_won n h Home e = rw e refl
-outcome_won n h Away e = let other : has_won n h Home ≡ false = grind arith in rw (other, e) refl
+outcome_won n h side e = grind arith
 
 -- ---- a side that bats last
 
@@ -55,8 +54,7 @@ won_last n h side b = rw (chasing_last n h side b, b.after_other) (grind arith)
 
 aims_last : (n : ℕ) (h : History) (side : Side) → BatsLast n h side → is_open h ≡ true → target n h ≡ Some (needed h side)
 unfolding target
-aims_last n h Home b going = rw (chasing_last n h Home b, going) refl
-aims_last n h Away b going = search (arith, chasing_last, going)
+aims_last n h side b going = grind (arith, chasing_last)
 
 pub chase_tells : (n : ℕ) (h : History) → n ≤ 2 → IsLegal n h → (side : Side) → BatsLast n h side → ChaseTells n h side
 chase_tells n h le legal side b =
@@ -91,12 +89,8 @@ whose home away both closed x y side left e = grind arith
 
 by_wickets : (n : ℕ) (h : History) (side : Side) (left : ℕ) → outcome n h ≡ Wickets side left → WinsInPlay n h side left
 unfolding outcome
-by_wickets n h side left e = by_side (whose _ _ _ (is_closed h) (won_by n h Home) (won_by n h Away) side left e)
-  where
-    by_side : ((has_won n h Home ≡ true) × (won_by n h Home ≡ Wickets side left))
-        ⊎ ((has_won n h Away ≡ true) × (won_by n h Away ≡ Wickets side left)) → WinsInPlay n h side left
-    by_side (inl t) = wins_in_play n h Home side left t.0 t.1
-    by_side (inr t) = wins_in_play n h Away side left t.0 t.1
+by_wickets n h side left e =
+    grind (arith, whose _ _ _ (is_closed h) (won_by n h Home) (won_by n h Away) side left e, wins_in_play)
 
 bats_last : (n : ℕ) (h : History) (side : Side) → is_chasing n h side ≡ true → BatsLast n h side
 bats_last n h side e = record { began_last = grind arith; no_more = grind arith; after_other = grind arith }

@@ -1,5 +1,5 @@
 -- An innings' runs, by who struck and by who bowled.
-use Rattle.std.proofs.Common.{◌≡◌, ℕ, zero, suc, ◌+◌, Bool, true, false, Some, None, Option, List, [], ◌∷◌, length, refl, ◌∙◌, arith}
+use Rattle.std.proofs.Common.{◌≡◌, ℕ, zero, suc, ◌+◌, Bool, false, Some, None, Option, List, [], ◌∷◌, length, refl, ◌∙◌, arith}
 use Rattle.std.specs.List.{range_with_len}
 use Rattle.std.specs.Prelude.{nat_le, nat_lt, ◌==◌, ◌&&◌, if◌then◌else◌}
 use Rattle.notation.specs.declared.entry.{Ball.Ball}
@@ -35,8 +35,7 @@ one_player : (v q : ℕ) → IsPlayer q → tally (λ p. if q == p then v else 0
 one_player v q is = one_of_range v q 1 11 ∙ grind (arith, is.0, is.1)
 
 one_where : (t : Bool) (v q : ℕ) → IsPlayer q → tally (λ p. if t && (q == p) then v else 0) numbers ≡ (if t then v else 0)
-one_where true v q is = one_player v q is
-one_where false v q is = tally-zero numbers
+one_where t v q is = grind (arith, one_player, tally-zero)
 
 -- ---- who struck and who bowled each delivery
 
@@ -60,8 +59,7 @@ played n (x ∷ h) legal = (played n h legal.0, (taken n h x refl legal.1).ball)
 
 struck-full : (striker other : Option ℕ) (players : List PlayerState) → HoldsBatter striker players →
     has_vacancy (record { striker = striker; other = other }) ≡ false → IsStruck striker
-struck-full None other players held full = absurd (cc)
-struck-full (Some q) other players held full = held.0
+struck-full striker other players held full = grind arith
 
 -- nobody bowls while an end is vacant
 struck : (n : ℕ) (h : History) (b : Ball) → IsLegal n (Bowl b ∷ h) → IsInRange h → IsStruck ((state_after h).ends).striker
@@ -79,8 +77,7 @@ manned n (Bowl b ∷ h) legal ranges =
 manned n (_ ∷ h) legal ranges = manned n h legal.0 ranges.0
 
 one_striker : (t : Bool) (v : ℕ) (s : Option ℕ) → IsStruck s → tally (λ p. if t && is_at s p then v else 0) numbers ≡ (if t then v else 0)
-one_striker t v None is = absurd is
-one_striker t v (Some q) is = one_where t v q is
+one_striker t v s is = grind (arith, one_where)
 
 -- where one player of the eleven has each delivery's number, the sum by players is that by deliveries
 sum-manned : (g : ℕ → Delivery → ℕ) (k : Delivery → ℕ) → ((d : Delivery) → IsManned d → tally (λ p. g p d) numbers ≡ k d) →
