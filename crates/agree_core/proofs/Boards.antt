@@ -1,14 +1,14 @@
 -- What every call of a board keeps.
-use Rattle.std.proofs.Common.{◌≡◌, ℕ, Option, List, [], ◌∷◌, length, refl, inl, arith, length-append}
+use Rattle.std.proofs.Common.{◌≡◌, ℕ, Option, List, refl, inl, arith, length-append}
 use Rattle.notation.specs.declared.entry.Entry.{Entry}
 use Rattle.agree_core.specs.declared.{messages.DeskId.DeskId, messages.Message.Message, messages.Vote.Vote, position.Position.Position, seat.Heard.Heard}
 use Rattle.agree_core.specs.declared.messages.DeskId.TheVariants.{A, B}
-use Rattle.agree_core.specs.Agreed.{EqualVotes, AllBoth}
+use Rattle.agree_core.specs.Agreed.{EqualVotes}
 use Rattle.agree_core.specs.Ballots.{AllVotes, Ballot, In, VotesGrow, Within, ballot_at, ballot_of, votes_by}
 use Rattle.agree_core.specs.Boards.{BoardAnswer, BoardReceives, BoardState, BoardTicks, fresh_board}
 use Rattle.agree_core.specs.Books.{Rules}
 use Rattle.agree_core.specs.Desks.{book_heard}
-use Rattle.agree_core.specs.Positions.{first, position_of}
+use Rattle.agree_core.specs.Positions.{first}
 use Rattle.agree_core.specs.Readers.{Listens, ReaderState, noted_of, noting, other, reading}
 use Rattle.agree_core.specs.Keeping.{BoardFine, Each, MessageFine, NotedFine}
 use Rattle.agree_core.proofs.Both.{both_grow, both_push}
@@ -50,27 +50,7 @@ noted_there v r c e f i d = grind (arith, f d)
 -- the board after a vote, its book being so
 listens_keep : (v : AllVotes) (k l : BoardState) (x : Vote) (h : Heard) → BoardFine v k → In (ballot_of x) (votes_by v x.desk)
     → Listens k.reader x h l.reader → l.book ≡ book_heard h k.book x.entry → BoardFine v l
-listens_keep v k l x h f i c e = record {
-  both = rw e (both h c);
-  long = rw e (long h c);
-  noted = noted h c;
-  waits = listens_wait k.reader l.reader x h f.waits c;
-}
-  where
-    at : Position
-    at = k.reader.position
-
-    there : position_of x ≡ at → In (record { at = at; entry = x.entry }) (votes_by v x.desk)
-    there p = rw (← p) i
-
-    both : (h : Heard) → Listens k.reader x h l.reader → AllBoth v.a v.b 0 (book_heard h k.book x.entry)
-    both h c = grind (arith, both_push, both_voted, there)
-
-    long : (h : Heard) → Listens k.reader x h l.reader → length (book_heard h k.book x.entry) ≡ l.reader.position.place
-    long h c = grind (arith, f.long, length-append k.book (x.entry ∷ []))
-
-    noted : (h : Heard) → Listens k.reader x h l.reader → (d : DeskId) → NotedFine (votes_by v d) l.reader.position (noted_of l.reader d)
-    noted h c d = grind (arith, noted_there, there, nothing_noted)
+listens_keep v k l x h f i c e = grind (arith, listens_wait, both_push, both_voted, length-append, noted_there, nothing_noted)
 
 pub fresh_fine : (v : AllVotes) → BoardFine v fresh_board
 fresh_fine v = record { both = tt; long = refl; noted = nothing_noted v first; waits = inl refl }

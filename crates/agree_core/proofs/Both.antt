@@ -33,8 +33,5 @@ both_settled v j place (e ∷ es) s = ((s.0.0, equal_votes_settle v j place s.0.
 -- the votes for one of its entries
 pub both_at : (own theirs : List Ballot) (place : ℕ) (es : List Entry) (n : ℕ) (e : Entry) → AllBoth own theirs place es → slice_get es n ≡ Some e
     → (round : ℕ) × EqualVotes (record { a = own; b = theirs }) (place + n) round e
-both_at own theirs place (x ∷ es) (suc n) e h k =
-    let later = both_at own theirs (place + 1) es n e h.1 k in
-    let here : place + suc n ≡ place + 1 + n = omega arith in
-    (later.0, rw here later.1)
+both_at own theirs place (x ∷ es) (suc n) e h k = grind (arith, (both_at own theirs (place + 1) es n e h.1 k))
 both_at own theirs place es n e h k = grind arith

@@ -1,6 +1,6 @@
 -- What every call of a desk keeps, over any disk.
 use Rattle.std.proofs.lemmas.Grind.{common_steps}
-use Rattle.std.proofs.Common.{◌≡◌, ◌≢◌, ◌⊎◌, true≢false, Option, Some, None, List, [], ◌∷◌, ◌++◌, refl, sym, ap, ◌∙◌, subst, inl, inr, arith, length-append}
+use Rattle.std.proofs.Common.{◌≡◌, ◌≢◌, true≢false, Option, Some, None, List, [], ◌∷◌, ◌++◌, refl, sym, ◌∙◌, subst, inl, inr, arith, length-append}
 use Rattle.notation.specs.declared.entry.Entry.{Entry}
 use Rattle.agree_core.specs.declared.{messages.DeskId.DeskId, messages.Message.Message, messages.Vote.Vote, position.Position.Position, seat.Heard.Heard, seat.Settled.Settled}
 use Rattle.agree_core.specs.Ballots.{Ballot, Differed, In, Justified, Within, ballot_of}
@@ -9,7 +9,7 @@ use Rattle.agree_core.specs.Desks.{DeskState, Fails, MayCast, PenAnswer, Pens, R
 use Rattle.agree_core.specs.FileView.{FileView, Holds, MayHold, MaySync, Stays, Synced}
 use Rattle.agree_core.specs.Openings.{Creates, OpenRefusal, Opening, Opens, opened}
 use Rattle.agree_core.specs.Positions.{InRange, next_place, next_round}
-use Rattle.agree_core.specs.Seats.{Casts, Hears, IsForNow, SeatState, casting, waiting}
+use Rattle.agree_core.specs.Seats.{Casts, Hears, SeatState, casting, waiting}
 use Rattle.agree_core.specs.Keeping.{DeskFine, DeskKept, DiskFine, Each, MineFine, NotedFine, OneMore, OwnMessage, SeatFine, ShowsMore, TheirMessage}
 use Rattle.agree_core.proofs.FileBooks.{book_both, book_closed, book_kept, book_long}
 use Rattle.agree_core.proofs.Order.{follows_grows, in_sequence, justified_grows}
@@ -28,19 +28,10 @@ module _ (d : DeskId) (theirs : List Ballot) where
       → s.mine ≡ Some e → In (record { at = s.position; entry = e }) theirs
       → SeatFine d own theirs (waiting s.desk (next_place s.position)) (book ++ e ∷ [])
   agrees own s book e f n i =
-      let b : Ballot = record { at = s.position; entry = e } in
       let mine : MineFine theirs own book s.position (Some e) = subst (MineFine theirs own book s.position) n f.mine in
-      let cast : In b own = rw mine.1 (inl refl) in
-      let shown : book_of (b ∷ mine.0) ≡ book = rw (← mine.1) mine.2 in
-      record {
-        desk = f.desk;
-        justified = f.justified;
-        both = both_push own theirs 0 book e s.position.place s.position.round (omega (arith, f.long)) f.both (cast, i);
-        long = omega (arith, f.long, length-append book (e ∷ []));
-        mine = λ g. rw mine.1 (inr (refl, i), book_closed (record { at = next_place s.position; entry = g }) b mine.0 book refl shown);
-        noted = tt;
-        waits = inl refl;
-      }
+      let b : Ballot = record { at = s.position; entry = e } in
+      let both = both_push own theirs 0 book e s.position.place s.position.round in
+      grind (arith, mine, both, length-append book (e ∷ []), λ (g : Entry). book_closed (record { at = next_place s.position; entry = g }) b mine.0 book)
 
   differs : (own : List Ballot) (s : SeatState) (book : List Entry) (e : Entry) → SeatFine d own theirs s book
       → s.mine ≡ Some e → Differed theirs (record { at = s.position; entry = e })
@@ -54,27 +45,18 @@ module _ (d : DeskId) (theirs : List Ballot) where
   cast_keeps own s t book e Settled.Agreed f n r c =
       let i = subst (NotedFine theirs s.position) c.0 f.noted in
       rw c.1 (agrees _ (casting s e) book e (casts own s book e f n r) refl i)
-  cast_keeps own s t book e Settled.Differ f n r c =
-      let i = subst (NotedFine theirs s.position) c.0.1 f.noted in
-      rw c.1 (differs _ (casting s e) book e (casts own s book e f n r) refl (c.0.0, i, c.0.2))
+  cast_keeps own s t book e Settled.Differ f n r c = grind (arith, differs, casts)
 
   -- a desk is given a vote
   hear_keeps : (own : List Ballot) (s t : SeatState) (book : List Entry) (v : Vote) (h : Heard)
       → SeatFine d own theirs s book → (v.desk ≢ d → In (ballot_of v) theirs) → Hears s v h t
       → SeatFine d own theirs t (book_heard h book v.entry)
-  hear_keeps own s t book v h f m c = turn h c
-    where
-      there : IsForNow s v → In (record { at = s.position; entry = v.entry }) theirs
-      there n = rw (← n.1) (m (λ e. n.0 (e ∙ sym f.desk)))
-
-      turn : (h : Heard) → Hears s v h t → SeatFine d own theirs t (book_heard h book v.entry)
-      turn h c = grind (arith, common_steps, there, agrees, differs)
+  hear_keeps own s t book v h f m c = grind (arith, common_steps, agrees, differs)
 
 -- a desk that opens its file is where the votes leave it
 opened_fine : (d : DeskId) (theirs votes : List Ballot) → Justified theirs votes → {Disk : Type 0} → (disk : Disk)
     → SeatFine d votes theirs (opened d disk votes).seat (book_of votes)
-opened_fine d theirs [] j disk =
-    record { desk = refl; justified = tt; both = tt; long = refl; mine = λ e. (refl, refl); noted = tt; waits = inl refl }
+opened_fine d theirs [] j disk = grind arith
 opened_fine d theirs (b ∷ bs) j disk = record {
   desk = refl;
   justified = j;
@@ -127,10 +109,7 @@ module _ {Disk : Type 0} (view : FileView Disk) (d : DeskId) (theirs : List Ball
 
   may_held : (votes : List Ballot) (disk : Disk) (b : Ballot) → Justified theirs (b ∷ votes) → MayHold view disk votes b
       → DiskFine view d theirs votes disk
-  may_held votes disk b j h = (f (view.reads disk) h.0, λ shown i. f shown (h.1 shown i))
-    where
-      f : (o : Option (List Ballot)) → (o ≡ Some votes) ⊎ (o ≡ Some (b ∷ votes)) → ShowsMore theirs votes o
-      f o h = grind arith
+  may_held votes disk b j h = grind arith
 
   pub stays_fine : (votes : List Ballot) (old new : Disk) → Stays view old new → DiskFine view d theirs votes old
       → DiskFine view d theirs votes new
@@ -171,16 +150,8 @@ module _ {Disk : Type 0} (view : FileView Disk) (d : DeskId) (theirs : List Ball
   pub pens_keep : {Why : Type 0} (rules : Rules Why) (k l : DeskState Disk) (e : Entry) (told : PenAnswer Why) (out : List Message)
       → DeskFine view d theirs k → Pens view rules k e told l out → DeskKept view d theirs k l out
   pens_keep rules k l e (PenAnswer.Penned settled) out f p =
-      let c = p.1 in
-      let cast = cast_keeps d theirs k.votes k.seat l.seat k.book e settled f.seat p.0.0.1 p.0.1.0 c.0 in
-      let seat : SeatFine d l.votes theirs l.seat l.book = rw (c.1, c.3) cast in
-      let holds : Holds view l.disk l.votes = rw c.3 c.4 in
-      let told : Each (OwnMessage d l.votes) out = rw (p.2, c.3) ((f.seat.desk, inl refl), tt) in
-      record {
-        fine = record { seat = seat; disk = held l.votes l.disk holds; safe = λ _. holds };
-        grows = rw c.3 (more (next_ballot k e) k.votes);
-        told = told;
-      }
+      let cast = cast_keeps d theirs k.votes k.seat l.seat k.book e settled f.seat p.0.0.1 p.0.1.0 p.1.0 in
+      grind (arith, cast, held, more)
   pens_keep rules k l e (PenAnswer.Refused why) out f p = rw p.2 (unchanged k l f p.1)
   pens_keep rules k l e PenAnswer.DeviceFailed out f p =
       let j = justified_next k e f p.0.0 p.0.1.0 in
@@ -194,11 +165,7 @@ module _ {Disk : Type 0} (view : FileView Disk) (d : DeskId) (theirs : List Ball
     disk = stays_fine k.votes k.disk l.disk p.2 f.disk;
     safe = λ _. stays_held k.votes k.disk l.disk p.2 (f.safe p.0);
   }) refl p.3)
-  receives_keep k l (Message.Ask q) ReceiveAnswer.Asked out f t (r, u, inl h) =
-      let kept = unchanged k l f u in
-      let votes : l.votes ≡ k.votes = ap (λ (x : DeskState Disk). x.votes) u.1 in
-      rw h.2 (record { fine = kept.fine; grows = kept.grows; told = ((f.seat.desk, rw votes h.1), tt) })
-  receives_keep k l (Message.Ask q) ReceiveAnswer.Asked out f t (r, u, inr h) = rw h.1 (unchanged k l f u)
+  receives_keep k l (Message.Ask q) ReceiveAnswer.Asked out f t (r, u, h) = grind (arith, unchanged k l f u)
   receives_keep k l (Message.Ask q) ReceiveAnswer.DeviceFailed out f t p =
       rw p.3 (fails k l (stays_fine k.votes k.disk l.disk p.1 f.disk) f p.2)
   receives_keep k l _ _ out f t p = absurd p
@@ -232,8 +199,4 @@ module _ {Disk : Type 0} (view : FileView Disk) (d : DeskId) (theirs : List Ball
 -- it stays so as the other desk votes on
 pub desk_grows : {Disk : Type 0} (view : FileView Disk) (d : DeskId) (theirs more : List Ballot) (k : DeskState Disk)
     → Within theirs more → DeskFine view d theirs k → DeskFine view d more k
-desk_grows view d theirs more k g f = record {
-  seat = seat_grows d k.votes theirs more k.seat k.book g f.seat;
-  disk = (shows_grows theirs more k.votes g (view.reads k.disk) f.disk.0, λ shown i. shows_grows theirs more k.votes g shown (f.disk.1 shown i));
-  safe = f.safe;
-}
+desk_grows view d theirs more k g f = grind (arith, seat_grows d k.votes theirs more k.seat k.book g f.seat, shows_grows)

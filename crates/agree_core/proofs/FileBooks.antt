@@ -1,5 +1,5 @@
 -- A desk's file shows a book of settled entries, and two files show the agreed list.
-use Rattle.std.proofs.Common.{◌≡◌, ℕ, ◌+◌, ◌<◌, Bool, true, false, nat_eq, List, [], ◌∷◌, ◌++◌, length, refl, sym, ap, ◌∙◌, subst, inl, inr, arith, append_assoc, append-nil, length-append}
+use Rattle.std.proofs.Common.{◌≡◌, ℕ, ◌+◌, Bool, true, false, nat_eq, List, [], ◌∷◌, ◌++◌, length, sym, ap, ◌∙◌, arith, append_assoc, append-nil, length-append}
 use Rattle.std.proofs.lemmas.Bool.Decides.{nat_tests}
 use Rattle.notation.specs.declared.entry.Entry.{Entry}
 pub use Rattle.agree_core.specs.Agreed.{AllBoth}
@@ -44,14 +44,9 @@ pub book_agreed : (theirs : List Ballot) (b : Ballot) (bs : List Ballot) → Jus
     → AllBoth (b ∷ bs) theirs 0 (book_of (b ∷ bs))
 book_agreed theirs b [] j = tt
 book_agreed theirs b (c ∷ rest) j =
-    let book = book_of (c ∷ rest) in
-    let before = both_grow (c ∷ rest) (b ∷ c ∷ rest) theirs theirs (more b (c ∷ rest)) (same theirs) 0 book (book_agreed theirs c rest j.2) in
-    let size : c.at.place ≡ 0 + length book = omega (arith, book_long c rest (in_sequence theirs (c ∷ rest) j.2)) in
-    elim j.1 [
-      | inl n ↦ rw (book_kept b c rest book (grind (arith, n.0)) refl) before
-      | inr n ↦ rw (book_closed b c rest book (grind (arith, n.0)) refl)
-          (both_push (b ∷ c ∷ rest) theirs 0 book c.entry c.at.place c.at.round size before (inr (inl refl), n.1))
-    ]
+    let before = both_grow (c ∷ rest) (b ∷ c ∷ rest) theirs theirs (more b (c ∷ rest)) (same theirs) 0 (book_of (c ∷ rest)) (book_agreed theirs c rest j.2) in
+    let size = book_long c rest (in_sequence theirs (c ∷ rest) j.2) in
+    grind (arith, before, size, book_kept b c rest, book_closed b c rest, both_push (b ∷ c ∷ rest) theirs 0 (book_of (c ∷ rest)))
 
 pub book_both : (theirs votes : List Ballot) → Justified theirs votes → AllBoth votes theirs 0 (book_of votes)
 book_both theirs [] j = tt
@@ -68,26 +63,17 @@ none_ahead theirs b bs j r e i = grind (arith, earlier theirs b bs j (ballot_at 
 -- the last place is settled only where the other desk has the last vote
 last_settled : (theirs : List Ballot) (b : Ballot) (bs : List Ballot) → Justified theirs (b ∷ bs) → Justified (b ∷ bs) theirs
     → (r : ℕ) (e : Entry) → Both (b ∷ bs) theirs b.at.place r e → In b theirs
-last_settled theirs b bs j jt r e (inl p, i) = rw p at i
-last_settled theirs b bs j jt r e (inr k, i) =
-    let less : r < b.at.round = grind (arith, earlier theirs b bs j (ballot_at b.at.place r e) k) in
-    absurd (none_later (b ∷ bs) theirs j jt b.at.place r b.at.round e b.entry (inr k, i) (inl refl) less)
+last_settled theirs b bs j jt r e h = grind (arith, earlier theirs b bs j (ballot_at b.at.place r e), none_later (b ∷ bs) theirs j jt b.at.place r b.at.round e b.entry)
 
 both_by_files : (own theirs : List Ballot) → Justified theirs own → Justified own theirs → (xs : List Entry)
     → IsAgreedByFiles own theirs xs → AllBoth own theirs 0 xs × ((r : ℕ) (e : Entry) → Both own theirs (length xs) r e → ⊥)
 both_by_files [] theirs j jt xs h = rw h (tt, λ r e s. s.0)
-both_by_files (b ∷ bs) theirs j jt xs (inl h) =
+both_by_files (b ∷ bs) theirs j jt xs h =
     let book = book_of (b ∷ bs) in
     let l = book_long b bs (in_sequence theirs (b ∷ bs) j) in
-    let long : length xs ≡ b.at.place + 1 = rw h.1 (omega (arith, l, length-append book (b.entry ∷ []))) in
-    let both = both_push (b ∷ bs) theirs 0 book b.entry b.at.place b.at.round (omega (arith, l)) (book_agreed theirs b bs j) (inl refl, h.0) in
-    (rw h.1 both, λ r e s. none_ahead theirs b bs j r e (subst (λ (p : ℕ). In (ballot_at p r e) (b ∷ bs)) long s.0))
-both_by_files (b ∷ bs) theirs j jt xs (inr h) =
-    let long : length xs ≡ b.at.place = rw h.1 (book_long b bs (in_sequence theirs (b ∷ bs) j)) in
-    (rw h.1 (book_agreed theirs b bs j), λ r e s. h.0 (last_settled theirs b bs j jt r e (subst (λ (p : ℕ). Both (b ∷ bs) theirs p r e) long s)))
+    let both = both_push (b ∷ bs) theirs 0 book b.entry b.at.place b.at.round in
+    grind (arith, l, length-append book (b.entry ∷ []), both, book_agreed theirs b bs j, none_ahead theirs b bs j, last_settled theirs b bs j jt)
 
 -- so the agreed list is read from the two files
 pub agreed_by_files : (v : AllVotes) → AllJustified v → (xs : List Entry) → IsAgreedByFiles v.a v.b xs → IsAgreedList v xs
-agreed_by_files v j xs h =
-    let k = both_by_files v.a v.b j.0 j.1 xs h in
-    (both_settled v j 0 xs k.0, k.1)
+agreed_by_files v j xs h = grind (arith, both_by_files v.a v.b j.0 j.1 xs h, both_settled v j 0 xs)

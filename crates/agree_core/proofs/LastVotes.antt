@@ -25,8 +25,7 @@ in_book : (b : Ballot) (bs : List Ballot) → IsSequence (b ∷ bs) → (place :
 in_book b bs s place d h = get_or-append (book_of (b ∷ bs)) (b.entry ∷ []) d place (omega (arith, book_long b bs s))
 
 last_listed : (b : Ballot) (bs : List Ballot) → IsSequence (b ∷ bs) → (c : Ballot) → IsLastOfPlace (b ∷ bs) c → (d : Entry) → get_or (voted_list (b ∷ bs)) c.at.place d ≡ c.entry
-last_listed b bs s c (inl e, last) d =
-    grind (arith, book_long b bs s, get_or_push (book_of (b ∷ bs)) b.entry d c.at.place)
+last_listed b bs s c (inl e, last) d = grind (arith, book_long, get_or_push)
 last_listed b [] s c (inr i, last) d = absurd i
 last_listed b (a ∷ rest) s c (inr i, last) d =
     let before = last_listed a rest s.2 c (i, λ x k. last x (inr k)) d in

@@ -60,8 +60,7 @@ pub differed : (theirs bs : List Ballot) → Justified theirs bs → (b : Ballot
     → (place round : ℕ) → place ≡ b.at.place → round < b.at.round → BothDiffered bs theirs place round
 differed theirs [] j b i place round e h = absurd i
 differed theirs (x ∷ []) j b i place round e h = absurd (grind arith)
-differed theirs (x ∷ y ∷ ys) j b (inr i) place round e h =
-    one_more (y ∷ ys) theirs x place round (differed theirs (y ∷ ys) j.2 b i place round e h)
+differed theirs (x ∷ y ∷ ys) j b (inr i) place round e h = grind (arith, one_more, (differed theirs (y ∷ ys) j.2 b i place round e h))
 differed theirs (x ∷ y ∷ ys) (r, inl n, j) b (inl p) place round e h =
     let same : place ≡ y.at.place = grind arith in
     one_more (y ∷ ys) theirs x place round (elim (compare round y.at.round) [

@@ -1,5 +1,5 @@
 -- A place is settled once, so settled entries make one list.
-use Rattle.std.proofs.Common.{◌≡◌, ◌⊎◌, ℕ, ◌+◌, ◌<◌, List, [], ◌∷◌, ◌++◌, length, refl, sym, ap, ◌∙◌, subst, inl, inr, arith, ⊎_elim, append-nil, length-append}
+use Rattle.std.proofs.Common.{◌≡◌, ◌⊎◌, ℕ, ◌+◌, ◌<◌, List, [], ◌∷◌, length, refl, sym, ap, ◌∙◌, arith, append-nil, length-append}
 use Rattle.notation.specs.declared.entry.Entry.{Entry}
 use Rattle.agree_core.specs.declared.messages.DeskId.TheVariants.{A, B}
 use Rattle.agree_core.specs.Agreed.{EqualVotes, SettledAt, AllSettled, Unsettled, IsAgreedList, BeginsWith}
@@ -62,14 +62,8 @@ one_entry : (w : AllVotes) → AllJustified w → (place : ℕ) (e f : Entry) �
 one_entry w j place e f s t = (settled_once w j place s.0 t.0 e f s.1.0 t.1.0).1
 
 one_of : (w : AllVotes) → AllJustified w → (place : ℕ) (xs ys : List Entry) → AllSettled w place xs → AllSettled w place ys → BeginsWith ys xs ⊎ BeginsWith xs ys
-one_of w j place [] ys s t = inl (ys, refl)
-one_of w j place (x ∷ xs) [] s t = inr (x ∷ xs, refl)
-one_of w j place (x ∷ xs) (y ∷ ys) s t =
-    let e = one_entry w j place x y s.0 t.0 in
-    ⊎_elim
-    (λ (p : BeginsWith ys xs). let q : x ∷ xs ++ p.0 ≡ y ∷ ys = λ i. e i ∷ p.1 i in inl (p.0, q))
-    (λ (p : BeginsWith xs ys). let q : y ∷ ys ++ p.0 ≡ x ∷ xs = λ i. sym e i ∷ p.1 i in inr (p.0, q))
-    (one_of w j (place + 1) xs ys s.1 t.1)
+one_of w j place (x ∷ xs) (y ∷ ys) s t = grind (arith, one_entry w j place x y s.0 t.0, one_of w j (place + 1) xs ys s.1 t.1)
+one_of w j place xs ys s t = grind arith
 
 pub one_book : (w : AllVotes) → AllJustified w → OneBook w
 one_book w j u v xs ys g h s t = one_of w j 0 xs ys (all_settled_grow u w g j 0 xs s) (all_settled_grow v w h j 0 ys t)
@@ -77,19 +71,14 @@ one_book w j u v xs ys g h s t = one_of w j 0 xs ys (all_settled_grow u w g j 0 
 begins_from : (w : AllVotes) → AllJustified w → (place next : ℕ) (xs ys : List Entry)
     → AllSettled w place xs → AllSettled w place ys → next ≡ place + length ys → Unsettled w next → BeginsWith ys xs
 begins_from w j place next [] ys s t n u = (ys, refl)
-begins_from w j place next (x ∷ xs) [] s t n u = let same : next ≡ place = omega arith in absurd (u s.0.0 x (subst (λ (p : ℕ). EqualVotes w p s.0.0 x) (sym same) s.0.1.0))
+begins_from w j place next (x ∷ xs) [] s t n u = let same : next ≡ place = omega arith in absurd (u s.0.0 x (rw same s.0.1.0))
 begins_from w j place next (x ∷ xs) (y ∷ ys) s t n u =
-    let e = one_entry w j place x y s.0 t.0 in
-    let more : next ≡ place + 1 + length ys = omega arith in
-    let p = begins_from w j (place + 1) next xs ys s.1 t.1 more u in
-    let q : x ∷ xs ++ p.0 ≡ y ∷ ys = λ i. e i ∷ p.1 i in
-    (p.0, q)
+    let p = begins_from w j (place + 1) next xs ys s.1 t.1 (omega arith) u in
+    (p.0, λ i. one_entry w j place x y s.0 t.0 i ∷ p.1 i)
 
 -- the agreed list begins with any list of entries that some of the votes settle
 pub agreed_begins : (v w : AllVotes) → VotesGrow v w → AllJustified w → (xs ys : List Entry) → AllSettled v 0 xs → IsAgreedList w ys → BeginsWith ys xs
-agreed_begins v w g j xs ys s a =
-    let n : length ys ≡ 0 + length ys = omega arith in
-    begins_from w j 0 (length ys) xs ys (all_settled_grow v w g j 0 xs s) a.0 n a.1
+agreed_begins v w g j xs ys s a = begins_from w j 0 (length ys) xs ys (all_settled_grow v w g j 0 xs s) a.0 (omega arith) a.1
 
 same_list : (xs ys : List Entry) → BeginsWith ys xs → BeginsWith xs ys → xs ≡ ys
 same_list xs ys ([], h) k = sym (append-nil xs) ∙ h
