@@ -37,7 +37,7 @@ use Rattle.schedule_replay.specs.CodeWorlds.{BeginsWorld, boards_of, match_versi
 use Rattle.schedule_replay.specs.CodeWorlds.{RefusesTo, StepsTo, board_game, board_innings, board_seen, board_state, code_site}
 use Rattle.schedule_replay.specs.inner.WorldBoards.{AreFresh, BoardSteps, SameBoard}
 use Rattle.schedule_replay.proofs.TakeLemmas.{sending_grows}
-use Rattle.schedule_replay.proofs.GiveLemmas.{all_at, datagram_at, message_at, not_both}
+use Rattle.schedule_replay.proofs.GiveLemmas.{all_at, message_at, not_both}
 use Rattle.schedule_replay.proofs.SiteLemmas.{no_bytes, ticked}
 use Rattle.schedule_replay.proofs.WorldLemmas.{sent_length}
 
@@ -55,10 +55,9 @@ takes_as rules game k l bytes _ m s t = absurd t
 pub board_gives : (k l : MatchBoard) (n : ℕ) (t : Station) (d : Datagram) (answer : Result What BoardRefusal) (sent : List Datagram) → slice_get sent n ≡ Some d
     → Takes (match_of (board_game k) (board_innings k)).rules (board_game k) (board_state k) d.bytes answer (board_state l) → BoardSteps (Event.Give n t) k sent (board_seen answer) l sent
 board_gives k l n t d answer sent there takes messages b =
-    let found = message_at (written (board_game k)) messages n d.bytes (ap (λ (z : List (List ℕ)). slice_get z n) (sym b.1) ∙ datagram_at sent n d there) in
-    let taken = takes_as (match_of (board_game k) (board_innings k)).rules (board_game k) (board_state k) (board_state l) d.bytes answer found.0
-    (all_at IsMessage messages n found.0 b.0 found.1, found.2) takes in
-    ([], board_told taken.0, taken.1, (found.0, taken.0, inl found.1, taken.2, refl, refl), no_bytes (board_game k) sent messages b)
+    let m = message_at (board_game k) sent messages n d b there in
+    let taken = takes_as (match_of (board_game k) (board_innings k)).rules (board_game k) (board_state k) (board_state l) d.bytes answer m.0 m.2 takes in
+    ([], board_told taken.0, taken.1, (m.0, taken.0, inl m.1, taken.2, refl, refl), no_bytes (board_game k) sent messages b)
 
 -- what a tick hands out
 pub board_ticks : (k : MatchBoard) (t : Station) (n : ℕ) (out before after : List Datagram) → AreSent (board_game k) (map (λ (d : Datagram). d.bytes) out) (BoardTicks (board_state k))
@@ -103,9 +102,6 @@ pub is_there : {n many : ℕ} {old : World} (event : Event) {k : MatchBoard} {mi
 is_there {n = n} {old = old} event {k = k} m many none e =
     grind (arith, nat_tests, slice_get-get_or old.boards.items (n - 1) k)
 
-board_of : (n : ℕ) (old : World) (event : Event) (k : MatchBoard) (w : Configuration MemDisk) → IsThere n old event k → HasConfiguration old w → IsBoardOf old.game old.innings_a_side k
-board_of n old event k w t h = all_at (IsBoardOf old.game old.innings_a_side) old.boards.items (n - 1) k h.boards_are t.here
-
 -- the world after one of its boards has changed
 put : (n : ℕ) (old new : World) (l : MatchBoard) (w : Configuration MemDisk) (out : List Message) → PutsBoard n old new l → IsBoardOf old.game old.innings_a_side l → HasConfiguration old w
     → AreBytesOf old.game new.sent.items (w.sent ++ out) → HasConfiguration new (record w { boards = with_board w.boards (suc (n - 1)) (board_state l); sent = w.sent ++ out })
@@ -130,17 +126,21 @@ pub board_steps : (n : ℕ) (old new : World) (k l : MatchBoard) (event same : E
     → PutsBoard n old new l → (IsBoardOf old.game old.innings_a_side k → IsBoardOf old.game old.innings_a_side l) → event ≡ same → before ≡ old.sent.items → after ≡ new.sent.items
     → BoardSteps same k before seen l after → StepsTo event old seen new
 board_steps n old new k l event same seen before after e t c owner q b a steps w h =
-    let of = board_of n old event k w t h in
+    let of = all_at (IsBoardOf old.game old.innings_a_side) old.boards.items (n - 1) k h.boards_are t.here in
     let own : AreBytesOf (board_game k) before w.sent = rw (of.same_game, b) h.bytes in
     let given : BoardGives event k w.sent seen l after old.game old.innings_a_side = rw (← of.same_game, ← of.same_innings, q) (steps w.sent own) in
-    let world : Configuration MemDisk = record w { boards = with_board w.boards (suc (n - 1)) (board_state l); sent = w.sent ++ given.0 } in
-    let there : board_at w.boards (suc (n - 1)) ≡ Some (board_state k) = ap (λ (bs : List BoardState). slice_get bs (n - 1)) h.board_states ∙ slice_get-map board_state old.boards.items (n - 1) ∙ ap
-    (option_map board_state) t.here in
-    let step : StepAt (match_of old.game old.innings_a_side) w event (station_of event) given.1 world =
-    subst (λ (u : Station). StepAt (match_of old.game old.innings_a_side) w event u given.1 world) (sym (e ∙ ap Station.Board t.number))
-    (board_state k, board_state l, given.0, there, given.3, refl) in
-    let put_there = put n old new l w given.0 c (owner of) h (subst (λ (z : List Datagram). AreBytesOf old.game z (w.sent ++ given.0)) a given.4) in
-    (cause_is n old w event e h ∙ t.none, (given.1, world, given.2, step, put_there, λ d f. absurd (let z = sym e ∙ f in cc), λ none d fault due. grind arith))
+    let there : board_at w.boards (suc (n - 1)) ≡ Some (board_state k) = grind (arith, h.board_states, t.here, slice_get-map board_state old.boards.items) in (
+      cause_is n old w event e h ∙ t.none,
+      (
+        given.1,
+        record w { boards = with_board w.boards (suc (n - 1)) (board_state l); sent = w.sent ++ given.0 },
+        given.2,
+        rw (e ∙ ap Station.Board t.number) (board_state k, board_state l, given.0, there, given.3, refl),
+        put n old new l w given.0 c (owner of) h (rw (← a) given.4),
+        λ d f. absurd (let z = sym e ∙ f in cc),
+        λ none d fault due. grind arith,
+      ),
+    )
 
 pub same_owner : (game innings : ℕ) (k l : MatchBoard) → SameBoard k l → IsBoardOf game innings k → IsBoardOf game innings l
 same_owner game innings k l s of = record { same_game = s.same_game ∙ of.same_game; same_innings = s.same_innings ∙ of.same_innings }
@@ -166,17 +166,12 @@ WhyNot may n old event why =
 -- an event that a board hasn't taken
 pub board_refuses : (n : ℕ) (old new : World) (event : Event) (why : WorldRefusal) → station_of event ≡ Station.Board n → StaysSo old new
     → WhyNot may_grow n old event why → RefusesTo event old why new
-board_refuses n old new event why e s (inl cause) w h = (w, inl (cause_is n old w event e h ∙ cause, refl), stays old new w s h)
-board_refuses n old new event why e s (inr (none, want, grows)) w h = (w, inr (cause_is n old w event e h ∙ none, want, grows, left n event e w), stays old new w s h)
-  where
-    left : (n : ℕ) (event : Event) → station_of event ≡ Station.Board n → (w : Configuration MemDisk) → LeftByWant (match_of old.game old.innings_a_side) w event w
-    left n event e w = grind arith
+board_refuses n old new event why e s c w h = (w, grind (arith, cause_is n old w event e h), stays old new w s h)
 
 -- one that was refused before anything was done, out of memory where it may send
 pub board_admits_not : (n : ℕ) (old new : World) (event : Event) (why : WorldRefusal) → station_of event ≡ Station.Board n → StaysSo old new
     → WhyNot may_send n old event why → RefusesTo event old why new
-board_admits_not n old new event why e s c =
-    board_refuses n old new event why e s (⊎_elim inl (λ (r : _ × (why ≡ WorldRefusal.NoMemory) × (may_send event ≡ true)). inr (r.0, r.1, sending_grows event r.2)) c)
+board_admits_not n old new event why e s c = board_refuses n old new event why e s (grind (arith, sending_grows event))
 
 -- the board begins empty, or is as it was where it is out of memory
 pub wipes : (n m : ℕ) (old new : World) (k l : MatchBoard) (event : Event) (result : Result Seen WorldRefusal)
@@ -189,25 +184,15 @@ wipes n m old new k l event (Ok seen) e t c q items steps owner refused = (
   tt,
 )
 wipes n m old new k l event (Err why) e t c q items steps owner (want, same) =
-    let boards : new.boards.items ≡ old.boards.items = c.there ∙ ap (slice_set old.boards.items (n - 1))
-    (same ∙ sym (get_or_from_slice_get old.boards.items (n - 1) k k t.here)) ∙ set-get_or old.boards.items (n - 1) k in
-    let so : StaysSo old new =
-    record { a = c.a; b = c.b; boards = boards; sent = items; same_game = c.same_game; same_innings = c.same_innings } in
-    (tt, board_refuses n old new event why e so (inr (t.none, want, ap may_grow q)))
+    let boards : new.boards.items ≡ old.boards.items = grind (arith, c.there, get_or_from_slice_get old.boards.items (n - 1) k k t.here, set-get_or old.boards.items (n - 1) k) in
+    (tt, board_refuses n old new event why e (grind (arith, c, items)) (inr (t.none, want, ap may_grow q)))
 
 -- a desk that was just created
 site_begins : (version : FileVersion) (name : DeskId) (game innings : ℕ) (site : Site) → BeginsSite version name game innings site
     → (x : Node MemDisk) × HasNode site x × BeginsAt (match_of game innings) version name x
 site_begins version name game innings site h =
-    let k = h.desk in (
-      record { version = version; process = Running (state_of k.0); due = None },
-      record {
-        version = sym h.same_version;
-        process = subst (λ (o : Option WorldDesk). IsProcess site o site.disk (Running (state_of k.0))) (sym k.1) (k.2, h.down, refl);
-        due = sym h.due;
-      },
-      (state_of k.0, refl, k.3),
-    )
+    let k = h.desk in
+    (record { version = version; process = Running (state_of k.0); due = None }, grind (arith, h.same_version, k.1, k.2, h.down, h.due), (state_of k.0, refl, k.3))
 
 -- so many boards
 pub fresh_many : (n : ℕ) → length (fresh_boards n) ≡ n

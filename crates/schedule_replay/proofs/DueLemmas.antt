@@ -16,7 +16,7 @@ use Rattle.world_desks.specs.WorldDesks.{disk_of}
 -- from one disk to another, on which the same is due
 pub keeps_from : (old new : Site) (before after : MemDisk) → disk_at old.desk old.disk ≡ Some before → disk_at new.desk new.disk ≡ Some after
     → (faults_of after).due ≡ (faults_of before).due → KeepsDue old new
-keeps_from old new before after p q e fault due = ap due_on q ∙ ap Some e ∙ sym (ap due_on p)
+keeps_from old new before after p q e fault due = rw (p, q, e) refl
 
 -- the desk runs on
 pub keeps_running : (old : Site) (k l : WorldDesk) → old.desk ≡ Some k → faults_of (disk_of l) ≡ faults_of (disk_of k) → KeepsDue old (record old { desk = Some l })
@@ -24,7 +24,7 @@ keeps_running old k l here e = keeps_from old (record old { desk = Some l }) (di
 
 -- or it stays down
 pub keeps_down : (old : Site) (disk left : MemDisk) → old.desk ≡ None → old.disk ≡ Some disk → (faults_of left).due ≡ (faults_of disk).due → KeepsDue old (record old { disk = Some left })
-keeps_down old disk left down there e = keeps_from old (record old { disk = Some left }) disk left ((λ i. disk_at (down i) (there i))) (ap (λ (o : Option WorldDesk). disk_at o (Some left)) down) e
+keeps_down old disk left down there e fault due = rw (down, there, e) refl
 
 -- nothing is due
 pub keeps_none : (old new : Site) → new.due ≡ None → KeepsDue old new

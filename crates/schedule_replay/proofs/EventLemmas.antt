@@ -31,65 +31,45 @@ pub ticks : (site : Site) (k : WorldDesk) (t : Station) (n : ℕ) (out before af
     → AreSent (game_of k) (map (λ (d : Datagram). d.bytes) out) (Ticks (state_of k)) → n ≡ length out → after ≡ before ++ out → SiteSteps (Event.Tick t) site before (Seen.Ticked n) site after
 ticks site k t n out before after here sent long added x messages h b =
     let r = running_is site k x here h in
-    let own = r.owner in
-    let s = subst (λ (g : ℕ). AreSent g (map (λ (d : Datagram). d.bytes) out) (Ticks (state_of k))) own.same_game sent in
+    let s = rw r.owner.same_game at sent in
     let z = ticked site.game (Ticks (state_of k)) n out before after messages s long added b in
-    (x, s.0, Answer.Ticked n, refl, (state_of k, r.process, s.3, ap (λ (m : ℕ). Answer.Ticked m) z.0, refl), h, z.1)
+    (x, s.0, Answer.Ticked n, refl, (state_of k, r.process, s.3, ap Answer.Ticked z.0, refl), h, z.1)
 
 calm_disk : (site : Site) (x : Node MemDisk) → HasNode site x → HasDisk (record site { due = None }) x.process
-calm_disk site x h = let d = site_disk site x h in record { disk = d.disk; votes = d.votes; cap = d.cap }
+calm_disk site x h = grind (arith, site_disk site x h)
 
 -- the desk's process ends
 pub kills : (old new : Site) (k : WorldDesk) (sent : List Datagram) → old.desk ≡ Some k → PutsDown (record old { due = None }) new → SiteSteps (Event.Kill old.name) old sent Seen.Done new sent
 kills old new k sent here put x messages h b =
     let r = running_is old k x here h in
     let down = put_down_is (record old { due = None }) new x.process (calm_disk old x h) refl put in
-    let y : Node MemDisk = record x { process = Down (process_votes x.process) down.0; due = None } in (
-      y,
-      [],
-      Answer.Done,
-      refl,
-      (state_of k, r.process, (down.0, sets_plan_stays old.name x.version old.game Calm (process_disk x.process) down.0 down.2, refl), refl, refl),
-      record { version = h.version ∙ sym put.version; process = down.3; due = sym put.due },
-      no_bytes old.game sent messages b,
-    )
+    let y : Node MemDisk = record x { process = Down (process_votes x.process) down.0; due = None } in
+    let is : HasNode new y = record { version = h.version ∙ sym put.version; process = down.3; due = sym put.due } in
+    let stays = sets_plan_stays old.name x.version old.game Calm (process_disk x.process) down.0 down.2 in
+    (y, [], Answer.Done, refl, (state_of k, r.process, (down.0, stays, refl), refl, refl), is, no_bytes old.game sent messages b)
 
 -- no call of its disk is to fail then
 pub put_down_plan : (old new : Site) → PutsDown old new → option_map plan_of (disk_at new.desk new.disk) ≡ Some Calm
-put_down_plan old new put = (λ i. option_map plan_of (disk_at (put.desk i) (put.disk.3 i))) ∙ ap Some put.disk.4.plan
+put_down_plan old new put = rw (put.desk, put.disk.3) (ap Some put.disk.4.plan)
 
 pub left_plan : (mid : Site) (left : MemDisk) → mid.desk ≡ None → plan_of left ≡ Calm → option_map plan_of (disk_at mid.desk (Some left)) ≡ Some Calm
-left_plan mid left down calm = ap (λ (o : Option WorldDesk). option_map plan_of (disk_at o (Some left))) down ∙ ap Some calm
-
--- what a power loss leaves
-pub record IsLeft (choice : Choice) (old new : MemDisk) : Type 0 where
-  pub image : IsImage (images_of old) (file_of new)
-  pub images : images_of new ≡ only (file_of new)
-  pub cap : cap_of new ≡ cap_of old
-  pub plan : plan_of new ≡ Calm
+left_plan mid left down calm = rw down (ap Some calm)
 
 -- its power is lost: what was put down is an image of what was there
-pub powers : (old mid new : Site) (choice : Choice) (there left : MemDisk) (sent : List Datagram) → PutsDown (record old { due = None }) mid → mid.disk ≡ Some there → IsLeft choice there left
+pub powers : (old mid new : Site) (choice : Choice) (there left : MemDisk) (sent : List Datagram) → PutsDown (record old { due = None }) mid → mid.disk ≡ Some there
+    → IsImage (images_of there) (file_of left) → images_of left ≡ only (file_of left) → cap_of left ≡ cap_of there → plan_of left ≡ Calm
     → new ≡ record mid { disk = Some left } → SiteSteps (Event.Power old.name choice) old sent Seen.Done new sent
-powers old mid new choice there left sent put at lost is x messages h b =
-    let down = put_down_is (record old { due = None }) mid x.process (calm_disk old x h) refl put in
-    let same_disk : down.0 ≡ there = let z = sym at ∙ down.1 in cc in
-    let plan : SetsPlan Calm (process_disk x.process) there = subst (SetsPlan Calm (process_disk x.process)) same_disk down.2 in
-    let y : Node MemDisk = record x { process = Down (process_votes x.process) left; due = None } in
+powers old mid new choice there left sent put at image images cap calm is x messages h b =
     let d = calm_disk old x h in
-    let none : mid.due ≡ None = put.due in
-    let on : IsWorldDisk mid.version mid.due left = grind (arith, ap (due_of (call_count left)) lost.plan, d.cap) in
-    let site : HasNode new y = grind (
-      arith,
-      is,
-      down_is (record mid { disk = Some left }) left (process_votes x.process) put.desk refl
-          (put.counted ∙ d.votes) on,
-    ) in
-    let view = (match_of old.game old.innings_a_side).view old.name x.version in
-    let loses : LosesPower view (process_disk x.process) left = (
-      (file_of left, subst (λ (z : Images). IsImage z (file_of left)) plan.images lost.image, refl),
-      λ shown i. sym i.2 ∙ ap (λ (file : List ℕ). Rattle.vote_store.specs.View.votes_shown (contents (format_of x.version)) old.name old.game file)
-          (only_one (file_of left) i.0 (subst (λ (z : Images). IsImage z i.0) lost.images i.1)),
+    let down = put_down_is (record old { due = None }) mid x.process d refl put in
+    let same_disk : down.0 ≡ there = let z = sym at ∙ down.1 in cc in
+    let plan : SetsPlan Calm (process_disk x.process) there = rw same_disk at down.2 in
+    let y : Node MemDisk = record x { process = Down (process_votes x.process) left; due = None } in
+    let site : HasNode new y = grind (arith, is, put, put.due, cap, ap (due_of (call_count left)) calm, d.votes, d.cap) in
+    let shows = Rattle.vote_store.specs.View.votes_shown (contents (format_of x.version)) old.name old.game in
+    let loses : LosesPower ((match_of old.game old.innings_a_side).view old.name x.version) (process_disk x.process) left = (
+      (file_of left, subst (λ (z : Images). IsImage z (file_of left)) plan.images image, refl),
+      λ shown i. sym i.2 ∙ ap shows (only_one (file_of left) i.0 (subst (λ (z : Images). IsImage z i.0) images i.1)),
     ) in
     (y, [], Answer.Done, refl, (left, loses, refl, refl, refl), site, no_bytes old.game sent messages b)
 
@@ -101,18 +81,15 @@ FaultStep event old fault =
 
 module _ (old : Site) (fault : Fault) (plan : Plan) (event : Event) (step : FaultStep event old fault) (due : (calls : ℕ) → IsDue (Some fault) (due_of calls plan)) (sent : List Datagram) where
   is_due : (left : MemDisk) → plan_of left ≡ plan → IsDue (Some fault) (faults_of left).due
-  is_due left e = subst (λ (p : Plan). IsDue (Some fault) (due_of (call_count left) p)) (sym e) (due (call_count left))
+  is_due left e = rw e (due (call_count left))
 
   -- one that runs
   pub falls_running : (k l : WorldDesk) → old.desk ≡ Some k → SetsPlan plan (disk_of k) (disk_of l) → state_of l ≡ record (state_of k) { disk = disk_of l } → SameOwner k l
       → SiteSteps event old sent Seen.Done (record old { desk = Some l; due = Some fault }) sent
   falls_running k l here sets state owner x messages h b =
       let r = running_is old k x here h in
-      let shown : Running (state_of l) ≡ with_disk x.process (disk_of l) = grind (arith, state, r.process) in
-      let stays = subst (λ (z : Process MemDisk). Stays ((match_of old.game old.innings_a_side).view old.name x.version) (process_disk z) (disk_of l)) (sym r.process)
-      (sets_plan_stays old.name x.version old.game plan (disk_of k) (disk_of l) sets) in
       let y : Node MemDisk = record x { process = Running (state_of l); due = Some fault } in
-      let falls = step x y messages (disk_of l, stays, ap (λ (p : Process MemDisk). record x { process = p; due = Some fault }) shown) in
+      let falls = step x y messages (disk_of l, rw r.process (sets_plan_stays old.name x.version old.game plan (disk_of k) (disk_of l) sets), grind (arith, state, r.process)) in
       (y, [], Answer.Done, refl, falls, runs_again old k l (Some fault) x here h owner (is_due (disk_of l) sets.plan), no_bytes old.game sent messages b)
 
   -- and one that is down
@@ -120,11 +97,8 @@ module _ (old : Site) (fault : Fault) (plan : Plan) (event : Event) (step : Faul
       → SiteSteps event old sent Seen.Done (record old { disk = Some left; due = Some fault }) sent
   falls_down disk left down there sets x messages h b =
       let d = down_at old disk x down there h in
-      let same : Down d.votes left ≡ with_disk x.process left = grind (arith, d.process) in
-      let stays = subst (λ (z : Process MemDisk). Stays ((match_of old.game old.innings_a_side).view old.name x.version) (process_disk z) left) (sym d.process)
-      (sets_plan_stays old.name x.version old.game plan disk left sets) in
       let y : Node MemDisk = record x { process = Down d.votes left; due = Some fault } in
-      let falls = step x y messages (left, stays, ap (λ (p : Process MemDisk). record x { process = p; due = Some fault }) same) in
+      let falls = step x y messages (left, rw d.process (sets_plan_stays old.name x.version old.game plan disk left sets), grind (arith, d.process)) in
       (y, [], Answer.Done, refl, falls, stays_down old disk left (Some fault) x down h d sets.cap (is_due left sets.plan), no_bytes old.game sent messages b)
 
 -- of a whole site that is neither running nor down there is none

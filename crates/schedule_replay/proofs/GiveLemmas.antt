@@ -59,103 +59,76 @@ answer_to (ReceiveAnswer.Told h) out = Answer.Told h
 answer_to ReceiveAnswer.Asked out = Answer.Asked (has_any out)
 answer_to ReceiveAnswer.DeviceFailed out = Answer.DeviceFailed
 
-pub after_receive : {Disk : Type 0} (view : FileView Disk) (x : Node Disk) (received : ReceiveAnswer) (l : DeskState Disk) (out : List Message) → received ≢ ReceiveAnswer.DeviceFailed
-    → AfterReceive view x received l out (answer_to received out) (record x { process = Running l })
-after_receive view x received l out n = grind arith
-
--- the message of the bytes that stand at this number
-pub message_at : (f : Message → List ℕ) (messages : List Message) (n : ℕ) (bytes : List ℕ) → slice_get (map f messages) n ≡ Some bytes → (m : Message) × (slice_get messages n ≡ Some m) × (bytes ≡ f m)
-message_at f messages n bytes e = grind (arith, slice_get-map f messages n)
+after_receive : {Disk : Type 0} (view : FileView Disk) (x : Node Disk) (what : What) (received : ReceiveAnswer) (l : DeskState Disk) (out : List Message)
+    → received_as what ≡ Some received → is_fault what ≡ false → AfterReceive view x received l out (answer_to received out) (record x { process = Running l })
+after_receive view x what received l out e n = grind arith
 
 -- what is so of all is so of the one at this number
 pub all_at : {X : Type 0} (P : X → Type 0) (xs : List X) (n : ℕ) (x : X) → All P xs → slice_get xs n ≡ Some x → P x
 all_at P xs n x all e = subst P (get_or_from_slice_get xs n x x e) (All-get_or P xs n x (slice_get_within xs n x e) all)
 
+-- the message that the bytes at this number say
+pub message_at : (game : ℕ) (sent : List Datagram) (messages : List Message) (n : ℕ) (d : Datagram) → AreBytesOf game sent messages → slice_get sent n ≡ Some d
+    → (m : Message) × (slice_get messages n ≡ Some m) × Says game d.bytes m
+message_at game sent messages n d b there =
+    grind (arith, slice_get-map (λ (x : Datagram). x.bytes) sent n, slice_get-map (written game) messages n, all_at IsMessage messages n)
+
 abbrev pub GiveSteps : WorldDesk → List ℕ → Received → WorldDesk → Type 0
 GiveSteps k bytes r l = AreSent (game_of k) (replied r.reply) (λ out. Takes (view_of k) (game_of k) (state_of k) bytes r.what (state_of l) out)
 
-any_reply : (game : ℕ) (reply : Option (List ℕ)) (out : List Message) → replied reply ≡ map (written game) out → has_any out ≡ is_some reply
-any_reply game reply out e = grind arith
+-- the same by the match's names
+given_as : (old : Site) (k l : WorldDesk) (bytes : List ℕ) (r : Received) (x : Node MemDisk) → Runs old k x → GiveSteps k bytes r l
+    → AreSent old.game (replied r.reply) (λ out. Takes ((match_of old.game old.innings_a_side).view old.name x.version) old.game (state_of k) bytes r.what (state_of l) out)
+given_as old k l bytes r x runs step =
+    of_match old k x runs (λ view rules game. AreSent game (replied r.reply) (λ out. Takes view game (state_of k) bytes r.what (state_of l) out)) step
 
 -- what is seen is the answer
-seen_is : (what : What) (reply : Option (List ℕ)) (received : ReceiveAnswer) (out : List Message) → received_as what ≡ Some received → what ≢ What.Device → has_any out ≡ is_some reply
-    → answer_of (given_seen what reply) ≡ Some (answer_to received out)
-seen_is what reply received out e n h = grind arith
+seen_is : (game : ℕ) (what : What) (reply : Option (List ℕ)) (received : ReceiveAnswer) (out : List Message) → received_as what ≡ Some received → is_fault what ≡ false
+    → replied reply ≡ map (written game) out → answer_of (given_seen what reply) ≡ Some (answer_to received out)
+seen_is game what reply received out e n same = grind arith
 
-not_failed : (what : What) (received : ReceiveAnswer) → received_as what ≡ Some received → what ≢ What.Device → received ≢ ReceiveAnswer.DeviceFailed
-not_failed what received e n q = grind arith
+abbrev pub GiveBlame : WorldDesk → Received → WorldDesk → Type 0
+GiveBlame k r l = BlamesDisk What.Device ⊤ (device_answer r.what) (faults_of (disk_of k)) (faults_of (disk_of l))
 
-pub datagram_at : (sent : List Datagram) (n : ℕ) (d : Datagram) → slice_get sent n ≡ Some d → slice_get (map (λ (x : Datagram). x.bytes) sent) n ≡ Some d.bytes
-datagram_at sent n d e = slice_get-map (λ (x : Datagram). x.bytes) sent n ∙ ap (option_map (λ (x : Datagram). x.bytes)) e
-
--- what was given is one of the messages, and how the desk took it
-record Given (old : Site) (k l : WorldDesk) (n : ℕ) (d : Datagram) (r : Received) (x : Node MemDisk) (messages out : List Message) : Type 0 where
-  message : Message
-  there : slice_get messages n ≡ Some message
-  says : Says old.game d.bytes message
-  takes : Takes ((match_of old.game old.innings_a_side).view old.name x.version) old.game (state_of k) d.bytes r.what (state_of l) out
-  said : replied r.reply ≡ map (written old.game) out
-
-given_as : (old : Site) (k l : WorldDesk) (n : ℕ) (d : Datagram) (r : Received) (x : Node MemDisk) (messages : List Message) (before : List Datagram) → slice_get before n ≡ Some d
-    → (step : GiveSteps k d.bytes r l) → Runs old k x → AreBytesOf old.game before messages → Given old k l n d r x messages step.0
-given_as old k l n d r x messages before there step runs b =
-    let own = runs.owner in
-    let found = message_at (written old.game) messages n d.bytes (ap (λ (z : List (List ℕ)). slice_get z n) (sym b.1) ∙ datagram_at before n d there) in
-    let takes = of_match old.name x.version old.game old.innings_a_side k own (λ view rules. Takes view (game_of k) (state_of k) d.bytes r.what (state_of l) step.0) step.3 in
-    record {
-      message = found.0;
-      there = found.1;
-      says = (all_at IsMessage messages n found.0 b.0 found.1, found.2);
-      takes = rw own.same_game at takes;
-      said = rw own.same_game at step.2;
-    }
+pub calm_faults : (k l : WorldDesk) (r : Received) → GiveBlame k r l → is_fault r.what ≡ false → faults_of (disk_of l) ≡ faults_of (disk_of k)
+calm_faults k l r blame calm = blame.same (λ e. grind arith)
 
 -- the site's desk is given a message that was sent
 pub give_runs_on : (old : Site) (k l : WorldDesk) (n : ℕ) (t : Station) (d : Datagram) (r : Received) (before after : List Datagram) → old.desk ≡ Some k → slice_get before n ≡ Some d
-    → GiveSteps k d.bytes r l → SameOwner k l → faults_of (disk_of l) ≡ faults_of (disk_of k) → r.what ≢ What.Device
+    → GiveSteps k d.bytes r l → SameOwner k l → GiveBlame k r l → is_fault r.what ≡ false
     → map (λ (x : Datagram). x.bytes) after ≡ map (λ (x : Datagram). x.bytes) before ++ replied r.reply
     → SiteSteps (Event.Give n t) old before (given_seen r.what r.reply) (record old { desk = Some l }) after
-give_runs_on old k l n t d r before after here there step owner faults calm bytes x messages h b =
+give_runs_on old k l n t d r before after here there step owner blame calm bytes x messages h b =
     let runs = running_is old k x here h in
-    let given = given_as old k l n d r x messages before there step runs b in
+    let given = given_as old k l d.bytes r x runs step in
+    let m = message_at old.game before messages n d b there in
     let view = (match_of old.game old.innings_a_side).view old.name x.version in
-    let taken = takes_as view old.game (state_of k) (state_of l) d.bytes r.what step.0 given.message given.says given.takes in (
+    let taken = takes_as view old.game (state_of k) (state_of l) d.bytes r.what given.0 m.0 m.2 given.3 in (
       record x { process = Running (state_of l) },
-      step.0,
-      answer_to taken.0 step.0,
-      seen_is r.what r.reply taken.0 step.0 taken.1 calm (any_reply old.game r.reply step.0 given.said),
-      (state_of k, state_of l, given.message, taken.0, runs.process, inl given.there, taken.2, after_receive view x taken.0 (state_of l) step.0 (not_failed r.what taken.0 taken.1 calm)),
-      runs_on old k l x here h owner faults,
-      more_bytes old.game before after messages step.0 (replied r.reply) b step.1 given.said bytes,
+      given.0,
+      answer_to taken.0 given.0,
+      seen_is old.game r.what r.reply taken.0 given.0 taken.1 calm given.2,
+      (state_of k, state_of l, m.0, taken.0, runs.process, inl m.1, taken.2, after_receive view x r.what taken.0 (state_of l) given.0 taken.1 calm),
+      runs_on old k l x here h owner (calm_faults k l r blame calm),
+      more_bytes old.game before after messages given.0 (replied r.reply) b given.1 given.2 bytes,
     )
 
 -- a device call of the desk failed as it answered an ask
 pub give_breaks : (old new : Site) (k l : WorldDesk) (n : ℕ) (t : Station) (d : Datagram) (r : Received) (seen : Seen) (before : List Datagram) → old.desk ≡ Some k → slice_get before n ≡ Some d
-    → GiveSteps k d.bytes r l → SameOwner k l → BlamesDisk What.Device ⊤ (device_answer r.what) (faults_of (disk_of k)) (faults_of (disk_of l)) → r.what ≡ What.Device
+    → GiveSteps k d.bytes r l → SameOwner k l → GiveBlame k r l → is_fault r.what ≡ true
     → BreaksDown old.due (Cause.Desk refusals.Device) (record old { desk = Some l }) seen new → SiteSteps (Event.Give n t) old before seen new before
-give_breaks old new k l n t d r seen before here there step owner blame device broke x messages h b =
+give_breaks old new k l n t d r seen before here there step owner blame fails broke x messages h b =
     let runs = running_is old k x here h in
-    let given = given_as old k l n d r x messages before there step runs b in
+    let given = given_as old k l d.bytes r x runs step in
+    let m = message_at old.game before messages n d b there in
+    let device : r.what ≡ What.Device = grind (arith, fails) in
     let view = (match_of old.game old.innings_a_side).view old.name x.version in
-    let failed : Takes view old.game (state_of k) d.bytes What.Device (state_of l) step.0 = rw device at given.takes in
-    let received = rw (says_once old.game d.bytes failed.0 given.message failed.1 given.says) at failed.2 in
-    let out = nothing_out view (state_of k) (state_of l) given.message step.0 received in
-    let bytes : AreBytesOf old.game before (messages ++ step.0) = rw out (no_bytes old.game before messages b) in
+    let failed = subst (λ (w : What). Takes view old.game (state_of k) d.bytes w (state_of l) given.0) device given.3 in
+    let received = rw (says_once old.game d.bytes failed.0 m.0 failed.1 m.2) at failed.2 in
+    let out : given.0 ≡ [] = grind (arith, received) in
     let blamed = rw device at blame in
     let broken = broken_site old new k l x (Cause.Desk refusals.Device) seen here h owner (λ q. blamed.calm q tt refl) (λ o. blamed.spent o tt refl) refl broke in
-    (broken.0, step.0, broken.1, broken.2, (state_of k, state_of l, given.message, ReceiveAnswer.DeviceFailed, runs.process, inl given.there, received, broken.3), broken.4, bytes)
-  where
-    nothing_out : (view : FileView MemDisk) (k l : DeskState MemDisk) (m : Message) (out : List Message) → Receives view k m ReceiveAnswer.DeviceFailed l out → out ≡ []
-    nothing_out view k l m out h = grind arith
-
-pub fault_is : (what : What) → is_fault what ≡ true → what ≡ What.Device
-fault_is what e = grind arith
-
-pub fault_not : (what : What) → is_fault what ≡ false → what ≢ What.Device
-fault_not what e q = grind arith
-
-pub calm_answer : (what : What) → what ≢ What.Device → IsErrOf (device_answer what) What.Device → ⊥
-calm_answer what n e = grind arith
+    (broken.0, given.0, broken.1, broken.2, (state_of k, state_of l, m.0, ReceiveAnswer.DeviceFailed, runs.process, inl m.1, received, broken.3), broken.4, rw out (no_bytes old.game before messages b))
 
 pub stands_at : (sent : List Datagram) (n : ℕ) (d : Datagram) → n < length sent → d ≡ slice_index_or sent n d → slice_get sent n ≡ Some d
 stands_at sent n d less e = slice_get-get_or sent n d less ∙ ap Some (sym e)

@@ -12,4 +12,3 @@ pub mod GiveLemmas
 pub mod TakeLemmas
 pub mod WorldLemmas
 pub mod BoardLemmas
-pub mod LendingLemmas

@@ -28,7 +28,7 @@ use Rattle.headline.specs.Match.{format_of, most_bytes}
 use Rattle.schedule_replay.specs.Answers.{answer_of, is_failing, wants_memory}
 use Rattle.schedule_replay.specs.inner.Sites.{BreaksDown, HasNode, IsWorldDisk, NotFoundBy, SiteSteps}
 use Rattle.schedule_replay.proofs.SiteLemmas.{down_is, no_bytes, only_one}
-use Rattle.schedule_replay.proofs.OpenLemmas.{Outcome, ViewAt, broken_down, down_at, memory_is, seen_is, still_down, syncs}
+use Rattle.schedule_replay.proofs.OpenLemmas.{Outcome, ViewAt, broken_down, down_at, still_down, syncs}
 
 abbrev pub MigrateSteps : List Datagram → Site → Seen → Site → Type 0
 MigrateSteps sent old seen new = SiteSteps (Event.Migrate old.name) old sent seen new sent
@@ -92,11 +92,6 @@ may_sync version old disk last seen (inr synced) =
     let shows = votes_shown (contents (format_of version)) old.name old.game in
     inr (ap shows seen, λ image i. sym i.2 ∙ ap shows (only_one (file_of disk) i.0 (subst (λ (z : Images). IsImage z i.0) synced i.1)))
 
--- what the old disk shows then, and what is due there
-record Left (old : Site) (disk last : MemDisk) : Type 0 where
-  may : (version : FileVersion) → MaySync (ViewAt old version) disk last
-  cap : cap_of last ≡ cap_of disk
-
 -- why it isn't migrated
 abbrev pub RefusedFor : Site → MemDisk → MemDisk → VotesRefusal → Type 0
 RefusedFor old moved begun why =
@@ -104,81 +99,60 @@ RefusedFor old moved begun why =
     × ((why ≡ device) ⊎ ((why ≡ VotesRefusal.NoMemory) ⊎ ((why ≡ not_empty) ⊎ (file_votes (contents version_1) (desk_number old.name) old.game (file_of moved) ≡ Err why))))
 
 module _ (old : Site) (disk moved fresh begun left made last : MemDisk) (m : IsMoved old disk moved fresh begun) where
-  returned : (why : VotesRefusal) → IsReturned old disk moved begun left made last why → Left old disk last
-  returned why r =
-      let here = m.here in
-      let back = r.back in
-      let images : (images_of last ≡ images_of disk) ⊎ (images_of last ≡ only (file_of disk)) = grind (arith, r.images) in
-      record { may = λ version. may_sync version old disk last (back.file ∙ r.seen ∙ here.file) images; cap = back.cap ∙ r.cap ∙ here.cap }
+  -- what the old disk shows then, and what room it has
+  returned : (why : VotesRefusal) → IsReturned old disk moved begun left made last why → ((version : FileVersion) → MaySync (ViewAt old version) disk last) × (cap_of last ≡ cap_of disk)
+  returned why r = (λ version. may_sync version old disk last (grind (arith, m.here, r.back)) (grind (arith, m.here, r.back, r.images)), r.back.cap ∙ r.cap ∙ m.here.cap)
 
   -- the new disk was empty
   fault_of : (why : VotesRefusal) → why ≢ device → why ≢ VotesRefusal.NoMemory → RefusedFor old moved begun why
       → file_votes (contents version_1) (desk_number old.name) old.game (file_of moved) ≡ Err why
-  fault_of why n k f =
-      let begins = m.there in
-      let empty = m.fresh_is in
-      grind (arith, ap length (begins.file ∙ empty.file))
+  fault_of why n k f = grind (arith, ap length (m.there.file ∙ m.fresh_is.file))
 
   -- nothing has failed
   calm_faults : (why : VotesRefusal) → IsReturned old disk moved begun left made last why → why ≢ device → faults_of last ≡ faults_of disk
-  calm_faults why r n =
-      let here = m.here in
-      let back = r.back in
-      let blame = r.blame in
-      grind (arith, blame.same (λ q. n (cc)))
+  calm_faults why r n = grind (arith, m.here, r.back, r.blame.same (λ q. n (cc)))
 
   module _ (new : Site) (result : Result Seen WorldRefusal) (version : old.version ≡ FileVersion.Old) (down : old.desk ≡ None) (there : old.disk ≡ Some disk) where
     failing : IsReturned old disk moved begun left made last device → (seen : Seen) × (result ≡ Ok seen) × BreaksDown old.due (Cause.Migrate device) (record old { disk = Some last }) seen new
         → Outcome MigrateSteps old result new
-    failing r (seen, is, broke) = seen_is MigrateSteps old new result seen is steps
-      where
-        begins : SetsPlan (plan_of disk) fresh begun
-        begins = m.there
-
-        within : room version_2 MAX_SLOTS ≤ cap_of begun
-        within = let e : cap_of begun ≡ 1048641 = begins.cap ∙ (let f = m.fresh_is in f.cap) in omega arith
-
-        at_new : HasFailed (room version_2 MAX_SLOTS ≤ cap_of begun) (faults_of begun) (faults_of made)
-        at_new = let blame = r.blame in elim (blame.failed refl) [
-          | inl f ↦ let never = f.0 in absurd (never.calm (let here = m.here in ap (due_of (call_count moved)) here.plan) tt)
-          | inr f ↦ f.1
-        ]
-
-        steps : (sent : List Datagram) → MigrateSteps sent old seen new
-        steps sent x messages h b =
-            let d = down_at old disk x down there h in
-            let l = returned device r in
-            let failed = at_new in
-            let spent = λ (o : IsOnce (faults_of disk).due). r.due ∙ failed.spent (subst IsOnce (sym m.due) o) within in
-            let broken = broken_down old new disk last x FileVersion.Old (Cause.Migrate device) seen down h d l.cap (λ n. failed.calm (m.due ∙ n) within) spent refl broke in
-            let at = subst (λ (v : FileVersion). MigratesAt {Why = Refusal} (ViewAt old) x v d.votes disk broken.1 broken.0)
-            (sym (h.version ∙ version)) (Failed last, l.may FileVersion.Old, broken.3) in
-            (broken.0, [], broken.1, broken.2, (d.votes, disk, d.process, at, refl), broken.4, no_bytes old.game sent messages b)
+    failing r (seen, is, broke) = rw is (
+      λ sent x messages h b.
+          let d = down_at old disk x down there h in
+          let l = returned device r in
+          let within : room version_2 MAX_SLOTS ≤ cap_of begun = let e : cap_of begun ≡ 1048641 = m.there.cap ∙ m.fresh_is.cap in omega arith in
+          let failed : HasFailed (room version_2 MAX_SLOTS ≤ cap_of begun) (faults_of begun) (faults_of made) = elim (r.blame.failed refl) [
+            | inl f ↦ absurd (f.0.calm (ap (due_of (call_count moved)) m.here.plan) tt)
+            | inr f ↦ f.1
+          ] in
+          let spent = λ (o : IsOnce (faults_of disk).due). r.due ∙ failed.spent (subst IsOnce (sym m.due) o) within in
+          let broken = broken_down old new disk last x FileVersion.Old (Cause.Migrate device) seen down h d l.1 (λ n. failed.calm (m.due ∙ n) within) spent refl broke in
+          let at = subst (λ (v : FileVersion). MigratesAt {Why = Refusal} (ViewAt old) x v d.votes disk broken.1 broken.0) (sym (h.version ∙ version)) (Failed last, l.0 FileVersion.Old, broken.3) in
+          (broken.0, [], broken.1, broken.2, (d.votes, disk, d.process, at, refl), broken.4, no_bytes old.game sent messages b),
+      tt,
+    )
 
     -- the old file isn't sound
     faulty : (why : VotesRefusal) (answer : Answer Refusal) → IsReturned old disk moved begun left made last why → why ≢ device
         → file_votes (contents version_1) (desk_number old.name) old.game (file_of moved) ≡ Err why → answer_of (Seen.Refused (Cause.Migrate why)) ≡ Some answer
         → (answer ≡ Answer.Unsound) ⊎ (answer ≡ Answer.OtherVersion) → (result ≡ Ok (Seen.Refused (Cause.Migrate why))) × (new ≡ record old { disk = Some last })
         → Outcome MigrateSteps old result new
-    faulty why answer r n fault says which (is, e) = seen_is MigrateSteps old new result (Seen.Refused (Cause.Migrate why)) is steps
-      where
-        steps : (sent : List Datagram) → MigrateSteps sent old (Seen.Refused (Cause.Migrate why)) new
-        steps sent x messages h b =
-            let d = down_at old disk x down there h in
-            let here = m.here in
-            let l = returned why r in
-            let y : Node MemDisk = record x { process = Down d.votes last } in
-            let site = subst (λ (z : Site). HasNode z y) (sym e) (still_down old new disk last down there l.cap x h d (calm_faults why r n)) in
-            let none = ap (votes_shown (contents version_1) old.name old.game) (sym here.file) ∙ ap where_sound fault in
-            let at = subst (λ (v : FileVersion). MigratesAt {Why = Refusal} (ViewAt old) x v d.votes disk answer y) (sym (h.version ∙ version))
-            (NotSound last, (none, l.may FileVersion.Old), (which, refl)) in
-            (y, [], answer, says, (d.votes, disk, d.process, at, refl), site, no_bytes old.game sent messages b)
+    faulty why answer r n fault says which (is, e) = rw is (
+      λ sent x messages h b.
+          let d = down_at old disk x down there h in
+          let l = returned why r in
+          let y : Node MemDisk = record x { process = Down d.votes last } in
+          let none = ap (votes_shown (contents version_1) old.name old.game) (sym m.here.file) ∙ ap where_sound fault in
+          let at = subst (λ (v : FileVersion). MigratesAt {Why = Refusal} (ViewAt old) x v d.votes disk answer y) (sym (h.version ∙ version))
+          (NotSound last, (none, l.0 FileVersion.Old), (which, refl)) in
+          let site : HasNode new y = rw e (still_down old new disk last down there l.1 x h d (calm_faults why r n)) in
+          (y, [], answer, says, (d.votes, disk, d.process, at, refl), site, no_bytes old.game sent messages b),
+      tt,
+    )
 
     pub not_migrated : (why : VotesRefusal) → IsReturned old disk moved begun left made last why → RefusedFor old moved begun why
         → NotFoundBy (wants_memory why) (is_failing why) (Cause.Migrate why) (record old { disk = Some last }) result new → Outcome MigrateSteps old result new
     not_migrated VotesRefusal.NoMemory r f n =
-        let l = returned VotesRefusal.NoMemory r in
-        memory_is MigrateSteps old new result n.0 (syncs old new disk last down there l.cap (l.may old.version) (calm_faults VotesRefusal.NoMemory r (λ q. (cc))) n.1)
+        let l = returned VotesRefusal.NoMemory r in rw n.0 (tt, (refl, syncs old new disk last down there l.1 (l.0 old.version) (calm_faults VotesRefusal.NoMemory r (λ q. (cc))) n.1))
     not_migrated (VotesRefusal.File files.Device) r f n = failing r n
     not_migrated (VotesRefusal.File files.Version) r f n = faulty (VotesRefusal.File files.Version) Answer.OtherVersion r (λ q. (cc)) (fault_of _ (λ q. (cc)) (λ q. (cc)) f) refl (inr refl) n
     not_migrated why r f n = faulty why Answer.Unsound r (λ q. (cc)) (fault_of why (λ q. (cc)) (λ q. (cc)) f) refl (inl refl) n

@@ -43,18 +43,12 @@ pub record IsDown (site : Site) (disk : MemDisk) (x : Node MemDisk) : Type 0 whe
 
 pub down_at : (site : Site) (disk : MemDisk) (x : Node MemDisk) → site.desk ≡ None → site.disk ≡ Some disk → HasNode site x → IsDown site disk x
 down_at site disk x down there h =
-    let p : IsProcess site None (Some disk) x.process = subst (λ (o : Option MemDisk). IsProcess site None o x.process) there
-    (subst (λ (o : Option WorldDesk). IsProcess site o site.disk x.process) down h.process) in
-    let votes = p.1 in
-    record { votes = votes.0; many = votes.1; process = votes.2; on_disk = p.0 }
+    let p = rw (down, there) at h.process in record { votes = p.1.0; many = p.1.1; process = p.1.2; on_disk = p.0 }
 
 -- it stays down on this disk
 pub stays_down : (site : Site) (disk left : MemDisk) (due : Option Fault) (x : Node MemDisk) → site.desk ≡ None → HasNode site x → (d : IsDown site disk x) → cap_of left ≡ cap_of disk
     → IsDue due (faults_of left).due → HasNode (record site { disk = Some left; due = due }) (record x { process = Down d.votes left; due = due })
-stays_down site disk left due x down h d cap faults =
-    let on = d.on_disk in
-    let on_left : IsWorldDisk site.version due left = record { cap = cap ∙ on.cap; faults = faults } in
-    record { version = h.version; process = down_is (record site { disk = Some left; due = due }) left d.votes down refl (sym d.many) on_left; due = refl }
+stays_down site disk left due x down h d cap faults = grind (arith, d.on_disk, d.many)
 
 -- a device call has failed at a desk that is down
 pub broken_down : (old new : Site) (disk left : MemDisk) (x : Node MemDisk) (v : FileVersion) (cause : Cause) (seen : Seen) → old.desk ≡ None → HasNode old x → (d : IsDown old disk x)
@@ -62,11 +56,9 @@ pub broken_down : (old new : Site) (disk left : MemDisk) (x : Node MemDisk) (v :
     → answer_of (Seen.Refused cause) ≡ Some Answer.DeviceFailed → BreaksDown old.due cause (record old { disk = Some left }) seen new
     → (y : Node MemDisk) × (answer : Answer Refusal) × (answer_of seen ≡ Some answer) × StaysDown ((match_of old.game old.innings_a_side).view old.name v) x d.votes left answer y × HasNode new y
 broken_down old new disk left x v cause seen down h d cap calm spent told b =
-    let on = d.on_disk in
-    let has : HasDisk (record old { disk = Some left; due = None }) (Down d.votes left) =
-    record { disk = ap (λ o. disk_at o (Some left)) down; votes = ap (λ o. votes_at o old.votes) down ∙ sym d.many; cap = cap ∙ on.cap } in
+    let has : HasDisk (record old { desk = old.desk; disk = Some left; due = None }) (Down d.votes left) = grind (arith, d.on_disk, d.many) in
     broken old new old.desk (Some left) disk x (Down d.votes left) v (λ fault. StaysDownBy ((match_of old.game old.innings_a_side).view old.name v) x fault d.votes left) cause seen old.due refl h
-    on.faults calm (λ once. stays_down old disk left None x down h d cap (spent once)) has (refl, refl) (λ lowered s. (lowered, refl, s, refl)) told b
+    d.on_disk.faults calm (λ once. stays_down old disk left None x down h d cap (spent once)) has (refl, refl) (λ lowered s. (lowered, refl, s, refl)) told b
 
 -- what comes of opening or migrating: a step of the definitions, or out of memory
 abbrev pub Outcome : (List Datagram → Site → Seen → Site → Type 0) → Site → Result Seen WorldRefusal → Site → Type 0
@@ -76,14 +68,6 @@ Outcome Steps old result new =
 
 abbrev pub OpenSteps : List Datagram → Site → Seen → Site → Type 0
 OpenSteps sent old seen new = SiteSteps (Event.Open old.name) old sent seen new sent
-
-pub seen_is : (Steps : List Datagram → Site → Seen → Site → Type 0) (old new : Site) (result : Result Seen WorldRefusal) (seen : Seen) → result ≡ Ok seen
-    → ((sent : List Datagram) → Steps sent old seen new) → Outcome Steps old result new
-seen_is Steps old new result seen e h = subst (λ (z : Result Seen WorldRefusal). Outcome Steps old z new) (sym e) (h, tt)
-
-pub memory_is : (Steps : List Datagram → Site → Seen → Site → Type 0) (old new : Site) (result : Result Seen WorldRefusal) → result ≡ Err WorldRefusal.NoMemory → SyncsSite old new
-    → Outcome Steps old result new
-memory_is Steps old new result e h = subst (λ (z : Result Seen WorldRefusal). Outcome Steps old z new) (sym e) (tt, (refl, h))
 
 abbrev pub ViewAt : Site → FileVersion → FileView MemDisk
 ViewAt site version = (λ (s : Setting MemDisk Refusal). s.view site.name version) (match_of site.game site.innings_a_side)
@@ -98,23 +82,16 @@ pub opened : (old : Site) (l : WorldDesk) (disk : MemDisk) (left : Option MemDis
     → SiteSteps (Event.Open old.name) old sent (Seen.Opened n) (record old { desk = Some l; disk = left }) sent
 opened old l disk left n sent none down there opens own cap faults many x messages h b =
     let d = down_at old disk x down there h in
-    let on = d.on_disk in
-    let now = subst (λ (v : FileVersion). Opens (ViewAt old v) (RulesAt old) old.name disk (Opened (state_of l))) (sym h.version) opens in
     let y : Node MemDisk = record x { process = Running (state_of l) } in
-    let is : HasNode (record old { desk = Some l; disk = left }) y = grind (arith, on, own) in
-    (y, [], Answer.Opened n, refl, (d.votes, disk, Opened (state_of l), d.process, now, (ap (λ (m : ℕ). Answer.Opened m) many, refl), refl), is, no_bytes old.game sent messages b)
+    let is : HasNode (record old { desk = Some l; disk = left }) y = grind (arith, d.on_disk, own) in
+    (y, [], Answer.Opened n, refl, (d.votes, disk, Opened (state_of l), d.process, rw h.version opens, (ap Answer.Opened many, refl), refl), is, no_bytes old.game sent messages b)
 
 abbrev pub OpenBlame : MemDisk → OpenRefusal → MemDisk → Type 0
 OpenBlame disk why left = BlamesDisk {T = WorldDesk} device ⊤ (Err why) (faults_of disk) (faults_of left)
 
-not_device : (why : OpenRefusal) → why ≢ device → IsErrOf {T = WorldDesk} (Err why) device → ⊥
-not_device why n q = n (cc)
-
 -- a site that stays
 pub stays_so : (old : Site) → SyncsSite old old
-stays_so old x h =
-    let y : Node MemDisk = record x { process = with_disk x.process (process_disk x.process) } in
-    (process_disk x.process, inl (refl, λ image. (λ i. i, λ i. i)), subst (HasNode old) (ap (λ (p : Process MemDisk). record x { process = p }) (sym (same_disk x.process))) h)
+stays_so old x h = (process_disk x.process, inl (refl, λ image. (λ i. i, λ i. i)), rw (same_disk x.process) h)
   where
     same_disk : (p : Process MemDisk) → with_disk p (process_disk p) ≡ p
     same_disk p = grind arith
@@ -127,12 +104,7 @@ module _ (old new : Site) (disk left : MemDisk) (down : old.desk ≡ None) (ther
   -- it isn't opened, and its disk may have been synced
   pub syncs : MaySync (ViewAt old old.version) disk left → faults_of left ≡ faults_of disk → new ≡ record old { disk = Some left } → SyncsSite old new
   syncs may faults e x h =
-      let d = down_at old disk x down there h in
-      let now = subst (λ (v : FileVersion). MaySync (ViewAt old v) disk left) (sym h.version) may in (
-        left,
-        subst (λ (z : Process MemDisk). MaySync (ViewAt old x.version) (process_disk z) left) (sym d.process) now,
-        grind (arith, e, d.process, still_down x h d faults),
-      )
+      let d = down_at old disk x down there h in (left, rw (h.version, d.process) may, grind (arith, e, d.process, still_down x h d faults))
 
   module _ (result : Result Seen WorldRefusal) where
     -- because of what is in the file
@@ -140,36 +112,41 @@ module _ (old new : Site) (disk left : MemDisk) (down : old.desk ≡ None) (ther
         → ((x : Node MemDisk) (votes : List Ballot) → AfterOpen (ViewAt old x.version) x votes (NotOpened told left) answer (record x { process = Down votes left }))
         → faults_of left ≡ faults_of disk → answer_of (Seen.Refused (Cause.Open why)) ≡ Some answer
         → (result ≡ Ok (Seen.Refused (Cause.Open why))) × (new ≡ record old { disk = Some left }) → Outcome OpenSteps old result new
-    not_sound why told answer opens after faults says (r, e) = seen_is OpenSteps old new result (Seen.Refused (Cause.Open why)) r (λ sent x messages h b.
-        let d = down_at old disk x down there h in
-        let is = subst (λ (z : Site). HasNode z (record x { process = Down d.votes left })) (sym e) (still_down x h d faults) in
-        let now = subst (λ (v : FileVersion). Opens (ViewAt old v) (RulesAt old) old.name disk (NotOpened told left)) (sym h.version) opens in
-        (record x { process = Down d.votes left }, [], answer, says, (d.votes, disk, NotOpened told left, d.process, now, after x d.votes, refl), is, no_bytes old.game sent messages b))
+    not_sound why told answer opens after faults says (r, e) = rw r (
+      λ sent x messages h b.
+          let d = down_at old disk x down there h in
+          let now = subst (λ (v : FileVersion). Opens (ViewAt old v) (RulesAt old) old.name disk (NotOpened told left)) (sym h.version) opens in
+          (record x { process = Down d.votes left }, [], answer, says, (d.votes, disk, NotOpened told left, d.process, now, after x d.votes, refl), rw e (still_down x h d faults), no_bytes old.game sent messages b),
+      tt,
+    )
 
     failing : MaySync (ViewAt old old.version) disk left → OpenBlame disk device left
         → (seen : Seen) × (result ≡ Ok seen) × BreaksDown old.due (Cause.Open device) (record old { disk = Some left }) seen new → Outcome OpenSteps old result new
-    failing may blame (seen, r, broke) = seen_is OpenSteps old new result seen r (λ sent x messages h b.
-        let d = down_at old disk x down there h in
-        let broken = broken_down old new disk left x x.version (Cause.Open device) seen down h d cap (λ n. blame.calm n tt refl) (λ o. blame.spent o tt refl) refl broke in
-        let now = subst (λ (v : FileVersion). MaySync (ViewAt old v) disk left) (sym h.version) may in
-        (broken.0, [], broken.1, broken.2, (d.votes, disk, NotOpened openings.OpenRefusal.DeviceFailed left, d.process, now, broken.3, refl), broken.4, no_bytes old.game sent messages b))
+    failing may blame (seen, r, broke) = rw r (
+      λ sent x messages h b.
+          let d = down_at old disk x down there h in
+          let broken = broken_down old new disk left x x.version (Cause.Open device) seen down h d cap (λ n. blame.calm n tt refl) (λ o. blame.spent o tt refl) refl broke in
+          (broken.0, [], broken.1, broken.2, (d.votes, disk, NotOpened openings.OpenRefusal.DeviceFailed left, d.process, rw h.version may, broken.3, refl), broken.4, no_bytes old.game sent messages b),
+      tt,
+    )
 
     -- the votes file refused
     pub not_found : (why : VotesRefusal) → Opens (ViewAt old old.version) (RulesAt old) old.name disk (NotOpened (open_cause (Votes why)) left) → OpenBlame disk (Votes why) left
         → NotFoundBy (wants_memory why) (is_failing why) (Cause.Open (Votes why)) (record old { disk = Some left }) result new → Outcome OpenSteps old result new
-    not_found VotesRefusal.NoMemory o blame n = memory_is OpenSteps old new result n.0 (syncs o (blame.same (not_device (Votes VotesRefusal.NoMemory) (λ q. (cc)))) n.1)
+    not_found VotesRefusal.NoMemory o blame n = rw n.0 (tt, (refl, syncs o (blame.same (λ q. (cc))) n.1))
     not_found (VotesRefusal.File files.Device) o blame n = failing o blame n
-    not_found why o blame n = not_sound (Votes why) openings.OpenRefusal.Unsound Answer.Unsound o (λ x v. (refl, refl)) (blame.same (not_device (Votes why) (λ q. (cc)))) refl n
+    not_found why o blame n = not_sound (Votes why) openings.OpenRefusal.Unsound Answer.Unsound o (λ x v. (refl, refl)) (blame.same (λ q. (cc))) refl n
 
     -- the votes are no book
     pub bad_votes : (place : ℕ) → Opens (ViewAt old old.version) (RulesAt old) old.name disk (NotOpened (openings.OpenRefusal.BadVotes place) left) → OpenBlame disk (BadVotes place) left
         → (result ≡ Ok (Seen.Refused (Cause.Open (BadVotes place)))) × (new ≡ record old { disk = Some left }) → Outcome OpenSteps old result new
     bad_votes place o blame n =
-        not_sound (BadVotes place) (openings.OpenRefusal.BadVotes place) Answer.NoBook o (λ x v. (refl, refl)) (blame.same (not_device (BadVotes place) (λ q. (cc)))) refl n
+        not_sound (BadVotes place) (openings.OpenRefusal.BadVotes place) Answer.NoBook o (λ x v. (refl, refl)) (blame.same (λ q. (cc))) refl n
 
 -- the site after that is of the same match
-pub not_found_same : (memory fails : Bool) (cause : Cause) (old new : Site) (result : Result Seen WorldRefusal) → NotFoundBy memory fails cause old result new → SameSite old new
-not_found_same memory fails cause old new result n = let broken = λ (seen : Seen). broken_same old.due cause old new seen in grind (arith, broken)
+pub not_found_same : (memory fails : Bool) (cause : Cause) (old new : Site) (disk : Option MemDisk) (result : Result Seen WorldRefusal)
+    → NotFoundBy memory fails cause (record old { disk = disk }) result new → SameSite old new
+not_found_same memory fails cause old new disk result n = let broken = λ (seen : Seen). broken_same old.due cause old new old.desk disk seen in grind (arith, broken)
 
 -- a whole site whose desk is down has a disk
 pub some_disk : (desk : Option WorldDesk) (disk : Option MemDisk) → is_some disk ≡ is_none desk → desk ≡ None → (d : MemDisk) × (disk ≡ Some d)

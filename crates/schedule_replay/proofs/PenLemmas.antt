@@ -21,11 +21,17 @@ use Rattle.headline.specs.Match.{match_of}
 use Rattle.schedule_replay.specs.Answers.{AreBytesOf, answer_of, told_to_pen}
 use Rattle.schedule_replay.specs.inner.Sites.{AfterRefusal, RefusedBy, SameSite, SiteSteps}
 use Rattle.world_desks.specs.WorldDesks.{FitsOneMore, SameOwner, disk_of, game_of, rules_of, state_of, view_of}
-use Rattle.schedule_replay.proofs.SiteLemmas.{broken_same, broken_site, has_room, more_bytes, no_bytes, of_match, running_is, runs_on, own_votes}
+use Rattle.schedule_replay.proofs.SiteLemmas.{Runs, broken_same, broken_site, has_room, more_bytes, no_bytes, of_match, running_is, runs_on, own_votes}
 
 abbrev pub PenSteps : WorldDesk → Entry → Result Penned DeskRefusal → WorldDesk → Type 0
 PenSteps k e told l =
     AreSent (game_of k) (sent told) (λ out. Pens (view_of k) (rules_of k) (state_of k) e (pen_answer told) (state_of l) out)
+
+-- the same by the match's names
+penned_as : (old : Site) (k l : WorldDesk) (e : Entry) (told : Result Penned DeskRefusal) (x : Node MemDisk) → Runs old k x → PenSteps k e told l
+    → AreSent old.game (sent told) (λ out. Pens ((match_of old.game old.innings_a_side).view old.name x.version) (match_of old.game old.innings_a_side).rules (state_of k) e (pen_answer told) (state_of l) out)
+penned_as old k l e told x runs step =
+    of_match old k x runs (λ view rules game. AreSent game (sent told) (λ out. Pens view rules (state_of k) e (pen_answer told) (state_of l) out)) step
 
 abbrev pub PenBlame : WorldDesk → Result Penned DeskRefusal → WorldDesk → Type 0
 PenBlame k told l = BlamesDisk DeskRefusal.Device (FitsOneMore k) told (faults_of (disk_of k)) (faults_of (disk_of l))
@@ -41,17 +47,14 @@ pub pen_runs_on : (old : Site) (k l : WorldDesk) (e : Entry) (told : Result Penn
     → map (λ (d : Datagram). d.bytes) after ≡ map (λ (d : Datagram). d.bytes) before ++ sent told → SiteSteps (Event.Pen old.name e) old before seen (record old { desk = Some l }) after
 pen_runs_on old k l e told seen before after here step owner faults n a bytes x messages h b =
     let r = running_is old k x here h in
-    let own = r.owner in
-    let s = match_of old.game old.innings_a_side in
-    let pens = of_match old.name x.version old.game old.innings_a_side k own (λ view rules. Pens view rules (state_of k) e (pen_answer told) (state_of l) step.0) step.3 in
-    let said : sent told ≡ map (written old.game) step.0 = subst (λ (g : ℕ). sent told ≡ map (written g) step.0) own.same_game step.2 in (
+    let penned = penned_as old k l e told x r step in (
       record x { process = Running (state_of l) },
-      step.0,
+      penned.0,
       told_to_pen (pen_answer told),
       a,
-      (state_of k, state_of l, pen_answer told, r.process, pens, after_pen (s.view old.name x.version) x (pen_answer told) (state_of l) n),
+      (state_of k, state_of l, pen_answer told, r.process, penned.3, after_pen ((match_of old.game old.innings_a_side).view old.name x.version) x (pen_answer told) (state_of l) n),
       runs_on old k l x here h owner faults,
-      more_bytes old.game before after messages step.0 (sent told) b step.1 said bytes,
+      more_bytes old.game before after messages penned.0 (sent told) b penned.1 penned.2 bytes,
     )
 
 -- a device call of the desk failed as it penned
@@ -59,15 +62,13 @@ pen_breaks : (old new : Site) (k l : WorldDesk) (e : Entry) (seen : Seen) (befor
     → PenBlame k (Err DeskRefusal.Device) l → AfterRefusal DeskRefusal.Device (record old { desk = Some l }) seen new → SiteSteps (Event.Pen old.name e) old before seen new before
 pen_breaks old new k l e seen before here step owner blame broke x messages h b =
     let r = running_is old k x here h in
+    let penned = penned_as old k l e (Err DeskRefusal.Device) x r step in
     let own = r.owner in
     let disk = r.on_disk in
-    let s = match_of old.game old.innings_a_side in
-    let pens = of_match old.name x.version old.game old.innings_a_side k own (λ view rules. Pens view rules (state_of k) e PenAnswer.DeviceFailed (state_of l) step.0) step.3 in
     let cap : cap_of (disk_of k) ≡ _ = disk.cap ∙ ap Rattle.headline.specs.Match.most_bytes (sym (own.same_version ∙ h.version)) in
-    let within : FitsOneMore k = has_room (Rattle.world_desks.specs.WorldDesks.version_of k) (length (own_votes k)) (cap_of (disk_of k)) pens.0.1.1 cap in
+    let within : FitsOneMore k = has_room (Rattle.world_desks.specs.WorldDesks.version_of k) (length (own_votes k)) (cap_of (disk_of k)) penned.3.0.1.1 cap in
     let broken = broken_site old new k l x (Cause.Desk DeskRefusal.Device) seen here h owner (λ n. blame.calm n within refl) (λ o. blame.spent o within refl) refl broke in
-    let bytes : AreBytesOf old.game before (messages ++ step.0) = rw pens.3 (no_bytes old.game before messages b) in
-    (broken.0, step.0, broken.1, broken.2, (state_of k, state_of l, PenAnswer.DeviceFailed, r.process, pens, broken.3), broken.4, bytes)
+    (broken.0, penned.0, broken.1, broken.2, (state_of k, state_of l, PenAnswer.DeviceFailed, r.process, penned.3, broken.3), broken.4, rw penned.3.3 (no_bytes old.game before messages b))
 
 pub pen_refused : (old new : Site) (k l : WorldDesk) (e : Entry) (why : DeskRefusal) (seen : Seen) (before : List Datagram) → old.desk ≡ Some k → PenSteps k e (Err why) l → SameOwner k l
     → PenBlame k (Err why) l → AfterRefusal why (record old { desk = Some l }) seen new → SiteSteps (Event.Pen old.name e) old before seen new before
@@ -77,5 +78,5 @@ pen_refused old new k l e why seen before here step owner blame a =
     (sym (append-nil (map (λ (d : Datagram). d.bytes) before))))
 
 -- the site after a refusal is of the same match
-pub refused_same : (device : Bool) (why : DeskRefusal) (old new : Site) (seen : Seen) → RefusedBy device why old seen new → SameSite old new
-refused_same device why old new seen q = grind (arith, broken_same old.due (Cause.Desk why) old new seen)
+pub refused_same : (device : Bool) (why : DeskRefusal) (old new : Site) (l : WorldDesk) (seen : Seen) → RefusedBy device why (record old { desk = Some l }) seen new → SameSite old new
+refused_same device why old new l seen q = grind (arith, broken_same old.due (Cause.Desk why) old new (Some l) old.disk seen)

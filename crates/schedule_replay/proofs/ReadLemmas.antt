@@ -1,5 +1,6 @@
 -- Of a file's votes the first are the desk's.
 use Rattle.std.proofs.Common.{◌≡◌, ◌≤◌, ◌-◌, ℕ, Option, Some, List, [], ◌∷◌, ◌++◌, length, drop, refl, ap, ◌∙◌, inl, inr, arith, length-append}
+use Rattle.std.proofs.Math.Seq.{drop-append_seam}
 use Rattle.entry_log.specs.Format.{contents}
 use Rattle.entry_log.specs.MemDisk.{file_of}
 use Rattle.entry_log.specs.declared.mem_disk.MemDisk.{MemDisk}
@@ -18,28 +19,16 @@ use Rattle.agree_core.specs.Keeping.{ShowsMore}
 use Rattle.headline.proofs.Keeping.{Fine, fine_disk, node_fine}
 use Rattle.schedule_replay.proofs.SiteLemmas.{site_disk}
 
-drop_front : (later votes : List Ballot) → drop (length later) (later ++ votes) ≡ votes
-drop_front [] votes = refl
-drop_front (b ∷ later) votes = drop_front later votes
-
-pub first_are : (later votes found : List Ballot) (n : ℕ) → found ≡ later ++ votes → n ≡ length votes → oldest n found ≡ votes
+first_are : (later votes found : List Ballot) (n : ℕ) → found ≡ later ++ votes → n ≡ length votes → (n ≤ length found) × (oldest n found ≡ votes)
 first_are later votes found n e size =
-    let many : length found - n ≡ length later = let l = ap length e in omega (arith, l, size, length-append later votes) in
-    (λ i. drop (many i) (e i)) ∙ drop_front later votes
-
-pub no_more : (later votes found : List Ballot) (n : ℕ) → found ≡ later ++ votes → n ≡ length votes → n ≤ length found
-no_more later votes found n e size = let l = ap length e in omega (arith, l, size, length-append later votes)
+    let many : length (later ++ votes) - n ≡ length later = omega (arith, size, length-append later votes) in
+    rw e (omega (arith, size, length-append later votes), rw many (drop-append_seam later votes))
 
 -- a desk that is put down still reads so
 pub put_down_reads : (old new : Site) (disk : MemDisk) (x : Node MemDisk) → HasNode old x → SiteReads old.game old.innings_a_side old.name x
     → PutsDown old new → new.disk ≡ Some disk → (later : List Ballot) ×
     (votes_shown (contents (format_of new.version)) new.name new.game (file_of disk) ≡ Some (later ++ process_votes x.process))
-put_down_reads old new disk x h reads put there =
-    let has = site_disk old x h in
-    let d = put.disk in
-    let same = put.same in
-    let plan = d.4 in
-    (reads.0, grind (arith, has.disk, put.version, h.version, same.name, same.same_game, plan.file, d.2, d.3, there, reads.1))
+put_down_reads old new disk x h reads put there = (reads.0, grind (arith, site_disk old x h, h.version, put, reads.1))
 
 -- and the first of the votes found are the desk's
 pub put_down_votes : (old new : Site) (disk : MemDisk) (x : Node MemDisk) (found : List Ballot) → HasNode old x
@@ -49,18 +38,13 @@ pub put_down_votes : (old new : Site) (disk : MemDisk) (x : Node MemDisk) (found
 put_down_votes old new disk x found h reads put there shows =
     let has = site_disk old x h in
     let read = put_down_reads old new disk x h reads put there in
-    let votes = process_votes x.process in
-    let e : found ≡ read.0 ++ votes = grind (arith, shows, read.1) in
-    let size : new.votes ≡ length votes = put.counted ∙ has.votes in
-    (no_more read.0 votes found new.votes e size, first_are read.0 votes found new.votes e size)
+    first_are read.0 (process_votes x.process) found new.votes (grind (arith, shows, read.1)) (put.counted ∙ has.votes)
 
 -- what the match's file of a desk shows, its site reads by its own names
 pub of_names : (code : World) (d : DeskId) (w : Configuration MemDisk) → HasConfiguration code w → FilesRead code.game code.innings_a_side w
     → SiteReads (code_site code d).game (code_site code d).innings_a_side (code_site code d).name (node w d)
 of_names code d w h reads =
-    let names = h.named d in
-    let r = reads d in
-    (r.0, (λ i. votes_shown (contents (format_of (node w d).version)) (names.same_name i) (names.same_game i) (file_of (process_disk (node w d).process))) ∙ r.1)
+    let names = h.named d in rw (names.same_name, names.same_game) (reads d)
 
 -- in a run what is read has the votes, and perhaps one more
 pub files_read : (game innings : ℕ) (w : Configuration MemDisk) → Fine (match_of game innings) w → FilesRead game innings w

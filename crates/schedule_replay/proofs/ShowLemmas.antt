@@ -29,18 +29,12 @@ use Rattle.headline.proofs.Scores.{one_standing}
 one_shown : (o : Option (ℕ × List Entry)) (n m : ℕ) (score other : Standing) → BookShows o n score → BookShows o m other
     → (m ≡ n) × (other ≡ score)
 one_shown None n m score other p q = absurd p
-one_shown (Some b) n m score other p q =
-    let first = p.1 in
-    let second = q.1 in
-    (q.0 ∙ sym p.0, one_standing other score b.0 (history_of b.1) second.score first.score)
+one_shown (Some b) n m score other p q = (q.0 ∙ sym p.0, one_standing other score b.0 (history_of b.1) q.1.score p.1.score)
 
 -- the length and the score of a book that are noted are all that is shown of it
 pub adds_book : (u : Station) (o : Option (ℕ × List Entry)) (m : ℕ) (score : Standing) (old new : List Shown) → BookShows o m score
     → Adds u (λ n s. (n ≡ m) × (s ≡ score)) old new → Adds u (BookShows o) old new
-adds_book u o m score old new p h t n s = (
-  λ c. elim ((h t n s).0 c) [ inl x ↦ inl x | inr e ↦ inr (e.0, rw (e.1.0, e.1.1) p) ],
-  λ c. (h t n s).1 (elim c [ inl x ↦ inl x | inr e ↦ inr (e.0, one_shown o m n score s p e.1) ]),
-)
+adds_book u o m score old new p h t n s = grind (arith, h t n s, one_shown o m n score s p)
 
 -- what is shown is just this book, or nothing
 abbrev OneBook : (List Entry → Type 0) → ℕ → Option (ℕ × List Entry) → Type 0
@@ -97,16 +91,13 @@ code_shows code w t n score h = book_shows (Shows w t) code.innings_a_side (code
 pub code_scored : (code : World) (w : Configuration MemDisk) → HaveScores code → HasConfiguration code w → AllHaveScores code.innings_a_side w
 code_scored code w d h t book s = book_scored (Shows w t) code.innings_a_side (code_book code t) book (shows_one code w t h) (d t) s
 
-split : (i n : ℕ) → i < n + 1 → (i < n) ⊎ (i ≡ n)
-split i n l = grind (arith, l)
-
 -- each board below this number has a score
 abbrev pub ScoredBelow : World → ℕ → Type 0
 ScoredBelow code n = (i : ℕ) → i < n → BookHasScore (board_book (slice_get code.boards.items i))
 
 pub scored_next : (code : World) (n : ℕ) (k : MatchBoard) → ScoredBelow code n → slice_get code.boards.items n ≡ Some k
     → BookHasScore (board_book (Some k)) → ScoredBelow code (n + 1)
-scored_next code n k h there has i less = elim (split i n less) [ inl l ↦ h i l | inr e ↦ rw (e, there) has ]
+scored_next code n k h there has i less = grind (arith, h i)
 
 pub all_scored : (code : World) (n : ℕ) → length code.boards.items ≤ n → BookHasScore (desk_book code.a.desk)
     → BookHasScore (desk_book code.b.desk) → ScoredBelow code n → HaveScores code
@@ -116,13 +107,15 @@ shows_from_one : (code : World) (t : Station) (n : ℕ) (score : Standing) → C
 shows_from_one code t n score h = grind arith
 
 -- the stations below this number are noted
-abbrev pub NotedBelow : World → ℕ → List Shown → List Shown → Type 0
-NotedBelow code k old new =
-    (t : Station) (n : ℕ) (score : Standing)
-    → Contains new (t, n, score) ↔ (Contains old (t, n, score) ⊎ (CodeShows code t n score × (station_number t < k)))
+pub record NotedBelow (code : World) (k : ℕ) (old new : List Shown) : Type 0 where
+  pub noted : (t : Station) (n : ℕ) (score : Standing)
+      → Contains new (t, n, score) ↔ (Contains old (t, n, score) ⊎ (CodeShows code t n score × (station_number t < k)))
 
 pub none_noted : (code : World) (old : List Shown) → NotedBelow code 0 old old
-none_noted code old t n score = (inl, λ c. elim c [ inl o ↦ o | inr e ↦ absurd (omega (arith, e.1)) ])
+none_noted code old = record { noted = λ t n score. grind arith }
+
+split : (i n : ℕ) → i < n + 1 → (i < n) ⊎ (i ≡ n)
+split i n l = grind (arith, l)
 
 -- what is added to what was added before
 added_more : {Old Mid New Shows Below Here Next : Type 0} → Mid ↔ (Old ⊎ (Shows × Below)) → New ↔ (Mid ⊎ Here) → (Here → Shows × Next)
@@ -130,38 +123,31 @@ added_more : {Old Mid New Shows Below Here Next : Type 0} → Mid ↔ (Old ⊎ (
 added_more h a here below either = grind (arith, h, a, here, below, either)
 
 -- and the next one is, by this name
-pub noted_next : (code : World) (k l : ℕ) (u v : Station) (old mid new : List Shown) → FromOne u → station_number u ≡ k → l ≡ k + 1 → v ≡ u
+pub noted_next : {code : World} {k l : ℕ} {u v : Station} {old mid new : List Shown} → FromOne u → station_number u ≡ k → l ≡ k + 1 → v ≡ u
     → NotedBelow code k old mid → Adds v (CodeShows code u) mid new → NotedBelow code l old new
-noted_next code k l u v old mid new f number next is h a t n score = added_more (h t n score) (a t n score)
-    (λ e. (rw (e.0 ∙ is) e.1, let same = ap station_number (e.0 ∙ is) in omega arith))
-    (λ less. omega arith)
-    (λ c less. elim (split (station_number t) k (omega arith)) [
-      | inl below ↦ inl below
-      | inr same ↦
-          let e = same_station t u (shows_from_one code t n score c) f (same ∙ sym number) in
-          inr (e ∙ sym is, rw e at c)
-    ])
+noted_next {code = code} {k = k} {u = u} f number next is h a = record {
+  noted = λ t n score. added_more (h.noted t n score) (a t n score)
+      (λ e. (rw (e.0 ∙ is) e.1, let same = ap station_number (e.0 ∙ is) in omega arith))
+      (λ less. omega arith)
+      (λ c less. elim (split (station_number t) k (omega arith)) [
+        | inl below ↦ inl below
+        | inr same ↦ let e = same_station t u (shows_from_one code t n score c) f (same ∙ sym number) in inr (e ∙ sym is, rw e at c)
+      ]);
+}
 
 -- what stands there of a station that is to be noted has the score that it shows
-pub one_noted : (code : World) (w : Configuration MemDisk) (k : ℕ) (u v : Station) (old mid : List Shown) → v ≡ u → IsNotable code old w
+pub one_noted : {code : World} {w : Configuration MemDisk} {k : ℕ} {u v : Station} {old mid : List Shown} → v ≡ u → IsNotable code old w
     → NotedBelow code k old mid → (n : ℕ) (score other : Standing) → Contains mid (v, n, other) → CodeShows code u n score → other ≡ score
-one_noted code w k u v old mid is h noted n score other c shows = elim ((noted u n other).0 (rw is at c)) [
+one_noted {code = code} {w = w} {u = u} is h below n score other c shows = elim ((below.noted u n other).0 (rw is at c)) [
   | inl o ↦ h.one_score u n score other o ((code_shows code w u n score h.has_configuration).1 shows)
   | inr e ↦ (one_shown (code_book code u) n n score other shows e.0).1
 ]
 
-pub few_boards : (code : World) (old : List Shown) (w : Configuration MemDisk) → IsNotable code old w → length code.boards.items ≤ 4
-few_boards code old w h =
-    let is = h.has_configuration in
-    let few = h.few_boards in
-    let same = ap length is.board_states ∙ length-map code.boards.items board_state in
-    omega (arith, few, same)
-
 -- once both desks and all boards are noted, all is
-pub all_noted : (code : World) (k : ℕ) (old new : List Shown) → length code.boards.items + 2 ≤ k → NotedBelow code k old new → Notes code old new
-all_noted code k old new enough h w is t n score = (
-  λ c. elim ((h t n score).0 c) [ inl o ↦ inl o | inr e ↦ inr ((code_shows code w t n score is).1 e.0) ],
-  λ c. (h t n score).1 (elim c [
+pub all_noted : {code : World} {k : ℕ} {old new : List Shown} → length code.boards.items + 2 ≤ k → NotedBelow code k old new → Notes code old new
+all_noted {code = code} {k = k} enough h w is t n score = (
+  λ c. elim ((h.noted t n score).0 c) [ inl o ↦ inl o | inr e ↦ inr ((code_shows code w t n score is).1 e.0) ],
+  λ c. (h.noted t n score).1 (elim c [
     | inl o ↦ inl o
     | inr s ↦ let p = (code_shows code w t n score is).0 s in inr (p, small t p)
   ]),
@@ -171,15 +157,12 @@ all_noted code k old new enough h w is t n score = (
     small t p = grind (arith, slice_get_cases code.boards.items)
 
 -- a desk is noted by its own name, and a board by its number
-pub desk_name : (code : World) (old : List Shown) (w : Configuration MemDisk) (d : DeskId) → IsNotable code old w
-    → Station.Desk (code_site code d).name ≡ Station.Desk d
-desk_name code old w d h = let is = h.has_configuration in let own = is.named d in ap Station.Desk own.same_name
+pub desk_name : {code : World} {old : List Shown} {w : Configuration MemDisk} (d : DeskId) → IsNotable code old w → Station.Desk (code_site code d).name ≡ Station.Desk d
+desk_name d h = let own = h.has_configuration.named d in ap Station.Desk own.same_name
 
-pub desk_noted : (code : World) (w : Configuration MemDisk) (k : ℕ) (d : DeskId) (old mid new : List Shown) → IsNotable code old w
-    → station_number (Station.Desk d) ≡ k → NotedBelow code k old mid
-    → Adds (Station.Desk (code_site code d).name) (CodeShows code (Station.Desk d)) mid new → NotedBelow code (k + 1) old new
-desk_noted code w k d old mid new h number noted =
-    noted_next code k (k + 1) (Station.Desk d) _ old mid new tt number refl (desk_name code old w d h) noted
+pub desk_noted : {code : World} {w : Configuration MemDisk} {k : ℕ} {old mid new : List Shown} (d : DeskId) → IsNotable code old w → station_number (Station.Desk d) ≡ k
+    → NotedBelow code k old mid → Adds (Station.Desk (code_site code d).name) (CodeShows code (Station.Desk d)) mid new → NotedBelow code (k + 1) old new
+desk_noted d h number below = noted_next {u = Station.Desk d} tt number refl (desk_name d h) below
 
 pub board_name : (i : ℕ) → Station.Board (i + 1) ≡ Station.Board (suc i)
 board_name i = let e : i + 1 ≡ suc i = omega arith in ap Station.Board e

@@ -29,15 +29,10 @@ use Rattle.headline.specs.DeskFaults.{Breaks, BreaksBy}
 use Rattle.headline.specs.Match.{format_of, match_of, most_bytes}
 use Rattle.schedule_replay.specs.Answers.{AreBytesOf, answer_of}
 use Rattle.schedule_replay.specs.inner.Sites.{BreaksDown, IsDue, IsProcess, HasNode, IsWorldDisk, PutsDown, SameSite, disk_at, votes_at}
-use Rattle.world_desks.specs.WorldDesks.{IsWorldDeskOf, SameOwner, disk_of, rules_of, state_of, view_of}
+use Rattle.world_desks.specs.WorldDesks.{IsWorldDeskOf, SameOwner, disk_of, game_of, rules_of, state_of, view_of}
 
 abbrev pub own_votes : WorldDesk → List Ballot
 own_votes k = (λ (s : DeskState MemDisk). s.votes) (state_of k)
-
--- what is said of its own view and rules is said of the match's
-pub of_match : (name : DeskId) (version : FileVersion) (game innings : ℕ) (k : WorldDesk) → IsWorldDeskOf name version game innings k → (P : FileView MemDisk → Rules Refusal → Type 0)
-    → P (view_of k) (rules_of k) → P ((match_of game innings).view name version) (match_of game innings).rules
-of_match name version game innings k o P p = rw (← o.same_name, ← o.same_version, ← o.same_game, ← o.same_innings) p
 
 -- a site whose desk runs
 pub record Runs (site : Site) (k : WorldDesk) (x : Node MemDisk) : Type 0 where
@@ -48,6 +43,11 @@ pub record Runs (site : Site) (k : WorldDesk) (x : Node MemDisk) : Type 0 where
 
 pub running_is : (site : Site) (k : WorldDesk) (x : Node MemDisk) → site.desk ≡ Some k → HasNode site x → Runs site k x
 running_is site k x here h = grind arith
+
+-- what is said of its own view, rules and game is said of the match's
+pub of_match : (site : Site) (k : WorldDesk) (x : Node MemDisk) → Runs site k x → (P : FileView MemDisk → Rules Refusal → ℕ → Type 0) → P (view_of k) (rules_of k) (game_of k)
+    → P ((match_of site.game site.innings_a_side).view site.name x.version) (match_of site.game site.innings_a_side).rules site.game
+of_match site k x r P p = let o = r.owner in rw (← o.same_name, ← o.same_version, ← o.same_game, ← o.same_innings) p
 
 -- the site with its desk after a call, whatever is due now
 pub runs_again : (site : Site) (k l : WorldDesk) (due : Option Fault) (x : Node MemDisk) → site.desk ≡ Some k → HasNode site x → SameOwner k l → IsDue due (faults_of (disk_of l)).due
@@ -71,14 +71,15 @@ no_bytes game sent messages b = rw append-nil b
 -- what a tick hands out
 pub ticked : (game : ℕ) (Step : List Message → Type 0) (n : ℕ) (out before after : List Datagram) (messages : List Message) → (sent : AreSent game (map (λ (d : Datagram). d.bytes) out) Step)
     → n ≡ length out → after ≡ before ++ out → AreBytesOf game before messages → (n ≡ length sent.0) × AreBytesOf game after (messages ++ sent.0)
-ticked game Step n out before after messages sent long added b = (
-  long ∙ sym (length-map out (λ (d : Datagram). d.bytes)) ∙ ap length sent.2 ∙ length-map sent.0 (written game),
-  more_bytes game before after messages sent.0 (map (λ (d : Datagram). d.bytes) out) b sent.1 sent.2 (ap (map (λ (d : Datagram). d.bytes)) added ∙ map-append (λ (d : Datagram). d.bytes) before out),
-)
+ticked game Step n out before after messages sent long added b =
+    let bytes = λ (d : Datagram). d.bytes in (
+      grind (arith, length-map out bytes, length-map sent.0 (written game), ap length sent.2),
+      more_bytes game before after messages sent.0 (map bytes out) b sent.1 sent.2 (rw added (map-append bytes before out)),
+    )
 
 -- one datagram more
 pub pushed : (old new : List Datagram) (d : Datagram) → new ≡ old ++ d ∷ [] → map (λ (d : Datagram). d.bytes) new ≡ map (λ (d : Datagram). d.bytes) old ++ d.bytes ∷ []
-pushed old new d e = ap (map (λ (d : Datagram). d.bytes)) e ∙ map-append (λ (d : Datagram). d.bytes) old (d ∷ [])
+pushed old new d e = rw e (map-append (λ (d : Datagram). d.bytes) old (d ∷ []))
 
 -- a disk that shows the same, with other calls to fail
 pub sets_plan_stays : (name : DeskId) (version : FileVersion) (game : ℕ) (plan : Plan) (old new : MemDisk) → SetsPlan plan old new
@@ -115,7 +116,7 @@ pub put_down_is : (old new : Site) (p : Process MemDisk) → HasDisk old p → o
 put_down_is old new p h due put =
     let d = put.disk in
     let there : d.0 ≡ process_disk p = let z = sym h.disk ∙ d.2 in cc in
-    let plan = subst (λ (z : MemDisk). SetsPlan Calm z d.1) there d.4 in
+    let plan : SetsPlan Calm (process_disk p) d.1 = rw there at d.4 in
     let on : IsWorldDisk new.version new.due d.1 = grind (arith, ap (due_of (call_count d.1)) plan.plan) in
     (d.1, d.3, plan, down_is new d.1 (process_votes p) put.desk d.3 (put.counted ∙ h.votes) on)
 
@@ -128,11 +129,9 @@ pub broken : (old new : Site) (desk : Option WorldDesk) (disk : Option MemDisk) 
     → By Stop Answer.Stopped (record x { process = Down (process_votes p) left; due = None }))
     → answer_of (Seen.Refused cause) ≡ Some Answer.DeviceFailed → BreaksDown due cause (record old { desk = desk; disk = disk }) seen new
     → (y : Node MemDisk) × (answer : Answer Refusal) × (answer_of seen ≡ Some answer) × ((fault : Fault) × (x.due ≡ Some fault) × By fault answer y) × HasNode new y
-broken old new desk disk before x p version By cause seen None d h due calm again has fails stops told b = absurd (calm (subst (λ (z : Option Fault). IsDue z (faults_of before).due) d due))
+broken old new desk disk before x p version By cause seen None d h due calm again has fails stops told b = absurd (calm (rw d at due))
 broken old new desk disk before x p version By cause seen (Some Fail) d h due calm again has fails stops told b =
-    let y : Node MemDisk = record x { process = p; due = None } in
-    let is : HasNode new y = rw b.1 (again (subst (λ (z : Option Fault). IsDue z (faults_of before).due) d due)) in
-    (y, Answer.DeviceFailed, ap answer_of b.0 ∙ told, (Fail, h.due ∙ d, fails), is)
+    (record x { process = p; due = None }, Answer.DeviceFailed, rw b.0 told, (Fail, h.due ∙ d, fails), rw b.1 (again (rw d at due)))
 broken old new desk disk before x p version By cause seen (Some Stop) d h due calm again has fails stops told b =
     let put = b.1 in
     let down = put_down_is (record old { desk = desk; disk = disk; due = None }) new p has refl put in
@@ -153,13 +152,13 @@ broken_site old new k l x cause seen here h o calm spent told b =
     (record { disk = refl; votes = refl; cap = o.cap ∙ disk.cap }) (refl, refl) (λ left s. (left, refl, s, refl)) told b
 
 -- the site after that is of the same match
-pub broken_same : (due : Option Fault) (cause : Cause) (old new : Site) (seen : Seen) → BreaksDown due cause old seen new → SameSite old new
-broken_same due cause old new seen q = grind arith
+pub broken_same : (due : Option Fault) (cause : Cause) (old new : Site) (desk : Option WorldDesk) (disk : Option MemDisk) (seen : Seen)
+    → BreaksDown due cause (record old { desk = desk; disk = disk }) seen new → SameSite old new
+broken_same due cause old new desk disk seen q = grind arith
 
 -- the file has room for one vote more
 pub has_room : (version : FileVersion) (n cap : ℕ) → n < most_votes → cap ≡ most_bytes version → room (format_of version) (n + 1) ≤ cap
-has_room FileVersion.Old n cap h e = let e' : cap ≡ 524321 = e in omega arith
-has_room FileVersion.New n cap h e = let e' : cap ≡ 1048641 = e in omega arith
+has_room version n cap h e = grind arith
 
 pub some_is : (o : Option WorldDesk) → IsSome o → (k : WorldDesk) × (o ≡ Some k)
 some_is (Some k) h = (k, refl)

@@ -29,8 +29,4 @@ sending_grows event e = grind arith
 -- an event that isn't taken
 pub refused : (event : Event) (old : Site) (sent roomy : List Datagram) (why : WorldRefusal) → roomy ≡ sent
     → (site_cause old sent event ≡ Some why) ⊎ ((site_cause old sent event ≡ None) × (why ≡ WorldRefusal.NoMemory) × (may_send event ≡ true)) → SiteTakes event old sent (Err why) old roomy
-refused event old sent roomy why e (inl cause) = (e, inl (cause, refl))
-refused event old sent roomy why e (inr (cause, want, sends)) = (e, inr (cause, want, sending_grows event sends, left event))
-  where
-    left : (event : Event) → SiteLeft event old old
-    left event = grind (arith, stays_so old)
+refused event old sent roomy why e c = grind (arith, sending_grows event, stays_so old)

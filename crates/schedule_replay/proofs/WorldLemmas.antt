@@ -63,21 +63,15 @@ SiteGives x messages event seen new after name game innings =
     (y : Node MemDisk) × (out : List Message) × (answer : Answer Refusal) × (answer_of seen ≡ Some answer)
     × AtDesk (match_of game innings) messages name event x answer y out × HasNode new y × AreBytesOf game after (messages ++ out)
 
-desk_eq : (c d : DeskId) → Station.Desk c ≡ Station.Desk d → d ≡ c
-desk_eq c d q = cc
-
 -- what the site plans is planned in the world
 plans : (d : DeskId) (w : Configuration MemDisk) (site : Site) (y : Node MemDisk) (out : List Message) (event : Event) → station_of event ≡ Station.Desk d → HasNode site y
     → HasPlan event (disk_at site.desk site.disk) → LeavesPlan event (with_node w d y out)
 plans d w site y out event e i h c q = grind (arith, site_disk site y i)
 
 -- what stays due at the site stays so in the world
-stays_due : (old new : Site) (x y : Node MemDisk) → HasNode old x → HasNode new y → KeepsDue old new → StaysDue y.due (Some (process_disk x.process)) (Some (process_disk y.process))
-stays_due old new x y h i keeps fault due = grind (arith, site_disk old x h, site_disk new y i)
-
-counts : (d : DeskId) (w : Configuration MemDisk) (y : Node MemDisk) (out : List Message) → StaysDue y.due (Some (process_disk (node w d).process)) (Some (process_disk y.process)) → (c : DeskId)
+counts : (d : DeskId) (w : Configuration MemDisk) (old new : Site) (y : Node MemDisk) (out : List Message) → HasNode old (node w d) → HasNode new y → KeepsDue old new → (c : DeskId)
     → StaysDue (node (with_node w d y out) c).due (Some (process_disk (node w c).process)) (Some (process_disk (node (with_node w d y out) c).process))
-counts d w y out h c = grind arith
+counts d w old new y out h i keeps c fault due = grind (arith, site_disk old (node w d) h, site_disk new y i, keeps fault)
 
 -- an event that a site has taken
 pub desk_steps : (d : DeskId) (old new : World) (site : Site) (event : Event) (seen : Seen) → station_of event ≡ Station.Desk d → Changes d old new site
@@ -85,23 +79,17 @@ pub desk_steps : (d : DeskId) (old new : World) (site : Site) (event : Event) (s
     → StepsTo event old seen new
 desk_steps d old new site event seen e c takes planned counted w h =
     let names = h.named d in
-    let here = code_site old d in
-    let own : AreBytesOf here.game old.sent.items w.sent = rw names.same_game h.bytes in
-    let given = at_site d old.game old.innings_a_side here names (λ n g i. SiteGives (node w d) w.sent event seen site new.sent.items n g i) (takes.1 (node w d) w.sent (h.sites d) own) in
-    let after : Configuration MemDisk = with_node w d given.0 given.1 in
-    let step : StepAt (match_of old.game old.innings_a_side) w event (station_of event) given.2 after =
-    subst (λ (t : Station). StepAt (match_of old.game old.innings_a_side) w event t given.2 after) (sym e) (given.0, given.1, given.4, refl) in
-    let put_there = put d old new site w given.0 given.1 c h given.5 given.6 in (
+    let given = at_site d old.game old.innings_a_side (code_site old d) names (λ n g i. SiteGives (node w d) w.sent event seen site new.sent.items n g i)
+    (takes.1 (node w d) w.sent (h.sites d) (rw names.same_game h.bytes)) in (
       cause_is d old w event e h ∙ takes.0,
       (
         given.2,
-        after,
+        with_node w d given.0 given.1,
         given.3,
-        step,
-        put_there,
+        rw e (given.0, given.1, given.4, refl),
+        put d old new site w given.0 given.1 c h given.5 given.6,
         plans d w site given.0 given.1 event e given.5 planned,
-        λ none.
-            counts d w given.0 given.1 (stays_due here site (node w d) given.0 (h.sites d) given.5 (counted none)),
+        λ none. counts d w (code_site old d) site given.0 given.1 (h.sites d) given.5 (counted none),
       ),
     )
 
@@ -109,22 +97,19 @@ desk_steps d old new site event seen e c takes planned counted w h =
 synced : (d c : DeskId) (old new : World) (site : Site) (w : Configuration MemDisk) → c ≡ d → Changes d old new site → SyncsSite (code_site old d) site → new.sent.items ≡ old.sent.items
     → HasConfiguration old w → (v : Configuration MemDisk) × MaySyncAt (match_of old.game old.innings_a_side) w c v × HasConfiguration new v
 synced d c old new site w q change syncs items h =
-    let names = h.named d in
-    let here = code_site old d in
-    let k = syncs (node w d) (h.sites d) in
     let x : Node MemDisk = node w d in
-    let may = at_site d old.game old.innings_a_side here names (λ n g i. MaySync ((match_of g i).view n x.version) (process_disk x.process) k.0) k.1 in
-    let y : Node MemDisk = record x { process = with_disk x.process k.0 } in (
-      with_node w d y [],
+    let k = syncs x (h.sites d) in
+    let may = at_site d old.game old.innings_a_side (code_site old d) (h.named d) (λ n g i. MaySync ((match_of g i).view n x.version) (process_disk x.process) k.0) k.1 in (
+      with_node w d (record x { process = with_disk x.process k.0 }) [],
       rw q (k.0, may, refl),
-      put d old new site w y [] change h k.2 (rw (append-nil, items) h.bytes),
+      put d old new site w _ [] change h k.2 (rw (append-nil, items) h.bytes),
     )
 
 -- what being out of memory leaves
 left : (d : DeskId) (old new : World) (site : Site) (event : Event) (w : Configuration MemDisk) → station_of event ≡ Station.Desk d → Changes d old new site → SiteLeft event (code_site old d) site
     → new.sent.items ≡ old.sent.items → HasConfiguration old w → (v : Configuration MemDisk) × LeftByWant (match_of old.game old.innings_a_side) w event v × HasConfiguration new v
-left d old new site (Event.Open c) w e change l items h = synced d c old new site w (sym (desk_eq c d e)) change l items h
-left d old new site (Event.Migrate c) w e change l items h = synced d c old new site w (sym (desk_eq c d e)) change l items h
+left d old new site (Event.Open c) w e change l items h = synced d c old new site w (cc) change l items h
+left d old new site (Event.Migrate c) w e change l items h = synced d c old new site w (cc) change l items h
 left d old new site _ w e change l items h = (w, refl, stays d old new site w change l items h)
 
 -- an event that a site hasn't taken

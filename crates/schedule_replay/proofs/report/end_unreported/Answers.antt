@@ -12,11 +12,9 @@ loop-number-preserved c = (
   λ game innings boards version taken.
       takes_on c.in_default.field-0 c.loop-number-test.true c.index-events-number.is (c.loop-number.invariant.0 game innings boards version taken)
       c.in_default.ensures.step c.in_default.ensures.same,
-  (let less = c.loop-number-test.true in omega arith),
+  omega (arith, c.loop-number-test.true),
 )
 
 pub returns : goal.returns
 returns c = λ game innings boards version taken.
-    let most = c.loop-number.invariant.1 in
-    let least = c.loop-number-test.false in
-    ends_unreported (omega arith) (c.loop-number.invariant.0 game innings boards version taken)
+    let m = c.loop-number.invariant in ends_unreported (omega (arith, m.1, c.loop-number-test.false)) (m.0 game innings boards version taken)

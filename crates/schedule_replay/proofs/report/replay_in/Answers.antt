@@ -1,8 +1,7 @@
-use Rattle.std.proofs.Common.{◌≡◌, ◌∙◌, Result, Ok, Err, OnOk, false, sym, arith}
+use Rattle.std.proofs.Common.{◌≡◌, ◌∙◌, Result, Ok, Err, OnOk, [], false, refl, sym, arith}
 use Rattle.std.specs.Prelude.{is_err}
 use Rattle.schedule_replay.specs.declared.report.Report.{Report}
-use Rattle.schedule_replay.proofs.ReplayLemmas.{all_read, begins_taken, ends_at, ends_unreported, first_notable, first_noted, goes_on, has_taken, next_notable}
-use Rattle.schedule_replay.proofs.ReplayLemmas.{next_noted, own_match, reported, takes_on}
+use Rattle.schedule_replay.proofs.ReplayLemmas.{all_read, begins_taken, ends_at, ends_unreported, goes_on, has_taken, notable, noted, own_match, reported, starts, takes_on}
 use Rattle.schedule_replay.proofs.report.replay_in.Goals as goal
 
 noted_ok : {T E P : Type 0} (r : Result T E) → is_err r ≡ false → OnOk r P → P
@@ -11,7 +10,7 @@ noted_ok (Err fault) e h = absurd (cc)
 
 pub note-requires-clause-notable : goal.note-requires-clause-notable
 note-requires-clause-notable c =
-    first_notable c.args.world _ c.requires.boards (own_match c.args.world c.requires.new) c.in-Ok.ensures.empty
+    notable (starts {events = []} {outcomes = []} (own_match c.args.world c.requires.new) refl c.in-Ok.ensures.empty) c.requires.boards
 
 pub returns-in_default-clause-ends : goal.returns-in_default-clause-ends
 returns-in_default-clause-ends c = c.end_unreported.ensures _ _ _ _ (begins_taken c.args.world (own_match c.args.world c.requires.new))
@@ -27,7 +26,7 @@ returns-then-is_err-clause-ends c =
 pub loop-number-init : goal.loop-number-init
 loop-number-init c =
     let ok = sym c.is_err.ensures.value ∙ c.if-is_err.false in (
-      first_noted (own_match c.args.world c.requires.new) c.in-Ok.ensures.empty c.in-Ok-with_capacity.ensures.items
+      noted (starts (own_match c.args.world c.requires.new) c.in-Ok-with_capacity.ensures.items c.in-Ok.ensures.empty)
           (noted_ok c.note.result ok c.note.ensures.noted) (noted_ok c.note.result ok c.note.ensures.scored),
       c.note.ensures.kept,
       c.in-Ok-with_capacity.ensures.capacity,
@@ -36,8 +35,7 @@ loop-number-init c =
     )
 
 pub unwrap-requires : goal.unwrap-requires
-unwrap-requires c =
-    c.push.ensures.succeeds (let room = c.loop-number.invariant.2 in let long = c.loop-number.invariant.3 in let less = c.loop-number-test.true in omega arith)
+unwrap-requires c = let m = c.loop-number.invariant in c.push.ensures.succeeds (omega (arith, m.2, m.3, c.loop-number-test.true))
 
 pub returns-in-Err-clause-ends : goal.returns-in-Err-clause-ends
 returns-in-Err-clause-ends c =
@@ -45,24 +43,22 @@ returns-in-Err-clause-ends c =
 
 pub note-requires-in-loop-number-clause-notable : goal.note-requires-in-loop-number-clause-notable
 note-requires-in-loop-number-clause-notable c =
-    next_notable c.requires.boards (goes_on c.in-Ok-step.seen c.loop-number-test.true c.index-events-number.is c.loop-number.invariant.0
-    c.in-Ok-step.ensures.step c.in-Ok-step.ensures.same)
+    notable (goes_on c.in-Ok-step.seen c.loop-number-test.true c.index-events-number.is c.loop-number.invariant.0
+    c.in-Ok-step.ensures.step c.in-Ok-step.ensures.same) c.requires.boards
 
 pub loop-number-preserved : goal.loop-number-preserved
 loop-number-preserved c =
     let less = c.loop-number-test.true in
-    let room = c.loop-number.invariant.2 in
-    let long = c.loop-number.invariant.3 in
+    let m = c.loop-number.invariant in
     let step = c.in-Ok-step.ensures in
     let note = c.note-in-loop-number in
     let ok = sym c.is_err-in-loop-number.ensures.value ∙ c.if-is_err-2.false in (
-      rw (rw c.unwrap.ensures at c.push.ensures.items) (next_noted
-          (goes_on c.in-Ok-step.seen less c.index-events-number.is c.loop-number.invariant.0 step.step step.same)
+      rw (rw c.unwrap.ensures at c.push.ensures.items) (noted (goes_on c.in-Ok-step.seen less c.index-events-number.is m.0 step.step step.same)
           (noted_ok note.result ok note.ensures.noted) (noted_ok note.result ok note.ensures.scored)),
       note.ensures.kept,
-      (let grown = c.push.ensures.capacity in omega arith),
-      (let more = rw c.unwrap.ensures at c.push.ensures.len in omega arith),
-      omega arith,
+      omega (arith, m.2, c.push.ensures.capacity),
+      omega (arith, m.3, rw c.unwrap.ensures at c.push.ensures.len),
+      omega (arith, less),
     )
 
 pub returns-then-is_err-2-clause-ends : goal.returns-then-is_err-2-clause-ends
@@ -75,14 +71,10 @@ agreed-requires c = record { read = all_read c.loop-number.invariant.0 }
 
 pub returns-in_default-agreed-clause-ends : goal.returns-in_default-agreed-clause-ends
 returns-in_default-agreed-clause-ends c =
-    let most = c.loop-number.invariant.4 in
-    let least = c.loop-number-test.false in
-    ends_unreported (omega arith) (has_taken c.loop-number.invariant.0)
+    let m = c.loop-number.invariant in ends_unreported (omega (arith, m.4, c.loop-number-test.false)) (has_taken m.0)
 
 pub returns-clause-reported : goal.returns-clause-reported
 returns-clause-reported c =
     let report : Report = record { outcomes = c.loop-number.outcomes; agreed = c.in-Ok-agreed.agreed; seen = c.loop-number.shown.seen } in
-    let kept = c.loop-number.invariant.1 in
-    let most = c.loop-number.invariant.4 in
-    let least = c.loop-number-test.false in
-    reported report (omega arith) c.loop-number.invariant.0 kept.once c.in-Ok-agreed.ensures
+    let m = c.loop-number.invariant in
+    reported report (omega (arith, m.4, c.loop-number-test.false)) m.0 m.1.once c.in-Ok-agreed.ensures

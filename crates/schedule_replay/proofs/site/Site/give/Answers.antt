@@ -3,7 +3,7 @@ use Rattle.headline.specs.declared.event.Event.{Event}
 use Rattle.schedule_replay.specs.declared.seen.{Cause.Cause, Seen.Seen}
 use Rattle.desk.specs.declared.refusal.Refusal.{Refusal}
 use Rattle.schedule_replay.specs.inner.Sites.{SiteSteps}
-use Rattle.schedule_replay.proofs.GiveLemmas.{calm_answer, fault_is, fault_not, give_breaks, give_runs_on, stands_at}
+use Rattle.schedule_replay.proofs.GiveLemmas.{calm_faults, give_breaks, give_runs_on, stands_at}
 use Rattle.schedule_replay.proofs.SiteLemmas.{broken_same}
 use Rattle.schedule_replay.proofs.site.Site.give.Goals as goal
 use Rattle.schedule_replay.proofs.DueLemmas.{breaks_none, keeps_none, keeps_running}
@@ -13,28 +13,20 @@ returns-then-is_fault-clause-step c = λ t.
     give_breaks c.args.self.now c.fail.new.self c.in-Some.desk c.receive-received.new.self c.args.message t c.index.result.now c.receive-received.result c.fail.result
     c.args.sent.now.items c.in-Some.is
     (stands_at c.args.sent.now.items c.args.message c.index.result.now c.requires.sent c.index.ensures) c.receive-received.ensures.step
-    c.receive-received.ensures.owner c.receive-received.ensures.blame
-    (fault_is c.receive-received.result.what (sym c.is_fault.ensures ∙ c.if-is_fault.true)) c.fail.ensures.broken
+    c.receive-received.ensures.owner c.receive-received.ensures.blame (sym c.is_fault.ensures ∙ c.if-is_fault.true) c.fail.ensures.broken
 
 pub returns-then-is_fault-clause-same : goal.returns-then-is_fault-clause-same
-returns-then-is_fault-clause-same c =
-    grind (arith, broken_same c.args.self.now.due (Cause.Desk Refusal.Device) _ c.fail.new.self c.fail.result c.fail.ensures.broken)
+returns-then-is_fault-clause-same c = broken_same c.args.self.now.due (Cause.Desk Refusal.Device) c.args.self.now c.fail.new.self _ _ c.fail.result c.fail.ensures.broken
 
 pub returns-clause-step : goal.returns-clause-step
-returns-clause-step c = λ t.
-    let calm = fault_not c.receive-received.result.what (sym c.is_fault.ensures ∙ c.if-is_fault.false) in
-    subst (λ (seen : Seen). SiteSteps (Event.Give c.args.message t) c.args.self.now c.args.sent.now.items seen
-    (record c.args.self.now { desk = Some c.receive-received.new.self }) c.hand_out.new.sent.items) (sym c.given.ensures)
+returns-clause-step c = λ t. rw c.given.ensures
     (give_runs_on c.args.self.now c.in-Some.desk c.receive-received.new.self c.args.message t c.index.result.now c.receive-received.result c.args.sent.now.items c.hand_out.new.sent.items
-    c.in-Some.is (stands_at c.args.sent.now.items c.args.message c.index.result.now c.requires.sent
-    c.index.ensures) c.receive-received.ensures.step c.receive-received.ensures.owner
-    (c.receive-received.ensures.blame.same (calm_answer c.receive-received.result.what calm)) calm c.hand_out.ensures)
+    c.in-Some.is (stands_at c.args.sent.now.items c.args.message c.index.result.now c.requires.sent c.index.ensures) c.receive-received.ensures.step
+    c.receive-received.ensures.owner c.receive-received.ensures.blame (sym c.is_fault.ensures ∙ c.if-is_fault.false) c.hand_out.ensures)
 
 pub returns-then-is_fault-clause-counted : goal.returns-then-is_fault-clause-counted
 returns-then-is_fault-clause-counted c = keeps_none c.args.self.now c.fail.new.self (breaks_none c.args.self.now.due (Cause.Desk Refusal.Device) _ c.fail.result c.fail.new.self c.fail.ensures.broken)
 
 pub returns-clause-counted : goal.returns-clause-counted
-returns-clause-counted c =
-    let calm = fault_not c.receive-received.result.what (sym c.is_fault.ensures ∙ c.if-is_fault.false) in
-    keeps_running c.args.self.now c.in-Some.desk c.receive-received.new.self c.in-Some.is
-    (c.receive-received.ensures.blame.same (calm_answer c.receive-received.result.what calm))
+returns-clause-counted c = keeps_running c.args.self.now c.in-Some.desk c.receive-received.new.self c.in-Some.is
+    (calm_faults c.in-Some.desk c.receive-received.new.self c.receive-received.result c.receive-received.ensures.blame (sym c.is_fault.ensures ∙ c.if-is_fault.false))

@@ -19,8 +19,7 @@ returns-in-Err-clause-step c =
     c.in-Some.is c.in-Err.ensures.step c.in-Err.ensures.owner c.in-Err.ensures.blame c.refuse.ensures.refused
 
 pub returns-in-Err-clause-same : goal.returns-in-Err-clause-same
-returns-in-Err-clause-same c =
-    grind (arith, refused_same (is_device c.in-Err.why) c.in-Err.why _ c.refuse.new.self c.refuse.result c.refuse.ensures.refused)
+returns-in-Err-clause-same c = refused_same (is_device c.in-Err.why) c.in-Err.why c.args.self.now c.refuse.new.self c.pen.new.self c.refuse.result c.refuse.ensures.refused
 
 pub returns-in-Ok-clause-counted : goal.returns-in-Ok-clause-counted
 returns-in-Ok-clause-counted c = keeps_running c.args.self.now c.in-Some.desk c.pen.new.self c.in-Some.is (c.in-Ok.ensures.blame.same (λ e. (cc)))

@@ -5,8 +5,7 @@ use Rattle.schedule_replay.proofs.site.Site.power.Goals as goal
 pub returns-in-Some-clause-step : goal.returns-in-Some-clause-step
 returns-in-Some-clause-step c = λ sent.
     let e = c.lose_power.ensures in
-    powers c.args.self.now c.put_down.new.self _ c.args.choice c.in-Some.disk c.lose_power.new.disk sent c.put_down.ensures.down c.in-Some.is
-    (record { image = e.image; images = e.images; cap = e.cap; plan = e.plan }) refl
+    powers c.args.self.now c.put_down.new.self _ c.args.choice c.in-Some.disk c.lose_power.new.disk sent c.put_down.ensures.down c.in-Some.is e.image e.images e.cap e.plan refl
 
 pub returns-in-Some-clause-planned : goal.returns-in-Some-clause-planned
 returns-in-Some-clause-planned c = left_plan c.put_down.new.self c.lose_power.new.disk (let put = c.put_down.ensures.down in put.desk) c.lose_power.ensures.plan

@@ -46,11 +46,8 @@ pub returns-in-Err-clause-refused : goal.returns-in-Err-clause-refused
 returns-in-Err-clause-refused c = (refused_by (goal.at.returns-in-Err-clause-refused c).After-not_found).1
 
 pub returns-in-Err-clause-same : goal.returns-in-Err-clause-same
-returns-in-Err-clause-same c = grind (
-  arith,
-  not_found_same (wants_memory c.in-Err.why) (is_failing c.in-Err.why) (Cause.Migrate c.in-Err.why) _
-      c.not_found.new.self c.not_found.result c.not_found.ensures.refused,
-)
+returns-in-Err-clause-same c = not_found_same (wants_memory c.in-Err.why) (is_failing c.in-Err.why) (Cause.Migrate c.in-Err.why) c.args.self.now
+    c.not_found.new.self _ c.not_found.result c.not_found.ensures.refused
 
 pub returns-in-Ok-clause-counted : goal.returns-in-Ok-clause-counted
 returns-in-Ok-clause-counted c =

@@ -10,33 +10,19 @@ use Rattle.schedule_replay.proofs.ShowLemmas.{adds_book, all_noted, all_scored, 
 use Rattle.schedule_replay.proofs.world.World.note.Goals as goal
 
 pub note-requires-clause-one : goal.note-requires-clause-one
-note-requires-clause-one c =
-    let w = c.requires.notable in
-    let code = c.args.self.now in
-    let old = c.args.shown.now.seen.items in
-    one_noted code w.0 0 (Station.Desk A) _ old old (desk_name code old w.0 A w.1) w.1 (none_noted code old)
+note-requires-clause-one c = let w = c.requires.notable in one_noted (desk_name A w.1) w.1 (none_noted c.args.self.now _)
 
 pub note-requires-2-clause-one : goal.note-requires-2-clause-one
 note-requires-2-clause-one c =
-    let w = c.requires.notable in
-    let code = c.args.self.now in
-    let old = c.args.shown.now.seen.items in
-    let mid = c.note.new.shown.seen.items in
-    one_noted code w.0 1 (Station.Desk B) _ old mid (desk_name code old w.0 B w.1) w.1
-    (desk_noted code w.0 0 A old old mid w.1 refl (none_noted code old) c.in_ok-note.ensures.noted)
+    let w = c.requires.notable in one_noted (desk_name B w.1) w.1 (desk_noted A w.1 refl (none_noted c.args.self.now _) c.in_ok-note.ensures.noted)
 
 pub loop-number-init : goal.loop-number-init
-loop-number-init c =
-    let w = c.requires.notable in
-    let code = c.args.self.now in
-    let old = c.args.shown.now.seen.items in
-    let mid = c.note.new.shown.seen.items in
-    let first = desk_noted code w.0 0 A old old mid w.1 refl (none_noted code old) c.in_ok-note.ensures.noted in (
-      desk_noted code w.0 1 B old mid c.note-2.new.shown.seen.items w.1 refl first c.in_ok-note-2.ensures.noted,
-      c.in_ok-note-2.ensures.kept,
-      omega arith,
-      λ i less. absurd (omega (arith, less)),
-    )
+loop-number-init c = let w = c.requires.notable in (
+  desk_noted B w.1 refl (desk_noted A w.1 refl (none_noted c.args.self.now _) c.in_ok-note.ensures.noted) c.in_ok-note-2.ensures.noted,
+  c.in_ok-note-2.ensures.kept,
+  omega arith,
+  λ i less. absurd (omega (arith, less)),
+)
 
 board_there : (items boards : List MatchBoard) (i : ℕ) (k : MatchBoard) → boards ≡ items → i < length boards
     → k ≡ slice_index_or boards i k → slice_get items i ≡ Some k
@@ -45,13 +31,12 @@ board_there items boards i k same less e =
 
 pub note-requires-in-loop-number-clause-one : goal.note-requires-in-loop-number-clause-one
 note-requires-in-loop-number-clause-one c = λ other stands.
-    let w = c.requires.notable in
     let i = c.loop-number.number in
     let items = c.deref-board-items in
     let there = board_there c.args.self.now.boards.items items.result.now i _ items.ensures.value c.loop-number-test.true c.board-item.is in
     let long = c.len.ensures.entries ∙ ap (λ (b : Contents). length b.entries) c.book.ensures in
-    one_noted c.args.self.now w.0 (i + 2) (Station.Board (suc i)) _ c.args.shown.now.seen.items c.loop-number.shown.seen.items
-    (board_name i) w.1 c.loop-number.invariant.0 c.len.result c.shown.result.now other stands (rw there (long, c.shown.ensures))
+    let w = c.requires.notable in
+    one_noted (board_name i) w.1 c.loop-number.invariant.0 c.len.result c.shown.result.now other stands (rw there (long, c.shown.ensures))
 
 pub loop-number-preserved : goal.loop-number-preserved
 loop-number-preserved c =
@@ -59,9 +44,8 @@ loop-number-preserved c =
     let items = c.deref-board-items in
     let there = board_there c.args.self.now.boards.items items.result.now i _ items.ensures.value c.loop-number-test.true c.board-item.is in
     let long = c.len.ensures.entries ∙ ap (λ (b : Contents). length b.entries) c.book.ensures in
-    let shows = subst (λ (o : Option MatchBoard). BookShows (board_book o) c.len.result c.shown.result.now) (sym there) (long, c.shown.ensures) in (
-      noted_next c.args.self.now (i + 2) (i + 1 + 2) (Station.Board (suc i)) _ c.args.shown.now.seen.items _ _ (omega arith) (omega arith)
-          (omega arith) (board_name i) c.loop-number.invariant.0 (adds_book _ _ _ _ _ _ shows c.in_ok-note-3.ensures.noted),
+    let shows : BookShows (board_book (slice_get c.args.self.now.boards.items i)) c.len.result c.shown.result.now = rw there (long, c.shown.ensures) in (
+      noted_next (omega arith) (omega arith) (omega arith) (board_name i) c.loop-number.invariant.0 (adds_book _ _ _ _ _ _ shows c.in_ok-note-3.ensures.noted),
       c.in_ok-note-3.ensures.kept,
       (let less = c.loop-number-test.true in let same = ap (λ (xs : List MatchBoard). length xs) items.ensures.value in omega (arith, less, same)),
       scored_next c.args.self.now i c.board-item.result c.loop-number.invariant.3 there (c.shown.result.now, c.shown.ensures),
@@ -71,8 +55,7 @@ pub returns-clause-noted : goal.returns-clause-noted
 returns-clause-noted c =
     let past = c.loop-number-test.false in
     let same = ap (λ (xs : List MatchBoard). length xs) c.deref-board-items.ensures.value in
-    all_noted c.args.self.now (c.loop-number.number + 2) c.args.shown.now.seen.items c.loop-number.shown.seen.items (omega (arith, past, same))
-    c.loop-number.invariant.0
+    all_noted (omega (arith, past, same)) c.loop-number.invariant.0
 
 pub returns-clause-scored : goal.returns-clause-scored
 returns-clause-scored c =
