@@ -1,7 +1,6 @@
 -- Where overs begin among what stands.
 use Rattle.std.proofs.Common.{arith, ◌≡◌, ℕ, ◌+◌, ◌<◌, ◌≤◌, true, List, [], ◌∷◌, ◌++◌, length, take, drop, get_or}
-use Rattle.std.proofs.Common.{refl, sym, ap, ◌∙◌, append-nil, inl, inr}
-use Rattle.std.proofs.lemmas.Bool.{cases_Bool}
+use Rattle.std.proofs.Common.{refl, sym, ap, ◌∙◌, append-nil}
 use Rattle.std.proofs.lemmas.List.{take_all, take_more}
 use Rattle.notation.specs.declared.entry.{Ball.Ball, Plain.Plain, Entry.Entry}
 use Rattle.ball_laws.specs.History.{History, open_over, called_overs, first_over}
@@ -12,7 +11,6 @@ use Rattle.corrections.specs.Overs.{AreOversOf, balls_of, bowled, with_balls}
 use Rattle.corrections.specs.inner.Overs.{AddFrom, is_parted}
 use Rattle.corrections.specs.inner.Scoring.{history_after}
 use Rattle.corrections.proofs.LegalLemmas.{history_after-history}
-use Rattle.corrections.proofs.ScoringLemmas.{kept_first, kept_not}
 
 -- ---- the deliveries among the first items
 
@@ -22,8 +20,7 @@ balls_push over (y ∷ ys) x = balls_push (bowled y.item over) ys x
 
 pub balls_more : (items : List Placed) (k : ℕ) (x : Placed) → k < length items → x ≡ get_or items k x
     → balls_of (take (k + 1) items) ≡ bowled x.item (balls_of (take k items))
-balls_more items k x within here =
-    ap balls_of (take_more items k x within ∙ ap (λ y. take k items ++ y ∷ []) (sym here)) ∙ balls_push [] (take k items) x
+balls_more items k x within here = grind (arith, take_more items k x within, balls_push [] (take k items) x)
 
 pub balls_all : (items : List Placed) (k : ℕ) → length items ≤ k → balls_of (take k items) ≡ balls_of items
 balls_all items k end = ap balls_of (take_all k items end)
@@ -52,10 +49,8 @@ alike_void g h x v e = grind arith
 
 walked : (g h : History) (xs : List Placed) → AreAlike g h → AreAlike (history_after g xs) (history_after h (kept xs))
 walked g h [] e = e
-walked g h (x ∷ xs) e = elim (cases_Bool (is_void x.item)) [
-  | inl v ↦ rw (kept_not x xs v) (walked (x.item ∷ g) h xs (alike_void g h x.item v e))
-  | inr v ↦ rw (kept_first x xs v) (walked (x.item ∷ g) (x.item ∷ h) xs (alike_more g h x.item e))
-]
+walked g h (x ∷ xs) e =
+    grind (arith, walked (x.item ∷ g) h xs, walked (x.item ∷ g) (x.item ∷ h) xs, alike_void g h x.item, alike_more g h x.item)
 
 is_after : (xs : List Placed) → history_after [] xs ≡ history xs
 is_after xs = history_after-history [] xs ∙ append-nil (history xs)
