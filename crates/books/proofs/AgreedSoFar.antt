@@ -1,16 +1,16 @@
 -- The agreed list of a desk's first votes and the other's, one vote more at a time.
-use Rattle.std.proofs.Common.{◌≡◌, ℕ, ◌+◌, ◌-◌, ◌<◌, ◌≤◌, List, [], ◌∷◌, ◌++◌, length, sym, ap, ◌∙◌, inl, inr, arith, length-append}
+use Rattle.std.proofs.Common.{◌≡◌, ℕ, ◌+◌, ◌-◌, ◌≤◌, List, [], ◌∷◌, ◌++◌, length, inl, inr, arith, length-append}
 use Rattle.std.specs.List.{All}
 use Rattle.std.proofs.lemmas.List.{drop_all}
 use Rattle.std.proofs.lemmas.List.Elements.{All-append, All-cons, All-nil}
 use Rattle.notation.specs.declared.entry.Entry.{Entry}
 use Rattle.notation.specs.Written.{IsEntry}
 use Rattle.agree_core.specs.declared.messages.Vote.{Vote}
-use Rattle.agree_core.specs.Agreed.{AllSettled, EqualVotes, IsAgreedList, SettledAt, Unsettled}
+use Rattle.agree_core.specs.Agreed.{AllSettled, IsAgreedList, SettledAt}
 use Rattle.agree_core.specs.Ballots.{AllVotes, Ballot, In, IsSequence, ballot_at, ballot_of, oldest}
-use Rattle.agree_core.specs.Positions.{Before, InRange, position_of}
+use Rattle.agree_core.specs.Positions.{InRange, position_of}
 use Rattle.vote_store.specs.Laws.{IsVotes}
-use Rattle.vote_store.proofs.SequenceLemmas.{earlier, fewer, not_before}
+use Rattle.vote_store.proofs.SequenceLemmas.{earlier, fewer}
 
 abbrev pub both : List Ballot → List Ballot → AllVotes
 both own theirs = record { a = own; b = theirs }

@@ -1,14 +1,12 @@
 -- What a sequence of votes has at a position.
-use Rattle.std.proofs.Common.{◌≡◌, ◌≤◌, ℕ, zero, suc, ◌+◌, List, [], ◌∷◌, Option, Some, None, refl, sym, ap, ◌∙◌, inl, inr, arith}
+use Rattle.std.proofs.Common.{◌≡◌, ◌≤◌, ℕ, zero, suc, List, [], ◌∷◌, Option, Some, None, refl, inr, arith}
 use Rattle.std.specs.Prelude.{IfNone, IfSome}
 use Rattle.std.proofs.lemmas.Bool.Decides.{nat_tests}
 use Rattle.notation.specs.declared.entry.Entry.{Entry}
 use Rattle.agree_core.specs.declared.position.Position.{Position}
-use Rattle.agree_core.specs.Ballots.{Ballot, ComesNext, In, IsSequence, ballot_at}
-use Rattle.vote_store.specs.Sequence.{is_at}
+use Rattle.agree_core.specs.Ballots.{Ballot, In, IsSequence, ballot_at}
 use Rattle.vote_store.proofs.SequenceLemmas.{earlier}
 use Rattle.books.specs.DeskVotes.{entry_at}
-use Rattle.books.proofs.AgreedSoFar.{one_vote}
 
 abbrev At : ℕ → ℕ → Position
 At place round = record { place = place; round = round }

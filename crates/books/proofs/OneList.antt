@@ -1,8 +1,8 @@
 -- Sound files have one agreed list.
-use Rattle.std.proofs.Common.{◌≡◌, ℕ, ◌+◌, ◌<◌, List, [], ◌∷◌, length, refl, ap, arith, add-zero, zero-add}
+use Rattle.std.proofs.Common.{◌≡◌, ℕ, ◌+◌, List, [], ◌∷◌, length, refl, arith, add-zero, zero-add}
 use Rattle.notation.specs.declared.entry.Entry.{Entry}
 use Rattle.agree_core.specs.Agreed.{AllSettled, IsAgreedList, SettledAt, Unsettled}
-use Rattle.agree_core.specs.Ballots.{AllVotes, Ballot, IsSequence, ballot_at}
+use Rattle.agree_core.specs.Ballots.{AllVotes, IsSequence, ballot_at}
 use Rattle.books.proofs.AgreedSoFar.{one_vote}
 
 module _ (v : AllVotes) (s : IsSequence v.a) where

@@ -1,11 +1,10 @@
 -- Where both desks' votes aren't of one history.
-use Rattle.std.proofs.Common.{◌≡◌, ℕ, ◌+◌, false, None, refl, arith, inl, inr}
+use Rattle.std.proofs.Common.{◌≡◌, ℕ, false, arith}
 use Rattle.std.proofs.lemmas.Bool.{cases_lt}
 use Rattle.notation.specs.declared.entry.TheConstants.{PLACES}
 use Rattle.agree_core.specs.declared.position.TheConstants.{ROUNDS}
 use Rattle.agree_core.specs.Ballots.{AllVotes, IsSequence}
-use Rattle.books.specs.DeskVotes.{entry_at}
-use Rattle.books.specs.OneHistory.{IsWholeAt, IsWholeBelow, has_vote, is_torn}
+use Rattle.books.specs.OneHistory.{IsWholeAt, IsWholeBelow, has_vote}
 use Rattle.books.proofs.EntriesAt.{none_after, none_from}
 
 module _ (v : AllVotes) where

@@ -1,13 +1,12 @@
 -- Votes that follow one another by the other desk's are of one history.
-use Rattle.std.proofs.Common.{◌≡◌, ◌≢◌, ℕ, ◌+◌, Bool, true, false, List, Option, Some, None, refl, sym, ap, ◌∙◌, arith, inl, inr}
-use Rattle.std.proofs.lemmas.Bool.{cases_Bool}
+use Rattle.std.proofs.Common.{◌≡◌, ◌≢◌, ℕ, ◌+◌, Bool, true, false, List, Option, Some, None, refl, sym, arith}
 use Rattle.notation.specs.declared.entry.Entry.{Entry}
 use Rattle.agree_core.specs.Ballots.{AllJustified, AllVotes, Ballot, In, Justified, ballot_at}
-use Rattle.agree_core.proofs.Order.{compare, in_sequence, one_vote, place_closed}
-use Rattle.agree_core.proofs.Settling.{Both, none_later}
+use Rattle.agree_core.proofs.Order.{in_sequence, one_vote, place_closed}
+use Rattle.agree_core.proofs.Settling.{none_later}
 use Rattle.vote_store.specs.Laws.{IsVotes}
 use Rattle.books.specs.DeskVotes.{entry_at, is_alike}
-use Rattle.books.specs.OneHistory.{IsWholeBelow, goes_wrong, has_vote, is_torn}
+use Rattle.books.specs.OneHistory.{IsWholeBelow, goes_wrong, is_torn}
 use Rattle.books.proofs.EntriesAt.{found_in, none_at, none_from, some_at}
 use Rattle.books.proofs.SameVotes.{alike_here, entries_at, same_entry}
 
