@@ -20,7 +20,7 @@ use Rattle.corrections.proofs.LegalLemmas.{history_after-clean, scored_legal}
 use Rattle.corrections.proofs.ScoringLemmas.{first_refused-cons}
 use Rattle.cards.specs.Sheet.{Sheet}
 use Rattle.archive_deliveries.specs.declared.{begun.Begun.Begun, notes.Noted.Noted}
-use Rattle.archive_deliveries.specs.Notes.{notes, begun_of, awards_to, carried, items_in, earlier_of}
+use Rattle.archive_deliveries.specs.Notes.{notes, begun_of, carried, items_in}
 use Rattle.archive_deliveries.specs.Deliveries.{penalties}
 use Rattle.json.specs.Json.{Json, null}
 use Rattle.json_fields.specs.Values.{Field, members_of, number_field, object_of, flag_if}
@@ -77,10 +77,6 @@ module _ (f : Begun) (i : ℕ) where
 
 abbrev counts_at : History → ℕ → Award → Bool
 counts_at h i a = is_at (award_innings h a) i
-
-awards_one : (h : History) (i : ℕ) (g : History) (x : Plain)
-    → cond (awards_to (begun_of h) i x (earlier_of g x)) 5 0 + 5 * count_of (counts_at h i) (awards g) ≡ 5 * count_of (counts_at h i) (awards (x ∷ g))
-awards_one h i g x = grind arith
 
 awards_so_far : (h : History) (i : ℕ) (g : History) (xs : List Placed) →
     penalties (begun_of h) i (notes g xs) + 5 * count_of (counts_at h i) (awards g) ≡ 5 * count_of (counts_at h i) (awards (history_after g xs))

@@ -4,7 +4,6 @@ use Rattle.std.specs.List.{filter_map, list_all, list_any}
 use Rattle.std.proofs.lemmas.Bool.Decides.{nat_tests}
 use Rattle.std.proofs.lemmas.Slice.Eq.{bytes_eq-Decides}
 use Rattle.notation.specs.declared.entry.{Ball.Ball, Entry.Entry, Side.Side}
-use Rattle.notation.specs.declared.entry.Plain.TheVariants.{Ball as Bowl, Over}
 use Rattle.notation.specs.Written.{IsEntry}
 use Rattle.ball_laws.specs.declared.ends.Ends.{Ends}
 use Rattle.ball_laws.specs.History.{History}
@@ -114,9 +113,7 @@ overs_apart p (over ∷ overs) = grind (arith, overs_apart p overs, alone_by p o
 by_overs : (h : History) (i p : ℕ) → tally (of_bowler counted_one i p) (deliveries h)
     ≡ tally (counting_by p) (innings_overs h i) + counting_by p (since_call h i)
 by_overs [] i p = refl
-by_overs (Bowl b ∷ h) i p = grind (arith, by_overs h i p)
-by_overs (Over ∷ h) i p = grind (arith, by_overs h i p)
-by_overs (x ∷ h) i p = by_overs h i p
+by_overs (x ∷ h) i p = grind (arith, by_overs h i p)
 
 balls_of : (h : History) (i p : ℕ) → over_balls h i p + bowler_balls h i p + tally (of_bowler dead_ball i p) (deliveries h)
     ≡ tally (of_bowler bowled_one i p) (deliveries h)
