@@ -74,10 +74,7 @@ module _ {Disk Why : Type 0} (s : Setting Disk Why) where
   pub board_hears : (w : Configuration Disk) (m : Moment Disk Why) (n : ℕ) (k l : BoardState) (v : Vote) → Step s w m.event m.answer m.after
       → ComesTo w m (Station.Board n) (Message.Vote v) → board_at w.boards n ≡ Some k → board_at m.after.boards n ≡ Some l
       → position_of v ≡ k.reader.position → IsSoundAnswer m.event m.answer → Before k.reader.position l.reader.position ⊎ Knows (ear v.desk l.reader)
-  board_hears w m n k l v p (r, e, get) at there pos sound =
-      let q = subst (λ (z : Event). Step s w z m.answer m.after) e p in
-      let it = given_there w.sent r q.4.0 (Message.Vote v) get q.4.2 in
-      grind (arith, board_put)
+  board_hears w m n k l v p z7 at there pos sound = grind (arith, given_there, board_put)
 
   -- a board asks at its tick
   pub board_ticks : (v : AllVotes) (n : ℕ) (d : DeskId) (w : Configuration Disk) (m : Moment Disk Why) → Steady s v w → Step s w m.event m.answer m.after

@@ -1,5 +1,5 @@
 -- What an exchange brings a station: a later position, or all that a desk has cast at its position.
-use Rattle.std.proofs.Common.{None, ◌≡◌, ◌≢◌, ◌⊎◌, true≢false, Option, Some, List, [], ◌∷◌, ◌++◌, refl, sym, ap, ◌∙◌, subst, inl, inr, arith}
+use Rattle.std.proofs.Common.{None, ◌≡◌, ◌≢◌, ◌⊎◌, Option, Some, List, [], ◌∷◌, ◌++◌, refl, sym, ap, ◌∙◌, subst, inl, inr, arith}
 use Rattle.notation.specs.declared.entry.Entry.{Entry}
 use Rattle.agree_core.specs.declared.{messages.Ask.Ask, messages.Asker.Asker, messages.DeskId.DeskId, messages.Message.Message, messages.Vote.Vote, position.Position.Position}
 use Rattle.agree_core.specs.Ballots.{AllVotes, Ballot, In, Justified, ballot_at, vote_of, votes_by}
@@ -93,11 +93,7 @@ module _ {Disk Why : Type 0} (s : Setting Disk Why) where
   -- a desk that is up answers an ask
   replies : (w : Configuration Disk) (m : Moment Disk Why) (d : DeskId) (k : DeskState Disk) (q : Ask) → IsUp (node w d) k
       → (g : IsGivenTo w m d k (Message.Ask q)) → Replies k q g.out
-  replies w m d k q u g = turn g.told g.receives g.after
-    where
-      turn : (told : ReceiveAnswer) → Receives (s.view d (node w d).version) k (Message.Ask q) told g.l g.out
-          → AfterReceive (s.view d (node w d).version) (node w d) told g.l g.out m.answer (node m.after d) → Replies k q g.out
-      turn h0 r a = grind (arith, true≢false)
+  replies w m d k q u g = grind arith
 
   module _ (v : AllVotes) (t : Station) (d : DeskId) where
     -- how a station in calm moments, of which this is so, hears what a desk says
