@@ -1,5 +1,5 @@
 -- What a sheet limits is found in its written form.
-use Rattle.std.proofs.Common.{◌≡◌, ◌<◌, ◌+◌, ◌/◌, ◌%◌, ℕ, Bool, true, false, List, [], ◌∷◌, ◌++◌, Option, Some, None, drop, get_or, arith, refl, sym, ap, subst}
+use Rattle.std.proofs.Common.{◌≡◌, ◌<◌, ◌+◌, ◌/◌, ◌%◌, ℕ, Bool, List, [], ◌∷◌, ◌++◌, Option, drop, get_or, arith, refl, sym, ap, subst}
 use Rattle.std.specs.Prelude.{⊤}
 use Rattle.limits.specs.declared.powerplay.Powerplay.{Powerplay}
 use Rattle.limits.specs.Limits.{Limits}
@@ -11,8 +11,7 @@ Above k [] = ⊤
 Above k (b ∷ bs) = k < b
 
 above_less : (k : ℕ) (l : List ℕ) → Above (k + 1) l → Above k l
-above_less k [] h = h
-above_less k (b ∷ bs) h = omega (arith, h)
+above_less k l h = grind arith
 
 none_at : (k : ℕ) (l r : List ℕ) → Above k l → l ≡ k ∷ r → {A : Type 0} → A
 none_at k l r h e = absurd (let less = subst (Above k) e h in omega (arith, less))
@@ -28,22 +27,13 @@ unfolding each_overs
 overs_once [] [] p q h k e = (refl, e)
 overs_once [] (y ∷ ys) p q h k e = none_at 1 p _ h e
 overs_once (x ∷ xs) [] p q h k e = none_at 1 q _ k (sym e)
-overs_once (x ∷ xs) (y ∷ ys) p q h k e =
-    let one = same_overs x y (ap (λ (l : List ℕ). get_or l 1 0) e) (ap (λ (l : List ℕ). get_or l 2 0) e) in
-    let more = overs_once xs ys p q h k (ap (drop 3) e) in (λ i. one i ∷ more.0 i, more.1)
+overs_once (x ∷ xs) (y ∷ ys) p q h k e = grind (arith, same_overs x y, overs_once xs ys p q h k)
 
 bowler_once : (a b : Option ℕ) (p q : List ℕ) → Above 2 p → Above 2 q → bowler_bytes a ++ p ≡ bowler_bytes b ++ q → (a ≡ b) × (p ≡ q)
-bowler_once None None p q h k e = (refl, e)
-bowler_once None (Some n) p q h k e = none_at 2 p _ h e
-bowler_once (Some m) None p q h k e = none_at 2 q _ k (sym e)
-bowler_once (Some m) (Some n) p q h k e =
-    let one = same_overs m n (ap (λ (l : List ℕ). get_or l 1 0) e) (ap (λ (l : List ℕ). get_or l 2 0) e) in (ap Some one, ap (drop 3) e)
+bowler_once a b p q h k e = grind arith
 
 free_once : (a b : Bool) (p q : List ℕ) → Above 3 p → Above 3 q → free_bytes a ++ p ≡ free_bytes b ++ q → (a ≡ b) × (p ≡ q)
-free_once false false p q h k e = (refl, e)
-free_once false true p q h k e = none_at 3 p _ h e
-free_once true false p q h k e = none_at 3 q _ k (sym e)
-free_once true true p q h k e = (refl, ap (drop 1) e)
+free_once a b p q h k e = grind arith
 
 powerplays_once : (ps qs : List Powerplay) → each_powerplay ps ≡ each_powerplay qs → ps ≡ qs
 unfolding each_powerplay
@@ -64,12 +54,10 @@ powerplays_above [] = tt
 powerplays_above (p ∷ ps) = omega arith
 
 free_above : (b : Bool) (l : List ℕ) → Above 3 l → Above 2 (free_bytes b ++ l)
-free_above true l h = omega arith
-free_above false l h = above_less 2 l h
+free_above b l h = grind arith
 
 bowler_above : (a : Option ℕ) (l : List ℕ) → Above 2 l → Above 1 (bowler_bytes a ++ l)
-bowler_above (Some n) l h = omega arith
-bowler_above None l h = above_less 1 l h
+bowler_above a l h = grind arith
 
 pub same_limits : (l m : Limits) → limits_text l ≡ limits_text m → l ≡ m
 same_limits l m e =

@@ -1,9 +1,9 @@
 -- A sheet is found in its written form.
-use Rattle.std.proofs.Common.{◌≡◌, ◌≤◌, ◌<◌, ◌+◌, ◌-◌, ◌^◌, ℕ, zero, suc, List, [], ◌∷◌, ◌++◌, take, drop, length, arith, refl, sym, ap, ◌∙◌}
+use Rattle.std.proofs.Common.{◌≡◌, ◌≤◌, ◌<◌, ◌+◌, ◌-◌, ◌^◌, ℕ, zero, suc, List, [], ◌∷◌, ◌++◌, take, drop, length, arith, sym, ap, ◌∙◌}
 use Rattle.std.proofs.lemmas.List.{append_assoc, append-nil, take_at, drop_at, same_lists, get_or_default}
 use Rattle.std.proofs.lemmas.Nat.{from_be_bytes-to_be_bytes_8}
 use Rattle.std.proofs.lemmas.Option.{unwrap_or-slice_get}
-use Rattle.std.specs.Int.{w64, to_be_bytes, from_be_bytes}
+use Rattle.std.specs.Int.{w64, to_be_bytes}
 use Rattle.std.specs.Prelude.{slice_index}
 use Rattle.std.proofs.Common.{get_or, true}
 use Rattle.std.specs.List.{list_all}
@@ -23,13 +23,10 @@ texts_more f k (suc n) = grind (arith, append_assoc, texts_more f (k + 1) n)
 -- the first of two texts, and what follows it
 pub first_text : (t u p q : List ℕ) → length t < 2 ^ 64 → length u < 2 ^ 64 → text t ++ p ≡ text u ++ q → (t ≡ u) × (p ≡ q)
 first_text t u p q short brief e =
-    let number : to_be_bytes w64 (length t) ≡ to_be_bytes w64 (length u) = ap (take 8) e in
-    let long : length t ≡ length u =
-    sym (from_be_bytes-to_be_bytes_8 (length t) short) ∙ ap (from_be_bytes w64) number ∙ from_be_bytes-to_be_bytes_8 (length u) brief in
-    let rest : t ++ p ≡ u ++ q = ap (drop 8) e in (
-      sym (take_at t p (length u) long) ∙ ap (take (length u)) rest ∙ take_at u q (length u) refl,
-      sym (drop_at t p (length u) long) ∙ ap (drop (length u)) rest ∙ drop_at u q (length u) refl,
-    )
+    let number = ap (take 8) e in
+    let long : length t ≡ length u = grind (arith, number, from_be_bytes-to_be_bytes_8 (length t) short, from_be_bytes-to_be_bytes_8 (length u) brief) in
+    let rest : t ++ p ≡ u ++ q = ap (drop 8) e in
+    grind (arith, ap (take (length u)) rest, ap (drop (length u)) rest, take_at, drop_at)
 
 -- so many texts, and what follows them
 pub each_text : (f g : ℕ → List ℕ) → ((j : ℕ) → length (f j) < 2 ^ 64) → ((j : ℕ) → length (g j) < 2 ^ 64)
@@ -38,14 +35,13 @@ pub each_text : (f g : ℕ → List ℕ) → ((j : ℕ) → length (f j) < 2 ^ 6
 unfolding texts_from
 each_text f g short brief zero k p q e = (λ i less. absurd (omega arith), e)
 each_text f g short brief (suc n) k p q e =
-    let one = first_text (f k) (g k) (texts_from f (k + 1) n ++ p) (texts_from g (k + 1) n ++ q) (short k) (brief k)
-    (sym (append_assoc (text (f k)) (texts_from f (k + 1) n) p) ∙ e ∙ append_assoc (text (g k)) (texts_from g (k + 1) n) q) in
+    let one = first_text (f k) (g k) (texts_from f (k + 1) n ++ p) (texts_from g (k + 1) n ++ q) (short k) (brief k) (grind (arith, append_assoc)) in
     let more = each_text f g short brief n (k + 1) p q one.1 in
     (λ i less. at i less one.0 more.0, more.1)
   where
     at : (i : ℕ) → i < suc n → f k ≡ g k → ((j : ℕ) → j < n → f ((k + 1) + j) ≡ g ((k + 1) + j)) → f (k + i) ≡ g (k + i)
     at zero less here later = grind (arith, here)
-    at (suc j) less here later = let one = later j (omega arith) in grind (arith, one)
+    at (suc j) less here later = grind (arith, later j)
 
 -- a name of a list
 abbrev slice_names : List (List ℕ) → ℕ → List ℕ
@@ -56,9 +52,8 @@ text_short : (most : ℕ) (t : List ℕ) → is_text most t ≡ true → length 
 text_short most t h = grind (arith, nat_tests)
 
 each_name : (xs : List (List ℕ)) (i : ℕ) → list_all is_name xs ≡ true → length (slice_names xs i) < 2 ^ 64
-each_name [] i h = omega arith
-each_name (x ∷ xs) zero h = let short = text_short 16 x (and_parts (is_name x) _ h).0 in omega (arith, short)
-each_name (x ∷ xs) (suc i) h = each_name xs i (and_parts (is_name x) (list_all is_name xs) h).1
+each_name (x ∷ xs) (suc i) h = grind (arith, each_name xs i, and_parts)
+each_name xs i h = grind (arith, text_short, and_parts)
 
 player_short : (a : Team) → IsTeam a → (p : ℕ) → length (player_in a p) < 2 ^ 64
 player_short a h p =
@@ -82,22 +77,16 @@ side_once : (a b : Team) → IsTeam a → IsTeam b → (p q : List ℕ)
     → (text a.name ++ texts_from (player_in a) 1 11) ++ p ≡ (text b.name ++ texts_from (player_in b) 1 11) ++ q
     → (a ≡ b) × (p ≡ q)
 side_once a b h k p q e =
-    let short = text_short 16 a.name h.name in
-    let brief = text_short 16 b.name k.name in
     let name = first_text a.name b.name (texts_from (player_in a) 1 11 ++ p) (texts_from (player_in b) 1 11 ++ q)
-    (omega arith) (omega arith)
-    (sym (append_assoc (text a.name) (texts_from (player_in a) 1 11) p) ∙ e ∙ append_assoc (text b.name) (texts_from (player_in b) 1 11) q) in
+    (grind (arith, text_short 16 a.name h.name)) (grind (arith, text_short 16 b.name k.name)) (grind (arith, append_assoc)) in
     let players = each_text (player_in a) (player_in b) (player_short a h) (player_short b k) 11 1 p q name.1 in
     (same_team a b h k name.0 players.0, players.1)
 
 pub same_sheet : (s t : Sheet) → IsSheet s → IsSheet t → written s ≡ written t → in_columns t.columns s ≡ t
 same_sheet s t h k e =
-    let title_short = text_short 60 s.title h.3 in
-    let title_brief = text_short 60 t.title k.3 in
-    let title = first_text s.title t.title _ _ (omega arith) (omega arith) e in
+    let title = first_text s.title t.title _ _ (grind (arith, text_short 60 s.title h.3)) (grind (arith, text_short 60 t.title k.3)) e in
     let number : to_be_bytes w64 s.game ≡ to_be_bytes w64 t.game = ap (take 8) title.1 in
-    let game : s.game ≡ t.game =
-    sym (from_be_bytes-to_be_bytes_8 s.game h.0) ∙ ap (from_be_bytes w64) number ∙ from_be_bytes-to_be_bytes_8 t.game k.0 in
+    let game : s.game ≡ t.game = grind (arith, number, from_be_bytes-to_be_bytes_8 s.game h.0, from_be_bytes-to_be_bytes_8 t.game k.0) in
     let innings : s.innings ≡ t.innings = ap (λ (l : List ℕ). slice_index l 8) title.1 in
     let sides : side_text s Home ++ (side_text s Away ++ limits_text s.limits) ≡ side_text t Home ++ (side_text t Away ++ limits_text t.limits) = ap (drop 9) title.1 in
     let home = side_once s.home t.home h.1 k.1 (side_text s Away ++ limits_text s.limits) (side_text t Away ++ limits_text t.limits) sides in
