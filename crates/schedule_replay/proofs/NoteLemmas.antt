@@ -7,6 +7,7 @@ use Rattle.std.proofs.lemmas.Option.{gets}
 use Rattle.std.proofs.lemmas.List.{get_or-set_other, get_or-set_same, get_or_read_under, length-replicate, length-set}
 use Rattle.std.proofs.lemmas.List.Elements.{Contains-append_left, Contains-push, Contains-push_cases}
 use Rattle.std.specs.Prelude.{Contains, get_or, slice_get, slice_index_or, slice_set}
+use Rattle.corrections.proofs.LegalLemmas.{slice_get-push}
 use Rattle.match_laws.specs.declared.standing.Standing.{Standing}
 use Rattle.notation.specs.declared.entry.TheConstants.{PLACES}
 use Rattle.headline.specs.declared.event.Station.{Station}
@@ -51,10 +52,6 @@ empty_kept shown marks seen = record {
 mark_stays : (xs : List Bool) (i j : ℕ) → i < length xs → get_or xs j false ≡ true → get_or (slice_set xs i true) j false ≡ true
 mark_stays xs i j l h = grind (arith, get_or-set_same xs i true false l, get_or-set_other xs i j true false)
 
--- what stands in a list with one more at its end
-at_push : (xs : List Shown) (x y : Shown) (i : ℕ) → slice_get (xs ++ x ∷ []) i ≡ Some y → (slice_get xs i ≡ Some y) ⊎ ((i ≡ length xs) × (x ≡ y))
-at_push xs x y i h = grind (arith, common_steps, gets)
-
 -- the mark that is read of a station and a length
 pub mark_read : (shown : ShownScores) (u : Station) (m mark : ℕ) (b : Bool) → IsKept shown → mark ≡ mark_of u m → mark < most_marks → b ≡ slice_index_or shown.marks.items mark b
     → b ≡ get_or shown.marks.items (mark_of u m) false
@@ -82,7 +79,7 @@ module _ (u : Station) (m : ℕ) (score : Standing) where
 
   once_more : (xs : List Shown) → StandOnce xs → ((i : ℕ) (other : Standing) → slice_get xs i ≡ Some (u, m, other) → ⊥) → StandOnce (xs ++ (u, m, score) ∷ [])
   once_more xs h none i j t n s o p q =
-      grind (arith, at_push xs (u, m, score) (t, n, s) i p, at_push xs (u, m, score) (t, n, o) j q, h i j t n s o, none i s, none j o)
+      grind (arith, slice_get-push xs (u, m, score) i (t, n, s) p, slice_get-push xs (u, m, score) j (t, n, o) q, h i j t n s o, none i s, none j o)
 
   -- one that wasn't marked is added and marked
   pub added_kept : (old new : ShownScores) → IsStation u → m ≤ PLACES → mark_of u m < most_marks → IsKept old → (IsMarked old.marks.items u m → ⊥)
@@ -100,7 +97,7 @@ module _ (u : Station) (m : ℕ) (score : Standing) where
                   let c = h.marked t n q k (sym (get_or-set_other old.marks.items at (mark_of t n) true false i.1) ∙ subst (λ (xs : List Bool). IsMarked xs t n) marks e) in
                   (c.0, rw seen (Contains-append_left old.seen.items ((u, m, score) ∷ []) (t, n, c.0) c.1))
             ];
-        known = λ i t n s e. rw marks (elim (at_push old.seen.items (u, m, score) (t, n, s) i (rw seen at e)) [
+        known = λ i t n s e. rw marks (elim (slice_get-push old.seen.items (u, m, score) i (t, n, s) (rw seen at e)) [
           | inl g ↦ mark_stays old.marks.items at (mark_of t n) less (h.known i t n s g)
           | inr g ↦ subst (λ (y : Shown). get_or (slice_set old.marks.items at true) (mark_of y.0 y.1) false ≡ true) g.1
               (get_or-set_same old.marks.items at true false less)
