@@ -27,8 +27,7 @@ use Rattle.schedules.specs.inner.ScheduleReading.{fill_at, give_at, line_says, p
 use Rattle.schedules.proofs.ScheduleCuts.{cut_digits, cut_found}
 
 bind_some : {X Y : Type 0} → (o : Option X) (f : X → Option Y) (y : Y) → (o >>= f) ≡ Some y → (x : X) × (o ≡ Some x) × (f x ≡ Some y)
-bind_some (Some x) f y h = (x, refl, h)
-bind_some None f y h = absurd (cc)
+bind_some o f y h = grind arith
 
 ascii_of : (bs : List ℕ) → list_all (λ b. nat_lt b 128) bs ≡ true → IsAscii bs
 ascii_of [] h = IsAscii-nil
@@ -109,9 +108,7 @@ unfolding choice_at
 choice_found w c h = grind (arith, same w (codes "lost"), same w (codes "kept"), fill_found w c)
 
 choice_ascii : (c : Choice) → IsWrittenChoice c → IsAscii (choice_text c)
-choice_ascii Choice.Lost h = ascii_of (codes "lost") refl
-choice_ascii Choice.Kept h = ascii_of (codes "kept") refl
-choice_ascii (Choice.Fill v) h = spaced_ascii (codes "fill") (decimal v) (ascii_of (codes "fill") refl) (IsAscii-decimal v (omega (arith, h)))
+choice_ascii c h = grind (arith, ascii_of (codes "lost") refl, ascii_of (codes "kept") refl, ascii_of (codes "fill") refl, spaced_ascii (codes "fill"), IsAscii-decimal)
 
 power_text : (d : DeskId) (c : Choice) → codes "power" ++ (32 ∷ (desk_word d ++ (32 ∷ choice_text c))) ≡ event_text (Event.Power d c)
 power_text d c = grind arith
@@ -215,13 +212,8 @@ IsSaid n line (Err (BadEntry k fault)) = (k ≡ n) × HasBadEntry fault line
 no_event : (n : ℕ) (line : List ℕ) → pen_at line ≡ None → event_at line ≡ None → IsNoEvent line
 unfolding line_says
 no_event n line pen other = record {
-  no_event = λ e h was.
-      let ok : line_says n line ≡ Ok e = ap (line_says n) was ∙ says_again n e h in
-      let bad : line_says n line ≡ Err (BadEvent n) = ap (λ o. pen_or n o line) pen ∙ ap (event_or n) other in
-      absurd (cc);
-  no_pen = λ d entry was.
-      let some : pen_at line ≡ Some (d, entry) = ap pen_at was ∙ pen_again d entry in
-      absurd (cc);
+  no_event = λ e h was. grind (arith, says_again n e h, pen, other);
+  no_pen = λ d entry was. grind (arith, pen_again d entry, pen);
 }
 
 entry_says : (n : ℕ) (d : DeskId) (entry : List ℕ) (r : Result Entry LineFault) → line_answer entry ≡ r → IsSaid n (pen_line d entry) (penned n d r)
@@ -229,8 +221,7 @@ entry_says n d entry (Ok x) was = let p = line_found entry x was in (p.0, ap (pe
 entry_says n d entry (Err f) was = (refl, (d, entry, refl, line_fault entry ∙ ap fault_of was))
 
 event_says : (n : ℕ) (line : List ℕ) (o : Option Event) → pen_at line ≡ None → event_at line ≡ o → IsSaid n line (event_or n o)
-event_says n line (Some e) pen was = let p = event_found line e was in (p.0, p.1)
-event_says n line None pen was = (refl, no_event n line pen was)
+event_says n line o pen was = grind (arith, event_found line, no_event n line pen)
 
 pen_says : (n : ℕ) (line : List ℕ) (o : Option (DeskId × List ℕ)) → pen_at line ≡ o → IsSaid n line (pen_or n o line)
 pen_says n line (Some p) was = rw (pen_found line p was) (entry_says n p.0 p.1 (line_answer p.1) refl)

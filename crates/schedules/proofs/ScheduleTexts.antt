@@ -31,9 +31,7 @@ pub none_wrong : (n : ℕ) (line : List ℕ) (why : ScheduleFault) (rest : List 
 none_wrong n line why rest [] [] says h same = cc
 none_wrong n line why rest (b ∷ bs) [] says h same = cc
 none_wrong n line why rest [] (f ∷ fs) says h same =
-    let is : line ≡ event_text f = cc in
-    let ok : line_says n line ≡ Ok f = ap (line_says n) is ∙ says_again n f (All-head IsWrittenEvent f fs h) in
-    cc
+    let ok = says_again n f (All-head IsWrittenEvent f fs h) in cc
 none_wrong n line why rest (b ∷ bs) (f ∷ fs) says h same =
     none_wrong n line why rest bs fs says (All-tail IsWrittenEvent f fs h) (cc)
 

@@ -23,12 +23,11 @@ loop-line-preserved c =
     let old = c.loop-line.events.items in
     let e = c.in-Ok.ensures.taken.0 in
     let p = is_said _ _ (Ok e) c.in-Ok.ensures.taken.1 in
-    let added : map event_text (old ++ e ∷ []) ++ c.next.new.self ≡ map event_text old ++ (event_text e ∷ c.next.new.self) = simp (map-append, append_assoc) in
     rw c.in-Ok.ensures.taken.2 (record {
       numbered = omega (arith, m.numbered, length-append old (e ∷ []));
       short = omega (arith, m.short, ap length c.in-Some.ensures);
       written = All-push IsWrittenEvent old e m.written p.0;
-      texts = m.texts ∙ (ap (λ u. map event_text old ++ u) (c.in-Some.ensures ∙ ap (λ u. u ∷ c.next.new.self) p.1) ∙ sym added);
+      texts = rw (m.texts, c.in-Some.ensures, p.1) (simp (map-append, append_assoc));
     })
 
 pub returns-clause-only : goal.returns-clause-only
