@@ -1,7 +1,7 @@
 -- An event at a board is a step of the definitions there, and a step of the world.
-use Rattle.std.proofs.Common.{◌≡◌, ◌⊎◌, ℕ, zero, suc, ◌+◌, ◌-◌, Bool, true, false, Option, Some, None, List, []}
-use Rattle.std.proofs.Common.{◌∷◌, ◌++◌, length, map, refl, sym, ap, ◌∙◌, subst, inl, inr, Result, Ok, Err, add-one, arith, ⊎_elim}
-use Rattle.std.specs.Prelude.{IfErr, IfOk, OnOk, get_or, option_map, slice_get, slice_set}
+use Rattle.std.proofs.Common.{◌≡◌, ◌⊎◌, ℕ, zero, suc, ◌+◌, ◌-◌, Bool, true, false, Some, None, List, []}
+use Rattle.std.proofs.Common.{◌∷◌, ◌++◌, length, map, refl, sym, ap, ◌∙◌, subst, inl, inr, Result, Ok, Err, add-one, arith}
+use Rattle.std.specs.Prelude.{IfErr, IfOk, OnOk, get_or, slice_get, slice_set}
 use Rattle.std.proofs.lemmas.List.{length-map, map-append, map-set, set-get_or}
 use Rattle.std.proofs.lemmas.Bool.Decides.{nat_tests}
 use Rattle.std.proofs.lemmas.List.Elements.{All-nil, All-push, All-set}
@@ -15,23 +15,21 @@ use Rattle.agree_core.specs.Books.{Rules}
 use Rattle.board.specs.declared.refusal.BoardRefusal.{BoardRefusal}
 use Rattle.board.specs.Takes.{Takes}
 use Rattle.wire.specs.declared.{datagram.Datagram.Datagram, what.What.What}
-use Rattle.wire.specs.Layout.{IsMessage, Says, written}
+use Rattle.wire.specs.Layout.{IsMessage, Says}
 use Rattle.wire.specs.Sent.{AreSent}
 use Rattle.wire.proofs.FaultLemmas.{reads_once}
 use Rattle.wire.proofs.MessageLemmas.{says_once}
 use Rattle.headline.specs.declared.{event.Event.Event, event.Station.Station, version.FileVersion.FileVersion}
 use Rattle.schedule_replay.specs.declared.{seen.Seen.Seen, seen.WorldRefusal.WorldRefusal, site.Site.Site, world.World.World}
-use Rattle.world_desks.specs.declared.world_desk.WorldDesk.{WorldDesk}
 use Rattle.headline.specs.Configurations.{Running, Node, Configuration, board_at, fresh_boards, with_board}
 use Rattle.headline.specs.Events.{station_of}
 use Rattle.headline.specs.Answers.{Answer, board_told}
 use Rattle.headline.specs.BoardSteps.{AtBoard}
-use Rattle.headline.specs.Steps.{StepAt}
-use Rattle.schedule_replay.specs.Refusals.{LeftByWant, first_cause, may_grow, may_send, no_board, refusal_of}
+use Rattle.schedule_replay.specs.Refusals.{first_cause, may_grow, may_send, no_board, refusal_of}
 use Rattle.headline.specs.Match.{match_of}
 use Rattle.schedule_replay.specs.Answers.{AreBytesOf, answer_of}
 use Rattle.headline.specs.Runs.{Begins, BeginsAt}
-use Rattle.schedule_replay.specs.inner.Sites.{BeginsSite, IsProcess, HasNode}
+use Rattle.schedule_replay.specs.inner.Sites.{BeginsSite, HasNode}
 use Rattle.world_desks.specs.WorldDesks.{state_of}
 use Rattle.schedule_replay.specs.CodeWorlds.{BeginsWorld, boards_of, match_version, IsBoardOf, HasConfiguration, MatchBoard}
 use Rattle.schedule_replay.specs.CodeWorlds.{RefusesTo, StepsTo, board_game, board_innings, board_seen, board_state, code_site}

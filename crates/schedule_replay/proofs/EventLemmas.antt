@@ -10,21 +10,20 @@ use Rattle.entry_log.specs.declared.mem_disk.{MemDisk.MemDisk, choice.Choice.Cho
 use Rattle.entry_log.specs.declared.mem_disk.plan.Plan.TheVariants.{Calm}
 use Rattle.agree_core.specs.declared.messages.Message.{Message}
 use Rattle.agree_core.specs.Desks.{Ticks}
-use Rattle.agree_core.specs.FileView.{Stays}
 use Rattle.wire.specs.declared.datagram.Datagram.{Datagram}
 use Rattle.wire.specs.Sent.{AreSent}
 use Rattle.headline.specs.declared.{event.Event.Event, event.Station.Station, fault.Fault.Fault}
 use Rattle.schedule_replay.specs.declared.{seen.Seen.Seen, site.Site.Site}
 use Rattle.world_desks.specs.declared.world_desk.WorldDesk.{WorldDesk}
-use Rattle.headline.specs.Configurations.{Process, Running, Down, Node, process_disk, process_votes, with_disk}
+use Rattle.headline.specs.Configurations.{Running, Down, Node, process_disk, process_votes}
 use Rattle.headline.specs.Answers.{Answer}
 use Rattle.headline.specs.DeskFaults.{FallsDue, LosesPower}
 use Rattle.headline.specs.DeskSteps.{AtDesk}
 use Rattle.headline.specs.Match.{format_of, match_of}
 use Rattle.schedule_replay.proofs.OpenLemmas.{down_at, stays_down}
-use Rattle.schedule_replay.specs.inner.Sites.{HasNode, IsDue, IsWorldDisk, PutsDown, SiteSteps, disk_at}
+use Rattle.schedule_replay.specs.inner.Sites.{HasNode, IsDue, PutsDown, SiteSteps, disk_at}
 use Rattle.world_desks.specs.WorldDesks.{SameOwner, disk_of, game_of, state_of}
-use Rattle.schedule_replay.proofs.SiteLemmas.{HasDisk, down_is, no_bytes, only_one, put_down_is, running_is, runs_again, sets_plan_stays, site_disk, ticked}
+use Rattle.schedule_replay.proofs.SiteLemmas.{HasDisk, no_bytes, only_one, put_down_is, running_is, runs_again, sets_plan_stays, site_disk, ticked}
 
 -- what a tick hands out
 pub ticks : (site : Site) (k : WorldDesk) (t : Station) (n : ℕ) (out before after : List Datagram) → site.desk ≡ Some k

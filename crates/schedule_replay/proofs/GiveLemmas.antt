@@ -1,6 +1,6 @@
 -- Bytes that were handed out are taken as the message that they say.
-use Rattle.std.proofs.Common.{arith, ◌≡◌, ◌≢◌, ℕ, Option, Some, None, List, [], ◌++◌, map, refl, sym, ap, ◌∙◌, subst, inl, Ok, Err}
-use Rattle.std.specs.Prelude.{◌<◌, All, IsErrOf, length, slice_index_or, true, false, is_some, option_map, slice_get}
+use Rattle.std.proofs.Common.{arith, ◌≡◌, ℕ, Option, Some, None, List, [], ◌++◌, map, refl, sym, ap, ◌∙◌, subst, inl, Ok, Err}
+use Rattle.std.specs.Prelude.{◌<◌, All, length, slice_index_or, true, false, slice_get}
 use Rattle.std.specs.Bool.{⊤}
 use Rattle.std.proofs.lemmas.List.Elements.{All-get_or}
 use Rattle.std.proofs.lemmas.Option.{get_or_from_slice_get, slice_get-get_or, slice_get-map, slice_get_within}

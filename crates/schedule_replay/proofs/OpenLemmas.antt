@@ -1,8 +1,8 @@
 -- Opening the file of a site whose desk is down is a step of the definitions there.
-use Rattle.std.proofs.Common.{arith, ◌≡◌, ◌≢◌, ℕ, Bool, Option, Some, None, List, [], length, refl, sym, ap, ◌∙◌, subst, inl, Result, Ok, Err}
+use Rattle.std.proofs.Common.{arith, ◌≡◌, ℕ, Bool, Option, Some, None, List, [], length, refl, sym, ap, subst, inl, Result, Ok, Err}
 use Rattle.std.specs.Option.{is_none, is_some}
 use Rattle.std.specs.Bool.{⊤}
-use Rattle.std.specs.Prelude.{IfOk, IsErrOf, OnErr}
+use Rattle.std.specs.Prelude.{IfOk, OnErr}
 use Rattle.corrections.specs.declared.refusal.Refusal.{Refusal}
 use Rattle.entry_log.specs.Blame.{BlamesDisk}
 use Rattle.entry_log.specs.Disk.{IsOnce, Never}
@@ -13,7 +13,7 @@ use Rattle.agree_core.specs.Ballots.{Ballot}
 use Rattle.agree_core.specs.Books.{Rules}
 use Rattle.agree_core.specs.Desks.{DeskState}
 use Rattle.agree_core.specs.FileView.{FileView, MaySync}
-use Rattle.agree_core.specs.Openings.{NotOpened, Opened, Opening, Opens}
+use Rattle.agree_core.specs.Openings.{NotOpened, Opened, Opens}
 use Rattle.agree_core.specs.Openings as openings
 use Rattle.vote_store.specs.declared.refusal.Refusal.{Refusal as VotesRefusal}
 use Rattle.wire.specs.declared.datagram.Datagram.{Datagram}
@@ -30,9 +30,9 @@ use Rattle.headline.specs.DeskAnswers.{AfterOpen}
 use Rattle.headline.specs.Match.{match_of}
 use Rattle.headline.specs.Setting.{Setting}
 use Rattle.schedule_replay.specs.Answers.{answer_of, is_failing, wants_memory}
-use Rattle.schedule_replay.specs.inner.Sites.{BreaksDown, IsDue, IsProcess, HasNode, IsWorldDisk, NotFoundBy, SameSite, SiteSteps, SyncsSite, disk_at, votes_at}
+use Rattle.schedule_replay.specs.inner.Sites.{BreaksDown, IsDue, HasNode, IsWorldDisk, NotFoundBy, SameSite, SiteSteps, SyncsSite}
 use Rattle.world_desks.specs.WorldDesks.{IsWorldDeskOf, disk_of, state_of}
-use Rattle.schedule_replay.proofs.SiteLemmas.{HasDisk, broken, broken_same, down_is, no_bytes}
+use Rattle.schedule_replay.proofs.SiteLemmas.{HasDisk, broken, broken_same, no_bytes}
 
 -- a site whose desk is down
 pub record IsDown (site : Site) (disk : MemDisk) (x : Node MemDisk) : Type 0 where

@@ -1,5 +1,5 @@
 -- A pen at a site's desk is a step of the definitions there.
-use Rattle.std.proofs.Common.{arith, ◌≡◌, ◌≢◌, ℕ, Bool, Some, List, ◌++◌, length, map, refl, sym, ap, append-nil, ◌∙◌, subst, Result, Err}
+use Rattle.std.proofs.Common.{arith, ◌≡◌, ◌≢◌, Bool, Some, List, ◌++◌, length, map, refl, sym, ap, append-nil, ◌∙◌, Result, Err}
 use Rattle.notation.specs.declared.entry.Entry.{Entry}
 use Rattle.corrections.specs.declared.refusal.Refusal.{Refusal}
 use Rattle.entry_log.specs.MemDisk.{cap_of, faults_of}
@@ -8,7 +8,6 @@ use Rattle.agree_core.specs.Desks.{DeskState, PenAnswer, Pens}
 use Rattle.agree_core.specs.FileView.{FileView}
 use Rattle.entry_log.specs.Blame.{BlamesDisk}
 use Rattle.wire.specs.declared.datagram.Datagram.{Datagram}
-use Rattle.wire.specs.Layout.{written}
 use Rattle.wire.specs.Sent.{AreSent}
 use Rattle.desk.specs.declared.{desk.Penned.Penned, refusal.Refusal.Refusal as DeskRefusal}
 use Rattle.desk.specs.Answers.{pen_answer, sent}
@@ -18,7 +17,7 @@ use Rattle.world_desks.specs.declared.world_desk.WorldDesk.{WorldDesk}
 use Rattle.headline.specs.Configurations.{Running, Node}
 use Rattle.headline.specs.DeskAnswers.{AfterPen}
 use Rattle.headline.specs.Match.{match_of}
-use Rattle.schedule_replay.specs.Answers.{AreBytesOf, answer_of, told_to_pen}
+use Rattle.schedule_replay.specs.Answers.{answer_of, told_to_pen}
 use Rattle.schedule_replay.specs.inner.Sites.{AfterRefusal, RefusedBy, SameSite, SiteSteps}
 use Rattle.world_desks.specs.WorldDesks.{FitsOneMore, SameOwner, disk_of, game_of, rules_of, state_of, view_of}
 use Rattle.schedule_replay.proofs.SiteLemmas.{Runs, broken_same, broken_site, has_room, more_bytes, no_bytes, of_match, running_is, runs_on, own_votes}

@@ -1,6 +1,6 @@
 -- A run goes on by one event, and what it shows is noted.
 use Rattle.std.proofs.Common.{◌≡◌, ◌⊎◌, ◌<◌, ◌≤◌, ℕ, ◌+◌, Some, List, Result, Ok, Err, [], ◌∷◌}
-use Rattle.std.proofs.Common.{◌++◌, length, map, add-one, refl, sym, ap, ◌∙◌, inl, inr, subst, arith, take, slice_index_or, length-append}
+use Rattle.std.proofs.Common.{◌++◌, length, add-one, refl, sym, ap, ◌∙◌, inl, inr, subst, arith, take, slice_index_or, length-append}
 use Rattle.std.proofs.Math.Seq.{take-append_seam, take-length, take-suc}
 use Rattle.std.proofs.lemmas.Option.{slice_get-get_or}
 use Rattle.std.proofs.lemmas.List.{length-set, map-append}
@@ -16,13 +16,12 @@ use Rattle.agree_core.specs.Books.{IsAgreedByFiles}
 use Rattle.headline.specs.declared.{event.Event.Event, event.Station.Station, version.FileVersion.FileVersion}
 use Rattle.schedule_replay.specs.declared.{report.Report.Report, seen.Seen.Seen, seen.WorldRefusal.WorldRefusal, world.World.World}
 use Rattle.schedule_replay.specs.declared.seen.WorldRefusal.TheVariants.{NoMemory}
-use Rattle.headline.specs.Configurations.{Configuration, all_votes, with_board}
+use Rattle.headline.specs.Configurations.{Configuration, all_votes}
 use Rattle.headline.specs.Events.{station_of}
 use Rattle.headline.specs.Answers.{Answer}
-use Rattle.headline.specs.Steps.{Step, StepAt}
-use Rattle.headline.specs.Runs.{AtEachMoment, AtSomeMoment, Begins, Moment, Run, Shows, answers_of, last_of}
+use Rattle.headline.specs.Steps.{StepAt}
+use Rattle.headline.specs.Runs.{AtEachMoment, AtSomeMoment, Begins, Moment, Run, Shows, last_of}
 use Rattle.headline.specs.Match.{match_of}
-use Rattle.schedule_replay.specs.Answers.{answer_of}
 use Rattle.schedule_replay.specs.CodeWorlds.{BeginsWorld, IsNew, boards_of, match_version, HasConfiguration, RefusesTo, KeepsMatch, StepsTo}
 use Rattle.headline.specs.Headline.{AllHaveScores, ShowsScore}
 use Rattle.headline.specs.Laws.{HoldsInRun}

@@ -1,5 +1,5 @@
 -- An event at a site is taken, or not.
-use Rattle.std.proofs.Common.{arith, ◌≡◌, ◌⊎◌, Bool, true, Option, Some, None, List, refl, ap, ◌∙◌, inl, inr, Result, Ok, Err}
+use Rattle.std.proofs.Common.{arith, ◌≡◌, ◌⊎◌, Bool, true, Option, Some, None, List, ap, ◌∙◌, inr, Result, Ok, Err}
 use Rattle.std.specs.Prelude.{IfOk, OnErr}
 use Rattle.std.proofs.Math.Bool.{not}
 use Rattle.std.specs.Option.{is_none, is_some}

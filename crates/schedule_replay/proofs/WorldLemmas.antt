@@ -1,5 +1,5 @@
 -- What happens at a site is a step of the world.
-use Rattle.std.proofs.Common.{arith, ◌≡◌, ℕ, false, Some, List, [], ◌++◌, length, refl, sym, ap, ◌∙◌, subst, inl, inr, Result, Ok, Err, append-nil}
+use Rattle.std.proofs.Common.{arith, ◌≡◌, ℕ, false, Some, List, [], ◌++◌, length, refl, sym, ap, ◌∙◌, inl, inr, Result, Ok, Err, append-nil}
 use Rattle.std.specs.Prelude.{IfErr, IfOk, OnOk}
 use Rattle.std.proofs.lemmas.List.{length-map}
 use Rattle.corrections.specs.declared.refusal.Refusal.{Refusal}
@@ -15,12 +15,11 @@ use Rattle.headline.specs.Configurations.{Node, Configuration, node, process_dis
 use Rattle.headline.specs.Events.{station_of}
 use Rattle.headline.specs.Answers.{Answer}
 use Rattle.headline.specs.DeskSteps.{AtDesk}
-use Rattle.headline.specs.Steps.{StepAt}
 use Rattle.schedule_replay.specs.Refusals.{LeftByWant, MaySyncAt, refusal_of}
 use Rattle.headline.specs.Match.{match_of}
 use Rattle.schedule_replay.specs.Answers.{AreBytesOf, answer_of}
 use Rattle.schedule_replay.specs.Plans.{HasPlan, LeavesPlan, StaysDue, asks_fault}
-use Rattle.schedule_replay.specs.inner.Sites.{IsProcess, HasNode, KeepsDue, SiteLeft, SiteTakes, SyncsSite, disk_at, site_cause}
+use Rattle.schedule_replay.specs.inner.Sites.{HasNode, KeepsDue, SiteLeft, SiteTakes, SyncsSite, disk_at, site_cause}
 use Rattle.schedule_replay.specs.inner.Sites as sites
 use Rattle.schedule_replay.specs.CodeWorlds.{IsSiteOf, HasConfiguration, RefusesTo, StepsTo, code_site}
 use Rattle.schedule_replay.proofs.SiteLemmas.{site_disk}

@@ -1,8 +1,6 @@
-use Rattle.std.proofs.Common.{arith, sym, subst, ◌∙◌, Some}
-use Rattle.headline.specs.declared.event.Event.{Event}
-use Rattle.schedule_replay.specs.declared.seen.{Cause.Cause, Seen.Seen}
+use Rattle.std.proofs.Common.{sym, ◌∙◌}
+use Rattle.schedule_replay.specs.declared.seen.{Cause.Cause}
 use Rattle.desk.specs.declared.refusal.Refusal.{Refusal}
-use Rattle.schedule_replay.specs.inner.Sites.{SiteSteps}
 use Rattle.schedule_replay.proofs.GiveLemmas.{calm_faults, give_breaks, give_runs_on, stands_at}
 use Rattle.schedule_replay.proofs.SiteLemmas.{broken_same}
 use Rattle.schedule_replay.proofs.site.Site.give.Goals as goal

@@ -1,4 +1,4 @@
-use Rattle.std.proofs.Common.{arith, refl, Ok}
+use Rattle.std.proofs.Common.{refl, Ok}
 use Rattle.schedule_replay.specs.Answers.{is_device}
 use Rattle.schedule_replay.specs.declared.seen.Seen.{Seen}
 use Rattle.schedule_replay.proofs.PenLemmas.{pen_refused, pen_runs_on, refused_same}

@@ -1,4 +1,4 @@
-use Rattle.std.proofs.Common.{arith, sym, refl, ◌∙◌, ℕ, subst, [], Option, Some}
+use Rattle.std.proofs.Common.{sym, refl, ◌∙◌, ℕ, subst, [], Option, Some}
 use Rattle.entry_log.specs.MemDisk.{IsFresh}
 use Rattle.schedule_replay.specs.declared.{seen.Cause.Cause, seen.WorldRefusal.WorldRefusal}
 use Rattle.world_desks.specs.declared.world_desk.WorldDesk.{WorldDesk}

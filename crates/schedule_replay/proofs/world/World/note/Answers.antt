@@ -1,9 +1,8 @@
-use Rattle.std.proofs.Common.{◌≡◌, ◌<◌, ◌+◌, ◌∙◌, ℕ, suc, List, Some, Option, length, ap, arith, refl, sym, subst}
+use Rattle.std.proofs.Common.{◌≡◌, ◌<◌, ◌∙◌, ℕ, List, Some, length, ap, arith, refl, subst}
 use Rattle.std.proofs.lemmas.Option.{slice_get_read}
 use Rattle.std.specs.Prelude.{slice_get, slice_index_or}
 use Rattle.corrections.specs.Book.{Contents}
 use Rattle.agree_core.specs.declared.messages.DeskId.TheVariants.{A, B}
-use Rattle.headline.specs.declared.event.Station.{Station}
 use Rattle.schedule_replay.specs.CodeWorlds.{MatchBoard}
 use Rattle.schedule_replay.specs.inner.ShownScores.{BookShows, board_book}
 use Rattle.schedule_replay.proofs.ShowLemmas.{adds_book, all_noted, all_scored, board_name, desk_name, desk_noted, none_noted, noted_next, one_noted, scored_next}
