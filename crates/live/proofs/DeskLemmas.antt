@@ -30,7 +30,7 @@ use Rattle.live.specs.Runs.{Goes, Kind, Logs}
 use Rattle.station_texts.specs.Saying.{ComesTo, SaysEntry}
 use Rattle.links.specs.Typing.{Input, Line, End}
 use Rattle.links.specs.declared.aside.Aside.{Aside}
-use Rattle.live.specs.Asides.{aside_text}
+use Rattle.station_texts.specs.Asides.{aside_text}
 use Rattle.station_texts.specs.Texts.{came_text, reminder_text, said_text, unopened_text, warned_after, warned_reminded, warned_unopened}
 use Rattle.live.specs.LostLines.{end_given, end_here}
 use Rattle.live.specs.Ends.{Course, course_of, end_of, ending, further, known_at, known_in, known_until, turns_after}

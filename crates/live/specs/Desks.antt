@@ -21,7 +21,7 @@ use Rattle.live.specs.declared.ends.DeskEnd.{DeskEnd}
 use Rattle.station_texts.specs.declared.{reminder.Reminder.Reminder, said.Said.Said, warned.Warned.Warned}
 use Rattle.live.specs.declared.ends.DeskEnd.TheVariants.{NoMoreLines, Device, Write}
 use Rattle.station_texts.specs.declared.reminder.Reminder.TheVariants.{HasWritten, IsHeard, IsMissed}
-use Rattle.live.specs.Asides.{aside_text}
+use Rattle.station_texts.specs.Asides.{aside_text}
 use Rattle.live.specs.Ends.{Course, end_of, further, known_in}
 use Rattle.live.specs.LostLines.{end_here, shows_loss}
 use Rattle.links.specs.Passed.{Passed, Came, sends}

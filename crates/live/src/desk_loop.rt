@@ -2,17 +2,18 @@
 
 ghost use Rattle.std.specs.Prelude.{◌≡◌, ℕ, true, Err, IfSome, IsSome, OnOk, is_some};
 ghost use Rattle.notation.specs.Written.{IsEntry};
-ghost use Rattle.streams.specs.Watched.{has_failed};
+ghost use Rattle.std.specs.Io.KnownBytes.{Appends};
+ghost use Rattle.streams.specs.Watched.{has_failed, stream_of};
 ghost use Rattle.desk.specs.Desk.{last_entry, own_votes, state_of};
 ghost use Rattle.live.specs.Desks as desks;
 ghost use Rattle.live.specs.Desks.{Calls, DeskGoes, process_of};
 ghost use Rattle.live.specs.Ends as ends;
-ghost use Rattle.live.specs.Ends.{course_of, further, known_in, turns_after};
+ghost use Rattle.live.specs.Ends.{course_of, further, known_at, known_in, turns_after};
 ghost use Rattle.live.specs.Outside.{logs_of};
 ghost use Rattle.live.specs.Paces.{ticking_of};
 ghost use Rattle.live.specs.Ticks.{IsInTime, Ticking};
+ghost use Rattle.station_texts.specs.Asides.{aside_text};
 
-use crate::aside::tell_aside;
 use crate::between::Between;
 use crate::ends::{DeskEnd, told};
 use crate::hearing::{own_line, take_all};
@@ -23,14 +24,15 @@ use cards::MatchSheet;
 use corrections::BookOf;
 use desk::{Desk, Refusal};
 use entry_log::SlotsOf;
-use links::{Clock, Keys, LINE_ROOM, Link, Stand, Typed};
+use links::{Aside, Clock, Keys, LINE_ROOM, Link, Stand, Typed};
 use notation::Entry;
+use station_texts::asides::print_aside;
 use station_texts::both::Both;
 use station_texts::said::{Said, entry_said};
 use station_texts::texts::print_said;
 use station_texts::warned::Warned;
 use std::alloc::Global;
-use streams::Sink;
+use streams::{Sink, Watched};
 
 /// Where a desk stands, as far as its scorer's lines ask.
 fn stand_of<S: SlotsOf, B: BookOf + Drop>(desk: &Desk<S, B>) -> Stand
@@ -87,6 +89,20 @@ fn end_of(said: &Said) -> Result<(), DeskEnd>
         Said::Refused(_, Refusal::Device | Refusal::Failed) => Err(DeskEnd::Device),
         _ => Ok(()),
     }
+}
+
+/// Tells the scorer of lines that the desk isn't given.
+fn tell_aside<W: Sink>(
+    out: &mut Watched<W>,
+    sheet: &MatchSheet,
+    aside: &Aside,
+) -> Result<(), DeskEnd>
+    ensures text { Appends (known_at result (W.contents (stream_of out.old)))
+        (known_at result (W.contents (stream_of out.new))) (aside_text sheet.now.columns aside.now) }
+    ensures course { course_of result ≡ further }
+    ensures failed { result ≡ Err DeskEnd.Write → has_failed out.new ≡ true }
+{
+    told(print_aside(out, sheet.columns(), aside))
 }
 
 /// Takes a line that was typed, if there is one, and tells the scorer, who was told this of a peer, what it came to.

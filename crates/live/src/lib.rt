@@ -2,7 +2,6 @@
 //! peers.
 #![tactic(auto)]
 
-mod aside;
 mod begin;
 mod between;
 pub mod board_calls;

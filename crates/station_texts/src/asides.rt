@@ -1,16 +1,12 @@
 //! What a desk's scorer is told of lines that the desk isn't given yet, or never will be.
 
-ghost use Rattle.std.specs.Prelude.{◌≡◌, ◌≤◌, ◌++◌, codes, decimal, true, Err, OnOk};
-ghost use Rattle.std.specs.Io.KnownBytes.{Appends};
+ghost use Rattle.std.specs.Prelude.{◌≤◌, ◌++◌, codes, decimal, OnOk};
 ghost use Rattle.cards.specs.Sheet.{most_columns};
-ghost use Rattle.streams.specs.Watched.{Prints, TellsFailure, has_failed, stream_of};
-ghost use Rattle.live.specs.Asides as asides;
-ghost use Rattle.live.specs.Ends.{course_of, further, known_at};
+ghost use Rattle.streams.specs.Watched.{Prints, TellsFailure};
+ghost use Rattle.station_texts.specs.Asides as asides;
 
-use crate::ends::{DeskEnd, told};
-use cards::MatchSheet;
+use crate::texts::print_at;
 use links::{Aside, HeldLine};
-use station_texts::texts::print_at;
 use streams::{Sink, Watched, WriteFailed};
 
 /// Prints a line behind a comma, in a new row where there is no room in this one.
@@ -198,8 +194,8 @@ fn print_of_lines<W: Sink>(
     }
 }
 
-/// Prints it at once.
-fn print_aside<W: Sink>(
+/// Prints what is told of lines that the desk isn't given, in rows of so many columns, and hands it on at once.
+pub fn print_aside<W: Sink>(
     out: &mut Watched<W>,
     columns: usize,
     aside: &Aside,
@@ -210,18 +206,4 @@ fn print_aside<W: Sink>(
 {
     print_of_lines(out, columns, aside)?;
     out.flush()
-}
-
-/// Tells the scorer of lines that the desk isn't given.
-pub fn tell_aside<W: Sink>(
-    out: &mut Watched<W>,
-    sheet: &MatchSheet,
-    aside: &Aside,
-) -> Result<(), DeskEnd>
-    ensures text { Appends (known_at result (W.contents (stream_of out.old)))
-        (known_at result (W.contents (stream_of out.new))) (asides.aside_text sheet.now.columns aside.now) }
-    ensures course { course_of result ≡ further }
-    ensures failed { result ≡ Err DeskEnd.Write → has_failed out.new ≡ true }
-{
-    told(print_aside(out, sheet.columns(), aside))
 }

@@ -1,5 +1,5 @@
 use Rattle.streams.proofs.Appending.{appends_last}
-use Rattle.live.proofs.aside.print_not_taken.Goals as goal
+use Rattle.station_texts.proofs.asides.print_not_taken.Goals as goal
 
 pub returns-clause-text : goal.returns-clause-text
 returns-clause-text g c =
