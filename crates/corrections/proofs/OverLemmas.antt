@@ -2,9 +2,9 @@
 use Rattle.std.proofs.Common.{arith, ◌≡◌, ℕ, ◌+◌, ◌<◌, ◌≤◌, true, List, [], ◌∷◌, ◌++◌, length, take, drop, get_or}
 use Rattle.std.proofs.Common.{refl, sym, ap, ◌∙◌, append-nil}
 use Rattle.std.proofs.lemmas.List.{take_all, take_more}
-use Rattle.notation.specs.declared.entry.{Ball.Ball, Plain.Plain, Entry.Entry}
-use Rattle.ball_laws.specs.History.{History, open_over, called_overs, first_over}
-use Rattle.match_laws.specs.History.{is_void, last_side}
+use Rattle.notation.specs.declared.entry.{Ball.Ball, Entry.Entry}
+use Rattle.ball_laws.specs.History.{History, open_over, called_overs}
+use Rattle.match_laws.specs.History.{last_side}
 use Rattle.corrections.specs.declared.{overs.Overs.Overs, placed.Placed.Placed}
 use Rattle.corrections.specs.CleanList.{clean, clean_items_of, history, history_of, kept}
 use Rattle.corrections.specs.Overs.{AreOversOf, balls_of, bowled, with_balls}
@@ -41,16 +41,9 @@ pub record AreAlike (g h : History) : Type 0 where
   pub called : called_overs g ≡ called_overs h
   pub side : last_side g ≡ last_side h
 
-alike_more : (g h : History) (x : Plain) → AreAlike g h → AreAlike (x ∷ g) (x ∷ h)
-alike_more g h x e = grind arith
-
-alike_void : (g h : History) (x : Plain) → is_void x ≡ true → AreAlike g h → AreAlike (x ∷ g) h
-alike_void g h x v e = grind arith
-
 walked : (g h : History) (xs : List Placed) → AreAlike g h → AreAlike (history_after g xs) (history_after h (kept xs))
 walked g h [] e = e
-walked g h (x ∷ xs) e =
-    grind (arith, walked (x.item ∷ g) h xs, walked (x.item ∷ g) (x.item ∷ h) xs, alike_void g h x.item, alike_more g h x.item)
+walked g h (x ∷ xs) e = grind (arith, walked (x.item ∷ g) h xs, walked (x.item ∷ g) (x.item ∷ h) xs)
 
 is_after : (xs : List Placed) → history_after [] xs ≡ history xs
 is_after xs = history_after-history [] xs ∙ append-nil (history xs)
@@ -60,8 +53,7 @@ alike-kept xs = rw (is_after xs, is_after (kept xs)) at (walked [] [] xs (record
 
 pub overs-kept : (overs : Overs) (xs : List Placed) → AreOversOf overs (history xs) → AreOversOf overs (history (kept xs))
 overs-kept overs xs are =
-    let e = alike-kept xs in
-    record { this = are.this ∙ e.over; last = are.last ∙ ap first_over e.called }
+    grind (arith, alike-kept xs)
 
 pub overs-book : (overs : Overs) (book : List Entry) (items : List Placed) → items ≡ clean_items_of book → AreOversOf overs (history (kept items)) → AreOversOf overs (history_of book)
 unfolding history_of clean
