@@ -1,6 +1,6 @@
 -- Where overs begin among what stands.
 use Rattle.std.proofs.Common.{arith, ◌≡◌, ℕ, ◌+◌, ◌<◌, ◌≤◌, true, List, [], ◌∷◌, ◌++◌, length, take, drop, get_or}
-use Rattle.std.proofs.Common.{refl, sym, ap, ◌∙◌, append-nil}
+use Rattle.std.proofs.Common.{refl, ap, ◌∙◌, append-nil}
 use Rattle.std.proofs.lemmas.List.{take_all, take_more}
 use Rattle.notation.specs.declared.entry.{Ball.Ball, Entry.Entry}
 use Rattle.ball_laws.specs.History.{History, open_over, called_overs}
@@ -27,11 +27,8 @@ balls_all items k end = ap balls_of (take_all k items end)
 
 -- ---- the over that is on
 
-none_open : (h : History) → is_parted h ≡ true → open_over h ≡ []
-none_open h e = grind arith
-
 pub this_from : (items : List Placed) (k : ℕ) → AddFrom items k → is_parted (history (take k items)) ≡ true → balls_of (drop k items) ≡ open_over (history items)
-this_from items k m e = ap (λ over. with_balls over (drop k items)) (sym (none_open (history (take k items)) e)) ∙ m.this
+this_from items k m e = grind (arith, m.this)
 
 -- ---- `void`s are of no over, and begin no innings
 
