@@ -4,7 +4,6 @@ use Rattle.std.proofs.lemmas.Bool.{le-leb, leb-true}
 use Rattle.std.specs.Prelude.{nat_le, nat_lt, if◌then◌else◌}
 use Rattle.notation.specs.declared.entry.Side.{Side}
 use Rattle.notation.specs.declared.entry.Side.TheVariants.{Home, Away}
-use Rattle.notation.specs.declared.entry.Plain.TheVariants.{Innings}
 use Rattle.ball_laws.specs.History.{History}
 use Rattle.match_laws.specs.declared.outcome.Outcome.{Outcome}
 use Rattle.match_laws.specs.declared.outcome.Outcome.TheVariants.{Undecided, Draw, Tie, Wickets}
@@ -19,8 +18,7 @@ use Rattle.match_laws.proofs.LegalLemmas.{begun_few}
 
 side_current : (h : History) (side : Side) → is_side (last_side h) side ≡ true → side_eq (side_of h (current h)) side ≡ true
 side_current [] side e = cc
-side_current (Innings s ∷ h) side e = grind arith
-side_current (_ ∷ h) side e = side_current h side e
+side_current (x ∷ h) side e = grind (arith, side_current h side)
 
 own_total : (h : History) (side : Side) (k : ℕ) → k < 4 → side_eq (side_of h k) side ≡ true → total h k ≤ side_total h side
 unfolding side_total

@@ -17,11 +17,9 @@ use Rattle.match_laws.proofs.LegalLemmas.{taken, entries_few, begun_few, begun_r
 use Rattle.match_laws.proofs.Bounds.{score-small, record-small}
 use Rattle.match_laws.proofs.BattingFalls.{wickets-ten}
 
-begun_low : (m : Standing) → IsKept m → m.begun ≤ 4
-begun_low m w = omega (arith, begun_few w.innings_a_side w.history ((w.stands).one_or_two).1 (w.stands).legal, (w.stands).begun)
-
 pub kept_begun : (m : Standing) → ∥ IsKept m ∥₁ → m.begun ≤ 4
-kept_begun m kept = ∥∥₁_elim kept le_prop (begun_low m)
+kept_begun m kept = ∥∥₁_elim kept le_prop (λ w.
+    omega (arith, begun_few w.innings_a_side w.history ((w.stands).one_or_two).1 (w.stands).legal, (w.stands).begun))
 
 -- ten wickets at most
 pub kept_few : (m : Standing) → ∥ IsKept m ∥₁ → (k : ℕ) (d : InningsScore) → k < 4 → (get_or m.scores k d).wickets ≤ 10
@@ -38,9 +36,6 @@ share_at m n h s k d lt side = ap (λ v. share v.side side v.total) (at_table (s
 pub kept_score : (m : Standing) → ∥ IsKept m ∥₁ → (k : ℕ) (d : InningsScore) → k < 4 → IsSmallScore (get_or m.scores k d)
 kept_score m kept k d lt = ∥∥₁_elim kept (hlevel le_prop) (λ w. rw (at_table (score_of w.history) m.scores (w.stands).scores k d lt)
     (score-small w.history k (w.stands).in_range (entries_few w.innings_a_side w.history (w.stands).legal)))
-
-pub kept_total : (m : Standing) → ∥ IsKept m ∥₁ → (k : ℕ) (d : InningsScore) → k < 4 → (get_or m.scores k d).total ≤ 245760
-kept_total m kept k d lt = (kept_score m kept k d lt).total
 
 -- a side's record, by what it is for each history
 pub kept_record : (m : Standing) (side : Side) (r : SideRecord) → ∥ IsKept m ∥₁ →

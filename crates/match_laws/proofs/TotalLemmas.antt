@@ -1,17 +1,14 @@
 -- An innings' runs, by who struck and by who bowled.
-use Rattle.std.proofs.Common.{◌≡◌, ℕ, zero, suc, ◌+◌, Bool, false, Some, None, Option, List, [], ◌∷◌, length, refl, ◌∙◌, arith}
+use Rattle.std.proofs.Common.{◌∙◌, ◌≡◌, ℕ, zero, suc, ◌+◌, Bool, Some, None, Option, List, [], ◌∷◌, refl, arith}
 use Rattle.std.specs.List.{range_with_len}
 use Rattle.std.specs.Prelude.{nat_le, nat_lt, ◌==◌, ◌&&◌, if◌then◌else◌}
 use Rattle.notation.specs.declared.entry.{Ball.Ball}
-use Rattle.notation.specs.declared.entry.Plain.TheVariants.{Ball as Bowl, Void}
+use Rattle.notation.specs.declared.entry.Plain.TheVariants.{Ball as Bowl}
 use Rattle.notation.specs.Written.{IsPlayer}
 use Rattle.ball_laws.specs.History.{History, IsInRange}
 use Rattle.ball_laws.specs.Laws.{IsPlayed, state_after}
-use Rattle.ball_laws.specs.Ends.{has_vacancy}
 use Rattle.ball_laws.specs.Sums.{tally}
-use Rattle.ball_laws.specs.Over.{numbers, bowled_in, debit_of}
-use Rattle.ball_laws.specs.Batters.{HoldsBatter}
-use Rattle.ball_laws.specs.declared.players.PlayerState.{PlayerState}
+use Rattle.ball_laws.specs.Over.{numbers, debit_of}
 use Rattle.ball_laws.proofs.Wickets.{ball-row, in_order-played}
 use Rattle.match_laws.specs.History.{Delivery, deliveries, is_at, is_of}
 use Rattle.match_laws.specs.Figures.{of_innings, of_striker, of_bowler, runs_of, byes_of, legs_of, wides_of, noballs_of, batted_of, total, byes, legs, wides, noballs, batter_runs}
@@ -54,27 +51,18 @@ AllManned (d ∷ ds) = AllManned ds × IsManned d
 
 played : (n : ℕ) (h : History) → IsLegal n h → IsPlayed h
 played n [] legal = tt
-played n (Void ∷ h) legal = (played n h legal.0, refl)
-played n (x ∷ h) legal = (played n h legal.0, (taken n h x refl legal.1).ball)
-
-struck-full : (striker other : Option ℕ) (players : List PlayerState) → HoldsBatter striker players →
-    has_vacancy (record { striker = striker; other = other }) ≡ false → IsStruck striker
-struck-full striker other players held full = grind arith
+played n (x ∷ h) legal = grind (arith, played n h legal.0, taken n h x)
 
 -- nobody bowls while an end is vacant
 struck : (n : ℕ) (h : History) (b : Ball) → IsLegal n (Bowl b ∷ h) → IsInRange h → IsStruck ((state_after h).ends).striker
 struck n h b legal ranges =
-    let ends = (state_after h).ends in
     let sound = in_order-played h ranges (played n h legal.0) in
-    let full = ball-row ends (bowled_in b.bowler (state_after h).last_over) (length (state_after h).this_over) b
-    (taken n h (Bowl b) refl legal.1).ball in
-    struck-full ends.striker ends.other _ sound.at_striker full
+    let full = ball-row (state_after h).ends _ _ b (taken n h (Bowl b) refl legal.1).ball in
+    grind (arith, sound.at_striker, full)
 
 manned : (n : ℕ) (h : History) → IsLegal n h → IsInRange h → AllManned (deliveries h)
 manned n [] legal ranges = tt
-manned n (Bowl b ∷ h) legal ranges =
-    (manned n h legal.0 ranges.0, record { struck = struck n h b legal ranges.0; bowled = (ranges.1).bowler })
-manned n (_ ∷ h) legal ranges = manned n h legal.0 ranges.0
+manned n (x ∷ h) legal ranges = grind (arith, struck n h, manned n h legal.0 ranges.0)
 
 one_striker : (t : Bool) (v : ℕ) (s : Option ℕ) → IsStruck s → tally (λ p. if t && is_at s p then v else 0) numbers ≡ (if t then v else 0)
 one_striker t v s is = grind (arith, one_where)
