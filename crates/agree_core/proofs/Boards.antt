@@ -1,5 +1,5 @@
 -- What every call of a board keeps.
-use Rattle.std.proofs.Common.{◌≡◌, ℕ, Option, List, refl, inl, arith, length-append}
+use Rattle.std.proofs.Common.{◌≡◌, ℕ, Option, List, arith, length-append}
 use Rattle.notation.specs.declared.entry.Entry.{Entry}
 use Rattle.agree_core.specs.declared.{messages.DeskId.DeskId, messages.Message.Message, messages.Vote.Vote, position.Position.Position, seat.Heard.Heard}
 use Rattle.agree_core.specs.declared.messages.DeskId.TheVariants.{A, B}
@@ -8,8 +8,7 @@ use Rattle.agree_core.specs.Ballots.{AllVotes, Ballot, In, VotesGrow, Within, ba
 use Rattle.agree_core.specs.Boards.{BoardAnswer, BoardReceives, BoardState, BoardTicks, fresh_board}
 use Rattle.agree_core.specs.Books.{Rules}
 use Rattle.agree_core.specs.Desks.{book_heard}
-use Rattle.agree_core.specs.Positions.{first}
-use Rattle.agree_core.specs.Readers.{Listens, ReaderState, noted_of, noting, other, reading}
+use Rattle.agree_core.specs.Readers.{Listens, noted_of, other}
 use Rattle.agree_core.specs.Keeping.{BoardFine, Each, MessageFine, NotedFine}
 use Rattle.agree_core.proofs.Both.{both_grow, both_push}
 use Rattle.agree_core.proofs.Waiting.{listens_wait}
@@ -38,22 +37,13 @@ both_voted : (v : AllVotes) (d : DeskId) (place round : ℕ) (e : Entry) → In 
     → In (ballot_at place round e) (votes_by v (other d)) → EqualVotes v place round e
 both_voted v d place round e i j = grind arith
 
-nothing_noted : (v : AllVotes) (p : Position) (d : DeskId) → NotedFine (votes_by v d) p (noted_of (reading p) d)
-nothing_noted v p d = grind arith
-
-noted_there : (v : AllVotes) (r : ReaderState) (c : DeskId) (e : Entry)
-    → ((d : DeskId) → NotedFine (votes_by v d) r.position (noted_of r d))
-    → In (record { at = r.position; entry = e }) (votes_by v c)
-    → (d : DeskId) → NotedFine (votes_by v d) (noting r c e).position (noted_of (noting r c e) d)
-noted_there v r c e f i d = grind (arith, f d)
-
 -- the board after a vote, its book being so
 listens_keep : (v : AllVotes) (k l : BoardState) (x : Vote) (h : Heard) → BoardFine v k → In (ballot_of x) (votes_by v x.desk)
     → Listens k.reader x h l.reader → l.book ≡ book_heard h k.book x.entry → BoardFine v l
-listens_keep v k l x h f i c e = grind (arith, listens_wait, both_push, both_voted, length-append, noted_there, nothing_noted)
+listens_keep v k l x h f i c e = grind (arith, listens_wait, both_push, both_voted, length-append, f.noted)
 
 pub fresh_fine : (v : AllVotes) → BoardFine v fresh_board
-fresh_fine v = record { both = tt; long = refl; noted = nothing_noted v first; waits = inl refl }
+fresh_fine v = grind arith
 
 pub board_receives_keeps : {Why : Type 0} (rules : Rules Why) (v : AllVotes) (k l : BoardState) (m : Message) (told : BoardAnswer)
     → BoardFine v k → MessageFine v m → BoardReceives rules k m told l → BoardFine v l

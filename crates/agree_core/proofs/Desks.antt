@@ -1,6 +1,6 @@
 -- What every call of a desk keeps, over any disk.
 use Rattle.std.proofs.lemmas.Grind.{common_steps}
-use Rattle.std.proofs.Common.{◌≡◌, ◌≢◌, true≢false, Option, Some, None, List, [], ◌∷◌, ◌++◌, refl, sym, ◌∙◌, subst, inl, inr, arith, length-append}
+use Rattle.std.proofs.Common.{◌≡◌, ◌≢◌, true≢false, Option, Some, None, List, [], ◌∷◌, ◌++◌, refl, sym, ◌∙◌, subst, inl, arith, length-append}
 use Rattle.notation.specs.declared.entry.Entry.{Entry}
 use Rattle.agree_core.specs.declared.{messages.DeskId.DeskId, messages.Message.Message, messages.Vote.Vote, position.Position.Position, seat.Heard.Heard, seat.Settled.Settled}
 use Rattle.agree_core.specs.Ballots.{Ballot, Differed, In, Justified, Within, ballot_of}
@@ -57,15 +57,9 @@ module _ (d : DeskId) (theirs : List Ballot) where
 opened_fine : (d : DeskId) (theirs votes : List Ballot) → Justified theirs votes → {Disk : Type 0} → (disk : Disk)
     → SeatFine d votes theirs (opened d disk votes).seat (book_of votes)
 opened_fine d theirs [] j disk = grind arith
-opened_fine d theirs (b ∷ bs) j disk = record {
-  desk = refl;
-  justified = j;
-  both = book_both theirs (b ∷ bs) j;
-  long = book_long b bs (in_sequence theirs (b ∷ bs) j);
-  mine = (bs, refl, refl);
-  noted = tt;
-  waits = inr refl;
-}
+opened_fine d theirs (b ∷ bs) j disk =
+    let mine : MineFine theirs (b ∷ bs) (book_of (b ∷ bs)) b.at (Some b.entry) = (bs, refl, refl) in
+    search (arith, mine, book_both theirs (b ∷ bs) j, book_long, in_sequence)
 
 more_justified : (theirs votes these : List Ballot) → Justified theirs votes → OneMore theirs votes these → Justified theirs these
 more_justified theirs votes these j h = grind arith

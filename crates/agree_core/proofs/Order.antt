@@ -1,24 +1,9 @@
 -- Positions fall along a desk's votes, and a later round tells that both desks differed before.
-use Rattle.std.proofs.Common.{◌≡◌, ◌≢◌, ◌⊎◌, ℕ, ◌+◌, ◌<◌, List, [], ◌∷◌, refl, ap, inl, inr, arith}
+use Rattle.std.proofs.Common.{◌≡◌, ◌≢◌, ◌⊎◌, ℕ, ◌+◌, ◌<◌, List, [], ◌∷◌, refl, inl, inr, arith}
 use Rattle.notation.specs.declared.entry.Entry.{Entry}
 use Rattle.agree_core.specs.declared.position.Position.{Position}
-use Rattle.agree_core.specs.Positions.{Before, next_place, next_round}
+use Rattle.agree_core.specs.Positions.{Before}
 use Rattle.agree_core.specs.Ballots.{Ballot, In, Within, ballot_at, Differed, Follows, Justified, IsSequence}
-
-abbrev pub NextRound : List Ballot → Ballot → Ballot → Type 0
-NextRound theirs b c = (c.at ≡ next_round b.at) × Differed theirs b
-
-abbrev pub NextPlace : List Ballot → Ballot → Ballot → Type 0
-NextPlace theirs b c = (c.at ≡ next_place b.at) × In b theirs
-
-pub place_of : (p q : Position) → p ≡ q → p.place ≡ q.place
-place_of p q e = ap (λ (x : Position). x.place) e
-
-pub round_of : (p q : Position) → p ≡ q → p.round ≡ q.round
-round_of p q e = ap (λ (x : Position). x.round) e
-
-pub position_is : (b c : Ballot) → b ≡ c → b.at ≡ c.at
-position_is b c e = ap (λ (x : Ballot). x.at) e
 
 pub compare : (a b : ℕ) → (a < b) ⊎ ((a ≡ b) ⊎ (b < a))
 compare a b = grind arith

@@ -2,7 +2,7 @@
 use Rattle.std.proofs.Common.{◌≡◌, ◌⊎◌, ℕ, ◌+◌, ◌<◌, List, [], ◌∷◌, length, refl, sym, ap, ◌∙◌, arith, append-nil, length-append}
 use Rattle.notation.specs.declared.entry.Entry.{Entry}
 use Rattle.agree_core.specs.declared.messages.DeskId.TheVariants.{A, B}
-use Rattle.agree_core.specs.Agreed.{EqualVotes, SettledAt, AllSettled, Unsettled, IsAgreedList, BeginsWith}
+use Rattle.agree_core.specs.Agreed.{SettledAt, AllSettled, Unsettled, IsAgreedList, BeginsWith}
 use Rattle.agree_core.specs.Ballots.{Ballot, AllVotes, AllJustified, Justified, In, VotesGrow, ballot_at}
 use Rattle.agree_core.specs.Laws.{SettledOnce, EqualVotesSettle, OneBook, OneVoteEach, RoundsDiffer, PlacesSettled}
 use Rattle.agree_core.proofs.Order.{differed, one_vote, place_closed}
@@ -47,12 +47,9 @@ places_settled v j B place g i =
     let h = place_closed v.a v.b j.1 place g i in
     (h.1, (h.0, equal_votes_settle v j place h.0 h.1 (h.3, h.2)))
 
-pub equal_votes_grow : (v w : AllVotes) → VotesGrow v w → (place round : ℕ) (e : Entry) → EqualVotes v place round e → EqualVotes w place round e
-equal_votes_grow v w g place round e h = (g.0 (ballot_at place round e) h.0, g.1 (ballot_at place round e) h.1)
-
 -- a place that is settled by some of the votes is settled by all, at the same entry
 pub settled_grows : (v w : AllVotes) → VotesGrow v w → AllJustified w → (place : ℕ) (e : Entry) → SettledAt v place e → SettledAt w place e
-settled_grows v w g j place e s = (s.0, equal_votes_settle w j place s.0 e (equal_votes_grow v w g place s.0 e s.1.0))
+settled_grows v w g j place e s = (s.0, equal_votes_settle w j place s.0 e (g.0 _ s.1.0.0, g.1 _ s.1.0.1))
 
 pub all_settled_grow : (v w : AllVotes) → VotesGrow v w → AllJustified w → (place : ℕ) (es : List Entry) → AllSettled v place es → AllSettled w place es
 all_settled_grow v w g j place [] s = tt
@@ -73,8 +70,7 @@ begins_from : (w : AllVotes) → AllJustified w → (place next : ℕ) (xs ys : 
 begins_from w j place next [] ys s t n u = (ys, refl)
 begins_from w j place next (x ∷ xs) [] s t n u = let same : next ≡ place = omega arith in absurd (u s.0.0 x (rw same s.0.1.0))
 begins_from w j place next (x ∷ xs) (y ∷ ys) s t n u =
-    let p = begins_from w j (place + 1) next xs ys s.1 t.1 (omega arith) u in
-    (p.0, λ i. one_entry w j place x y s.0 t.0 i ∷ p.1 i)
+    grind (arith, one_entry w j place x y s.0 t.0, begins_from w j (place + 1) next xs ys s.1 t.1)
 
 -- the agreed list begins with any list of entries that some of the votes settle
 pub agreed_begins : (v w : AllVotes) → VotesGrow v w → AllJustified w → (xs ys : List Entry) → AllSettled v 0 xs → IsAgreedList w ys → BeginsWith ys xs

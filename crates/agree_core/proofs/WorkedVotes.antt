@@ -3,7 +3,7 @@ use Rattle.std.proofs.Common.{◌≢◌, List, [], ◌∷◌, refl, sym, inl, in
 use Rattle.notation.specs.declared.entry.Entry.{Entry}
 use Rattle.agree_core.specs.Ballots.{AllJustified, Ballot, In, Justified, ballot_at}
 use Rattle.agree_core.specs.Books.{Rules}
-use Rattle.agree_core.specs.Rows.{FileOfSecondRound, LeastRound, RefusedInTurn, SecondRound, agreeing, differing, three}
+use Rattle.agree_core.specs.Rows.{LeastRound, RefusedInTurn, SecondRound, agreeing, differing, three}
 use Rattle.agree_core.proofs.FileBooks.{agreed_by_files}
 
 three_justified : (p q r : Entry) (theirs : List Ballot) → In (ballot_at 1 0 q) theirs → In (ballot_at 0 0 p) theirs
@@ -33,9 +33,6 @@ second_round p q r four six h =
       agreed_by_files (differing p q r four six) one (p ∷ q ∷ r ∷ []) (inr (elsewhere p q r four six h, refl)),
       agreed_by_files (agreeing p q r four six) two (p ∷ q ∷ r ∷ six ∷ []) (inl (inl refl, refl)),
     )
-
-pub file_of_second_round : (p q r four six : Entry) → FileOfSecondRound p q r four six
-file_of_second_round p q r four six = (refl, refl, refl)
 
 pub least_round : (e f : Entry) → LeastRound e f
 least_round e f = (((inr (inl refl), inr (inl refl)), λ r g h k. omega arith), λ s. s.1 0 e (omega arith) (inr (inl refl), inr (inl refl)))

@@ -1,5 +1,6 @@
-use Rattle.agree_core.proofs.WorkedVotes.{file_of_second_round, least_round, refused_in_turn, second_round}
+use Rattle.std.proofs.Common.{arith}
+use Rattle.agree_core.proofs.WorkedVotes.{least_round, refused_in_turn, second_round}
 use Rattle.agree_core.proofs.laws.worked_votes.Goals as goal
 
 pub returns : goal.returns
-returns c = record { second_round = second_round; file = file_of_second_round; least = least_round; refused = refused_in_turn }
+returns c = search (arith, second_round, least_round, refused_in_turn)
