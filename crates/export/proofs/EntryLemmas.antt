@@ -1,5 +1,5 @@
 -- Each entry of a book stands once, at its place.
-use Rattle.std.proofs.Common.{◌≡◌, ℕ, zero, suc, ◌<◌, ◌≤◌, List, [], ◌∷◌, length, Some, refl, ap, arith, length-append}
+use Rattle.std.proofs.Common.{◌≡◌, ℕ, zero, suc, ◌<◌, ◌≤◌, List, length, Some, refl, arith, length-append}
 use Rattle.std.proofs.lemmas.Bool.{cases_lt}
 use Rattle.std.specs.Prelude.{slice_get}
 use Rattle.std.proofs.lemmas.Option.{slice_get_cases, slice_get_within}
@@ -12,9 +12,6 @@ use Rattle.export.specs.Laws.{HasEachEntry}
 
 abbrev at : List Entry → ℕ → List Json
 at book p = entry_at book p (slice_get book p)
-
-one_entry : (book : List Entry) (p : ℕ) (e : Entry) → slice_get book p ≡ Some e → at book p ≡ entry_of book p e ∷ []
-one_entry book p e is = ap (entry_at book p) is
 
 one_long : (book : List Entry) (p : ℕ) → p < length book → length (at book p) ≡ 1
 one_long book p lt = grind (arith, (slice_get_cases book p).1)

@@ -1,22 +1,13 @@
 -- What a sheet's table [info] hands on, value by value.
-use Rattle.std.proofs.Common.{◌≡◌, ℕ, Bool, true, false, Float, List, [], ◌∷◌, ◌++◌, Some, refl, if◌then◌else◌, append_assoc}
-use Rattle.std.specs.Float.{binary64, float_is_finite}
-use Rattle.fast_float.specs.Parse.{parse_float}
+use Rattle.std.proofs.Common.{◌≡◌, ℕ, Bool, true, false, List, [], ◌∷◌, ◌++◌, refl, if◌then◌else◌, append_assoc}
 use Rattle.toml.specs.Data.{Data, Members, no_members, member}
-use Rattle.json.specs.Json.{Json, null, number}
-use Rattle.json.specs.Print.{IsNumber}
+use Rattle.json.specs.Json.{Json}
 use Rattle.json.specs.Token.{Token, key}
 use Rattle.json.specs.Tree.{json_tokens}
 use Rattle.json_fields.specs.Values.{Field}
 use Rattle.json_fields.proofs.Putting.{adds_fields, no_fields, one_field}
-use Rattle.export.specs.Given.{IsFloatOf, IsValueOf, AreFieldsOf, is_own, others}
+use Rattle.export.specs.Given.{IsValueOf, AreFieldsOf, is_own, others}
 use Rattle.export.specs.inner.Putting.{PutsGiven, PutsHanded}
-
-pub float_null : (x : Float) → float_is_finite x ≡ false → IsFloatOf x null
-float_null x e = rw e refl
-
-pub float_number : (x : Float) (text : List ℕ) → float_is_finite x ≡ true → IsNumber text → parse_float binary64 text ≡ Some x → IsFloatOf x (number text)
-float_number x text e n p = rw e (text, refl, n, p)
 
 -- a member under a key of the export's own is left out
 pub left_out : (name : List ℕ) (d : Data) (old : List Token) → is_own name ≡ true → PutsHanded name d old old

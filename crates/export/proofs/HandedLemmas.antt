@@ -1,7 +1,6 @@
 -- What stands at a key of `info`.
-use Rattle.std.proofs.Common.{◌≡◌, ℕ, Bool, true, false, cond, ◌||◌, ◌&&◌, not, arith, append_assoc, bytes_eq, List}
-use Rattle.std.proofs.Common.{[], ◌∷◌, ◌++◌, Some, inl, inr}
-use Rattle.std.proofs.Common.{codes, refl, sym, ap, ◌∙◌, subst}
+use Rattle.std.proofs.Common.{◌≡◌, ℕ, Bool, true, false, cond, if◌then◌else◌, arith, append_assoc, bytes_eq, List}
+use Rattle.std.proofs.Common.{Some, None, inl, inr, codes, sym, ap, ◌∙◌, subst}
 use Rattle.std.specs.Prelude.{is_some}
 use Rattle.std.specs.List.{list_any}
 use Rattle.std.proofs.lemmas.Bool.{cases_Bool}
@@ -23,49 +22,42 @@ get_member-cons key name d ms = grind (arith, is_eq-slice_cmp key name)
 same_own : (key name : List ℕ) → bytes_eq key name ≡ true → is_own key ≡ is_own name
 same_own key name same = ap is_own ((bytes_eq-Decides key name).0 same)
 
--- ---- what is handed on stands at its key
-
-module _ (key : List ℕ) (d : Data) where
-  found_here : (own : Bool) (name : List ℕ) (e : Data) (ms : Members) (fs : List Field) → AreFieldsOf (cond own ms (member name e ms)) fs →
-      (bytes_eq key name ≡ true → own ≡ false) → ((gs : List Field) → AreFieldsOf ms gs → bytes_eq key name ≡ false → IsValueOf d (member_at key (members_of gs))) →
-      (bytes_eq key name ≡ true → e ≡ d) → IsValueOf d (member_at key (members_of fs))
-  found_here true name e ms fs are only more value = more fs are (grind arith)
-  found_here false name e ms fs (v, rest, whole, here, others) only more value = elim (cases_Bool (bytes_eq key name)) [
-    | inl same ↦ rw (whole, same) (rw (value same) at here)
-    | inr apart ↦ rw (whole, apart) (more rest others apart)
-  ]
-
-  found : (ms : Members) (fs : List Field) → AreFieldsOf (others ms) fs → get_member key ms ≡ Some d → is_own key ≡ false →
-      IsValueOf d (member_at key (members_of fs))
-  found no_members fs are here other = absurd (cc)
-  found (member name e ms) fs are here other =
-      let value = get_member-cons key name e ms in
-      found_here (is_own name) name e (others ms) fs are (grind (arith, same_own key name))
-      (λ gs these apart. found ms gs these (grind (arith, value)) other) (grind (arith, value))
-
--- ---- a key that isn't the export's own is handed on where the table has it
-
 module _ (key : List ℕ) where
   abbrev has : List Field → Bool
   has fs = list_any (λ f. bytes_eq key f.0) fs
 
-  -- the fields behind a member's own, where it has one
-  has_here : (own : Bool) (name : List ℕ) (e : Data) (ms : Members) (fs : List Field) → AreFieldsOf (cond own ms (member name e ms)) fs
-      → (rest : List Field) × AreFieldsOf ms rest × (has fs ≡ ((not own && bytes_eq key name) || has rest))
-  has_here true name e ms fs are = (fs, are, refl)
-  has_here false name e ms fs are = let (v, rest, whole, here, others) = are in (rest, others, ap has whole)
+  abbrev under : List Field → Json
+  under fs = member_at key (members_of fs)
+
+  -- what is handed on has what the table has at a key, unless the key is the export's own
+  others-at : (ms : Members) → get_member key (others ms) ≡ (if is_own key then None else get_member key ms)
+  others-at no_members = grind arith
+  others-at (member name d ms) =
+      grind (arith, others-at ms, get_member-cons key name d ms, get_member-cons key name d (others ms), same_own key name)
+
+  -- fields have a key where the members have it, with its value
+  has_all : (ms : Members) (fs : List Field) → AreFieldsOf ms fs → has fs ≡ is_some (get_member key ms)
+  has_all no_members fs are = ap has are
+  has_all (member name d ms) fs (v, rest, whole, here, more) = rw whole (grind (arith, get_member-cons key name d ms, has_all ms rest more))
+
+  stands : (d : Data) (ms : Members) (fs : List Field) → AreFieldsOf ms fs → get_member key ms ≡ Some d → IsValueOf d (under fs)
+  stands d no_members fs are is = absurd (cc)
+  stands d (member name e ms) fs (v, rest, whole, here, more) is =
+      let either : cond (bytes_eq key name) (Some e) (get_member key ms) ≡ Some d = sym (get_member-cons key name e ms) ∙ is in
+      elim (cases_Bool (bytes_eq key name)) [
+        | inl same ↦ let value : Some e ≡ Some d = rw same at either in let one : e ≡ d = cc in rw (whole, same) (rw one at here)
+        | inr apart ↦ rw (whole, apart) (stands d ms rest more (rw apart at either))
+      ]
 
   pub has_key : (ms : Members) (fs : List Field) → AreFieldsOf (others ms) fs → is_own key ≡ false → has fs ≡ is_some (get_member key ms)
-  has_key no_members fs are other = ap has are
-  has_key (member name e ms) fs are other =
-      let (rest, more, is) = has_here (is_own name) name e (others ms) fs are in
-      grind (arith, is, has_key ms rest more other, get_member-cons key name e ms, same_own key name)
+  has_key ms fs are other = grind (arith, has_all (others ms) fs are, others-at ms)
 
-  -- and one of its own isn't
   left : (ms : Members) (fs : List Field) → AreFieldsOf (others ms) fs → is_own key ≡ true → has fs ≡ false
-  left no_members fs are own = ap has are
-  left (member name e ms) fs are own =
-      let (rest, more, is) = has_here (is_own name) name e (others ms) fs are in grind (arith, is, left ms rest more own, same_own key name)
+  left ms fs are own = grind (arith, has_all (others ms) fs are, others-at ms)
+
+  found : (d : Data) (ms : Members) (fs : List Field) → AreFieldsOf (others ms) fs → get_member key ms ≡ Some d → is_own key ≡ false →
+      IsValueOf d (under fs)
+  found d ms fs are here other = stands d (others ms) fs are (grind (arith, others-at ms))
 
 pub leaves_own : (document : Members) (given : List Field) → HandsOn document given → LeavesOwn given
 leaves_own document given are key own = left key (info_in document) given are own
@@ -73,16 +65,13 @@ leaves_own document given are key own = left key (info_in document) given are ow
 -- ---- the export's own fields stand under other keys
 
 module _ (key : List ℕ) where
-  abbrev under : List Field → Json
-  under fs = member_at key (members_of fs)
-
   -- a key that is handed on is none that isn't
   none_of : (name : List ℕ) (given : List Field) → list_any (λ f. bytes_eq key f.0) given ≡ true →
       list_any (λ f. bytes_eq name f.0) given ≡ false → bytes_eq key name ≡ false
   none_of name given here none = grind (arith, bytes_eq-Decides key name)
 
   past_own : (s : Sheet) (h : History) (info : Members) (given : List Field) → is_own key ≡ false → list_any (λ f. bytes_eq key f.0) given ≡ true →
-      at key (info_of s h info given) ≡ under given
+      at key (info_of s h info given) ≡ under key given
   past_own s h info given other here =
       grind (
         arith,
@@ -95,9 +84,3 @@ pub has_each_key : (s : Sheet) (h : History) (document : Members) (given : List 
 has_each_key s h document given are key d here other =
     let held = has_key key (info_in document) given are other ∙ ap is_some here in
     subst (IsValueOf d) (sym (past_own key s h (info_in document) given other held)) (found key d (info_in document) given are here other)
-
--- ---- the fields in a row
-
-pub in_a_row : (event : List Field) (teams players balls : Field) (result given : List Field)
-    → ((((event ++ teams ∷ []) ++ players ∷ []) ++ balls ∷ []) ++ result) ++ given ≡ event ++ (teams ∷ players ∷ balls ∷ (result ++ given))
-in_a_row event teams players balls result given = simp append_assoc

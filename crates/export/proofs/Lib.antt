@@ -1,6 +1,4 @@
-pub mod PointLemmas
 pub mod EntryLemmas
-pub mod NameLemmas
 pub mod ReadLemmas
 pub mod Weights
 pub mod LawLemmas
@@ -10,11 +8,9 @@ pub mod LineLemmas
 pub mod ReaderLemmas
 pub mod SumLemmas
 pub mod ReaderSums
-pub mod CorrectionLemmas
 pub mod GivenLemmas
 pub mod HandedLemmas
 pub mod DayLemmas
 pub mod MetaLemmas
 pub mod EscapeLemmas
 pub mod EscapedStrings
-pub mod BelowDel

@@ -19,12 +19,15 @@ use Rattle.match_laws.specs.Figures.{bowler_in, comer, named_once}
 abbrev pub among : ℕ → List ℕ → Bool
 among k ps = list_any (λ q. q == k) ps
 
-is_itself : (n : ℕ) → (n == n) ≡ true
-is_itself n = eq-eqb n n refl
-
 among_once : (k : ℕ) (ps : List ℕ) → among k (named_once ps) ≡ among k ps
 among_once k [] = refl
 among_once k (p ∷ ps) = grind (arith, among_once k ps, list_any-append (λ q. q == k) (named_once ps) (p ∷ []), eqb-true p k)
+
+-- what two numbers of those whom a test takes come to
+pub sum_if : {X : Type 0} (test : X → Bool) (f g k : X → ℕ) → ((x : X) → f x + g x ≡ k x) → (xs : List X)
+    → tally (λ x. if test x then f x else 0) xs + tally (λ x. if test x then g x else 0) xs ≡ tally (λ x. if test x then k x else 0) xs
+sum_if test f g k e [] = refl
+sum_if test f g k e (x ∷ xs) = grind (arith, sum_if test f g k e xs, e x)
 
 -- ---- sums over players whom a test takes
 
@@ -32,10 +35,6 @@ abbrev pub picked : (ℕ → Bool) → (ℕ → ℕ) → List ℕ → ℕ
 picked test figure ps = tally (λ p. if test p then figure p else 0) ps
 
 module _ (test : ℕ → Bool) where
-  pub picked-sum : (f g k : ℕ → ℕ) → ((p : ℕ) → f p + g p ≡ k p) → (ps : List ℕ) → picked test f ps + picked test g ps ≡ picked test k ps
-  picked-sum f g k e [] = refl
-  picked-sum f g k e (p ∷ ps) = grind (arith, picked-sum f g k e ps, e p)
-
   picked-none : (ps : List ℕ) → picked test (λ p. 0) ps ≡ 0
   picked-none [] = refl
   picked-none (p ∷ ps) = grind (arith, picked-none ps)
@@ -58,7 +57,7 @@ module _ (test : ℕ → Bool) (figure : ℕ → ℕ) (p : ℕ) where
   only [] each = refl
   only (x ∷ ps) each =
       let rest = only ps (λ q there. each q (or_right (x == q) (among q ps) there)) in
-      let same = each x (or_left (x == x) (among x ps) (is_itself x)) in grind (arith, rest, same, eqb-true p x)
+      let same = each x (or_left (x == x) (among x ps) (eq-eqb x x refl)) in grind (arith, rest, same, eqb-true p x)
 
   pub picked-own : (ps : List ℕ) → among p (named_once ps) ≡ true → ((q : ℕ) → among q (named_once ps) ≡ true → test q ≡ (p == q)) →
       picked test figure (named_once ps) ≡ figure p
@@ -71,9 +70,6 @@ takes test (Some k) = test k
 
 -- ---- a sum over deliveries is one over players, each of whom stands among the names
 
-among_more : (o : Option ℕ) (k : ℕ) (ps : List ℕ) → among k ps ≡ true → among k (cons_option o ps) ≡ true
-among_more o k ps e = grind arith
-
 module _ (i : ℕ) (key : Delivery → Option ℕ) where
   abbrev pub AreNamed : List ℕ → List Delivery → Type 0
   AreNamed ps [] = Unit {0}
@@ -81,14 +77,14 @@ module _ (i : ℕ) (key : Delivery → Option ℕ) where
 
   named_more : (o : Option ℕ) (ps : List ℕ) (ds : List Delivery) → AreNamed ps ds → AreNamed (cons_option o ps) ds
   named_more o ps [] named = tt
-  named_more o ps (d ∷ ds) named = (named_more o ps ds named.0, λ k of at. among_more o k ps (named.1 k of at))
+  named_more o ps (d ∷ ds) named = (named_more o ps ds named.0, λ k of at. grind (arith, named.1 k of at))
 
   module _ (test : ℕ → Bool) (f : Ball → ℕ) (ps : List ℕ) where
     one_delivery : (b : Bool) (o : Option ℕ) (n : ℕ) → ((k : ℕ) → b ≡ true → is_at o k ≡ true → among k ps ≡ true) →
         cond b (cond (takes test o) n 0) 0 ≡ picked test (λ p. if b && is_at o p then n else 0) (named_once ps)
     one_delivery false o n named = sym (picked-none test (named_once ps))
     one_delivery true None n named = sym (picked-none test (named_once ps))
-    one_delivery true (Some k) n named = sym (picked-one test k n ps ∙ rw (named k refl (is_itself k)) refl)
+    one_delivery true (Some k) n named = sym (picked-one test k n ps ∙ rw (named k refl (eq-eqb k k refl)) refl)
 
     pub by_players : (ds : List Delivery) → AreNamed ps ds →
         tally (λ d. cond (is_of i d) (cond (takes test (key d)) (f d.ball) 0) 0) ds
@@ -96,7 +92,7 @@ module _ (i : ℕ) (key : Delivery → Option ℕ) where
     by_players [] named = sym (picked-none test (named_once ps))
     by_players (d ∷ ds) named =
         let of = λ (c : Delivery) (p : ℕ). if is_of i c && is_at (key c) p then f c.ball else 0 in
-        let both = picked-sum test (λ p. tally (λ c. of c p) ds) (of d) (λ p. tally (λ c. of c p) (d ∷ ds)) (λ p. refl) (named_once ps) in
+        let both = sum_if test (λ p. tally (λ c. of c p) ds) (of d) (λ p. tally (λ c. of c p) (d ∷ ds)) (λ p. refl) (named_once ps) in
         omega (arith, by_players ds named.0, one_delivery (is_of i d) (key d) (f d.ball) named.1, both)
 
 -- ---- who bowls

@@ -32,9 +32,6 @@ at_created document o e = grind arith
 at_revision : (document : Members) (o : Option Date) → created_in document ≡ o → in_meta (codes "revision") document ≡ number_value (revision_in document)
 at_revision document o e = grind arith
 
-pub at_version : (document : Members) → in_meta (codes "data_version") document ≡ string (codes "1.1.0")
-at_version document = refl
-
 pub tells_day : (document : Members) → is_fine_document document ≡ true → TellsDay document
 tells_day document fine d here =
     let (day, is) = told (day_of d) (sym (ap (is_fine day_of) here) ∙ (fine_parts document fine).0) in

@@ -1,5 +1,5 @@
 -- What a reader takes of a delivery.
-use Rattle.std.proofs.Common.{◌≡◌, ℕ, ◌+◌, ◌≤◌, ◌==◌, ◌&&◌, ◌||◌, not, cond, Bool, true, false, List, [], ◌∷◌, ◌++◌, Option, codes, refl, ap, arith, eqb-true, ne_eqb, bytes_eq}
+use Rattle.std.proofs.Common.{◌≡◌, ℕ, ◌+◌, ◌≤◌, ◌==◌, ◌&&◌, not, cond, Bool, true, false, List, [], ◌∷◌, ◌++◌, Option, codes, refl, ap, arith, eqb-true, bytes_eq}
 use Rattle.std.specs.Prelude.{is_some}
 use Rattle.std.specs.List.{list_any}
 use Rattle.std.proofs.lemmas.Bool.Decides.{nat_tests}
@@ -28,9 +28,6 @@ use Rattle.export.proofs.LineLemmas.{takes}
 
 number_again : (n : ℕ) → n ≤ 25 → number_in (number_value n) ≡ n
 number_again n small = digits_value-decimal own n (omega (arith, small))
-
-one_more : (r : ℕ) → (1 + r == 0) ≡ false
-one_more r = ne_eqb (1 + r) 0 (λ e. omega (arith, e))
 
 -- ---- the extras of a delivery
 
@@ -88,9 +85,6 @@ boundary_read n s side penalty early late ends b low =
     rw (bat_read s side penalty early late ends b low) (ap (λ t. one_if ((batted_of b == n) && not t)) (flag_read (is_run b)))
 
 -- ---- fours and sixes
-
-abbrev told : ℕ → Bool → Bool → Bool
-told r four six = ((r == 4) && not four) || ((r == 6) && not six)
 
 pub fours_told : (b : Ball) → one_if ((batted_of b == 4) && not (is_run b)) + four_outrun b ≡ fours_of b
 fours_told b = grind (arith, nat_tests)

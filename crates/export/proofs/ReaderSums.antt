@@ -9,7 +9,7 @@ use Rattle.ball_laws.specs.declared.ends.Ends.{Ends}
 use Rattle.ball_laws.specs.History.{History}
 use Rattle.ball_laws.specs.Over.{counting, counts, debit_of, is_wide_or_no_ball}
 use Rattle.ball_laws.specs.Sums.{count_of, one_if, tally}
-use Rattle.match_laws.specs.History.{Delivery, deliveries, innings_overs, is_at, is_of, opponent, side_of, since_call}
+use Rattle.match_laws.specs.History.{deliveries, innings_overs, is_at, is_of, opponent, side_of, since_call}
 use Rattle.match_laws.specs.Figures.{alone, bowler_in, batted_of, batter_runs, batting_order, bowled_by}
 use Rattle.match_laws.specs.Figures.{bowler_balls, bowler_noballs, bowler_overs, bowler_runs, bowler_wickets}
 use Rattle.match_laws.specs.Figures.{bowler_wides, bowling_order, counting_by, credited, faced, faced_of, fours}
@@ -28,13 +28,7 @@ use Rattle.export.specs.Readers.{noballs_in, over_balls, six_outrun, summed, wid
 use Rattle.export.proofs.ReaderLemmas.{bat_read, batter_read, boundary_read, bowled_read, credited_read}
 use Rattle.export.proofs.ReaderLemmas.{debited_read, faced_read, fours_told, noballs_read, sixes_told, wides_read}
 use Rattle.export.proofs.SumLemmas.{sum_read}
-use Rattle.export.proofs.LineLemmas.{AreNamed, bowlers_named, by_players, comers, picked, picked-own, picked-sum, strikers_named, takes}
-
-module _ (t : Delivery → Bool) (f g k : Ball → ℕ) (adds : (b : Ball) → f b + g b ≡ k b) where
-  tally-sum : (ds : List Delivery) → tally (λ d. if t d then f d.ball else 0) ds + tally (λ d. if t d then g d.ball else 0) ds
-      ≡ tally (λ d. if t d then k d.ball else 0) ds
-  tally-sum [] = refl
-  tally-sum (d ∷ ds) = grind (arith, adds d.ball, tally-sum ds)
+use Rattle.export.proofs.LineLemmas.{AreNamed, bowlers_named, by_players, comers, picked, picked-own, sum_if, strikers_named, takes}
 
 -- a value of each delivery that is a number of the ball
 abbrev Reads : Sheet → Side → (Json → ℕ) → (Ball → ℕ) → Type 0
@@ -73,8 +67,8 @@ module _ (s : Sheet) (n : ℕ) (book : List Entry) (all : All IsEntry book) (leg
   boundaries m out all_of adds =
       let told : Ball → ℕ = λ b. one_if ((batted_of b == m) && not (is_run b)) in
       rw (batter_sum (boundary_in m) told (boundary_read m s (side_of h i)))
-      (picked-sum bats (λ p. tally (of_striker told i p) (deliveries h)) (λ p. tally (of_striker out i p) (deliveries h)) _
-      (λ p. tally-sum (λ d. is_of i d && is_at d.striker p) told out all_of adds (deliveries h)) (batting_order h i))
+      (sum_if bats (λ p. tally (of_striker told i p) (deliveries h)) (λ p. tally (of_striker out i p) (deliveries h)) _
+      (λ p. sum_if (λ d. is_of i d && is_at d.striker p) (λ d. told d.ball) (λ d. out d.ball) (λ d. all_of d.ball) (λ d. adds d.ball) (deliveries h)) (batting_order h i))
 
   pub batter_adds_up : BatterAddsUp s h i (innings_at s book i) name
   unfolding batter_runs faced fours sixes
@@ -119,7 +113,7 @@ balls_of : (h : History) (i p : ℕ) → over_balls h i p + bowler_balls h i p +
     ≡ tally (of_bowler bowled_one i p) (deliveries h)
 unfolding bowler_balls
 balls_of h i p =
-    let dead = tally-sum (λ d. is_of i d && ((d.ball).bowler == p)) counted_one dead_ball bowled_one fair (deliveries h) in
+    let dead = sum_if (λ d. is_of i d && ((d.ball).bowler == p)) (λ d. counted_one d.ball) (λ d. dead_ball d.ball) (λ d. bowled_one d.ball) (λ d. fair d.ball) (deliveries h) in
     omega (arith, dead, by_overs h i p, overs_apart p (innings_overs h i))
 
 -- ---- bowlers
@@ -143,8 +137,8 @@ module _ (s : Sheet) (n : ℕ) (book : List Entry) (all : All IsEntry book) (leg
   bowlers_balls =
       let order = bowling_order history i in
       let own = λ (p : ℕ). over_balls history i p + bowler_balls history i p in
-      let inner = picked-sum named (over_balls history i) (bowler_balls history i) own (λ p. refl) order in
-      let outer = picked-sum named own (λ p. tally (of_bowler dead_ball i p) (deliveries history)) (λ p. tally (of_bowler bowled_one i p) (deliveries history))
+      let inner = sum_if named (over_balls history i) (bowler_balls history i) own (λ p. refl) order in
+      let outer = sum_if named own (λ p. tally (of_bowler dead_ball i p) (deliveries history)) (λ p. tally (of_bowler bowled_one i p) (deliveries history))
       (balls_of history i) order in
       omega (arith, bowler_sum bowled_in bowled_one (bowled_read s (side_of history i)), inner, outer)
 

@@ -2,9 +2,8 @@ use Rattle.std.proofs.Common.{◌≡◌, ◌+◌, [], ◌∷◌, ◌++◌, drop,
 use Rattle.std.proofs.lemmas.List.{drop_more, drop_all}
 use Rattle.std.proofs.lemmas.Result.{on_ok_weaker}
 use Rattle.toml.specs.View.{view, items_view, members_view}
-use Rattle.toml.specs.declared.value.Value.{the_lemmas}
 use Rattle.toml.specs.Data as toml
-use Rattle.toml.proofs.Views.{Entry, view-Array, view-Table}
+use Rattle.toml.proofs.Views.{Entry, view-Array, view-Boolean, view-Datetime, view-Integer, view-String, view-Table}
 use Rattle.json.specs.Json.{boolean, number, string}
 use Rattle.json.specs.Token.{begin_array, begin_object, key}
 use Rattle.json.specs.Tree.{json_tokens, items_tokens, members_tokens}
@@ -17,26 +16,22 @@ use Rattle.export.proofs.given.+put.Goals as goal
 
 pub put_value-returns-in-String : goal.put_value-returns-in-String
 put_value-returns-in-String t c =
-    let seen : view c.args.value.now ≡ toml.string c.as_str.result.now = rw c.in-String.is (search (rules, the_lemmas)) in
-    on_ok_weaker c.token.result (λ e. (string c.as_str.result.now, rw seen refl, e)) c.token.ensures.ok
+    on_ok_weaker c.token.result (λ e. (string c.as_str.result.now, rw (c.in-String.is, view-String) (ap string c.as_str.ensures.value), e)) c.token.ensures.ok
 
 pub put_value-returns-in-Integer : goal.put_value-returns-in-Integer
 put_value-returns-in-Integer t c =
     let v = number (signed_decimal c.in-Integer.number) in
-    let seen : view c.args.value.now ≡ toml.integer c.in-Integer.number = rw c.in-Integer.is (search (rules, the_lemmas)) in
     let put : PutsValues c.put_whole.result c.args.out.now c.put_whole.new.out (v ∷ []) = search rules in
-    on_ok_weaker c.put_whole.result (λ e. (v, rw seen refl, e ∙ ap (λ ts. c.args.out.now ++ ts) (one_value v))) put
+    on_ok_weaker c.put_whole.result (λ e. (v, rw (c.in-Integer.is, view-Integer), e)) (rw one_value at put)
 
 pub put_value-returns-in-Boolean : goal.put_value-returns-in-Boolean
 put_value-returns-in-Boolean t c =
-    let seen : view c.args.value.now ≡ toml.boolean c.in-Boolean.holds = rw c.in-Boolean.is (search (rules, the_lemmas)) in
-    on_ok_weaker c.token-in-Boolean.result (λ e. (boolean c.in-Boolean.holds, rw seen refl, e)) c.token-in-Boolean.ensures.ok
+    on_ok_weaker c.token-in-Boolean.result (λ e. (boolean c.in-Boolean.holds, rw (c.in-Boolean.is, view-Boolean), e)) c.token-in-Boolean.ensures.ok
 
 pub put_value-returns-in-Datetime : goal.put_value-returns-in-Datetime
 put_value-returns-in-Datetime t c =
     let v = string (datetime_text c.in-Datetime.datetime) in
-    let seen : view c.args.value.now ≡ toml.datetime c.in-Datetime.datetime = rw c.in-Datetime.is (search (rules, the_lemmas)) in
-    on_ok_weaker c.put_datetime.result (λ e. (v, rw seen refl, e ∙ ap (λ ts. c.args.out.now ++ ts) (one_value v))) c.put_datetime.ensures
+    on_ok_weaker c.put_datetime.result (λ e. (v, rw (c.in-Datetime.is, view-Datetime), e)) (rw one_value at c.put_datetime.ensures)
 
 pub put_value-returns-in_ok-token-in-Array : goal.put_value-returns-in_ok-token-in-Array
 put_value-returns-in_ok-token-in-Array t c =

@@ -1,11 +1,14 @@
-use Rattle.std.proofs.Common.{◌∷◌, ◌++◌, [], ap, codes, ◌∙◌}
+use Rattle.std.proofs.Common.{◌≡◌, ◌∷◌, ◌++◌, List, [], ap, append_assoc, codes, ◌∙◌}
 use Rattle.std.proofs.lemmas.Result.{on_ok_weaker}
 use Rattle.toml.specs.View.{table_view}
-use Rattle.json_fields.specs.Values.{object_of, fields_tokens, number_field}
+use Rattle.json_fields.specs.Values.{Field, object_of, fields_tokens, number_field}
 use Rattle.json_fields.proofs.Putting.{◌▸◌, begins, is_object_field}
 use Rattle.export.specs.Info.{head_fields, teams_field, players_field, outcome_fields}
-use Rattle.export.proofs.HandedLemmas.{in_a_row}
 use Rattle.export.proofs.info.put_info.Goals as goal
+
+in_a_row : (event : List Field) (teams players balls : Field) (result given : List Field)
+    → ((((event ++ teams ∷ []) ++ players ∷ []) ++ balls ∷ []) ++ result) ++ given ≡ event ++ (teams ∷ players ∷ balls ∷ (result ++ given))
+in_a_row event teams players balls result given = simp append_assoc
 
 pub returns : goal.returns
 returns c = λ h s.

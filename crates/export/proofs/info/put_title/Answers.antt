@@ -1,5 +1,4 @@
-use Rattle.std.proofs.Common.{◌≡◌, false, codes, refl, sym, ◌∙◌, arith}
-use Rattle.std.proofs.lemmas.Grind.{common_steps}
+use Rattle.std.proofs.Common.{arith, codes, refl}
 use Rattle.toml.specs.View.{table_view}
 use Rattle.json_fields.proofs.Putting.{no_fields}
 use Rattle.export.proofs.HandedLemmas.{has_key}
@@ -7,11 +6,7 @@ use Rattle.export.proofs.info.put_title.Goals as goal
 
 pub returns-then-has_event : goal.returns-then-has_event
 returns-then-has_event c = λ given are.
-    let has = has_key (codes "event") (table_view c.args.info.now) given are refl ∙ (sym c.has_event.ensures ∙ c.if-has_event.true) in
-    rw has (no_fields c.args.out.now)
+    grind (arith, no_fields c.args.out.now, has_key (codes "event") (table_view c.args.info.now) given are refl)
 
 pub returns : goal.returns
-returns c = λ given are.
-    let none : c.has_event.result ≡ false = grind (arith, common_steps) in
-    let has = has_key (codes "event") (table_view c.args.info.now) given are refl ∙ (sym c.has_event.ensures ∙ none) in
-    rw has c.put_event.ensures
+returns c = λ given are. grind (arith, has_key (codes "event") (table_view c.args.info.now) given are refl)

@@ -1,15 +1,8 @@
-use Rattle.std.proofs.Common.{append_assoc}
-use Rattle.std.proofs.lemmas.Bool.{lt-ltb, le-ltb}
+use Rattle.std.proofs.Common.{append_assoc, arith}
+use Rattle.std.proofs.lemmas.Bool.Decides.{nat_tests}
 use Rattle.cards.proofs.Slots.{next}
 use Rattle.export.proofs.innings.items_before.Goals as goal
-use Rattle.export.proofs.innings.items_before.Goals.{then-noted-innings+in_ok-push, else-noted-innings}
 
 pub loop-index-preserved : goal.loop-index-preserved
 loop-index-preserved c =
-    let m = c.loop-index.invariant in
-    let here = next c.args.notes.now c.loop-index.index c.noted_at-noted.result c.noted_at-noted.ensures in
-    elim c.if-noted-innings.branch [
-      | then-noted-innings+in_ok-push w ↦
-          rw (w.items-is, w.in_ok-push.ensures.items, append_assoc c.loop-index.items.items) (rw (here, lt-ltb _ _ w.if-noted-innings.true) at m)
-      | else-noted-innings w ↦ rw w.items-is (rw (here, le-ltb _ _ w.if-noted-innings.false) at m)
-    ]
+    grind (arith, nat_tests, append_assoc, next c.args.notes.now c.loop-index.index c.noted_at-noted.result c.noted_at-noted.ensures)

@@ -1,7 +1,6 @@
 use Rattle.std.proofs.Common.{sym, ◌∙◌}
-use Rattle.std.proofs.lemmas.List.{drop_all}
 use Rattle.cards.proofs.Slots.{next}
-use Rattle.json_fields.proofs.Putting.{no_values, values_due}
+use Rattle.json_fields.proofs.Putting.{values_due}
 use Rattle.export.proofs.overs.put_all.Goals as goal
 use Rattle.export.proofs.overs.put_all.Goals.{then-begins_over+in_ok-put_over, else-begins_over}
 
@@ -17,6 +16,3 @@ loop-index-preserved c =
           let goes_on = sym c.begins_over.ensures ∙ w.if-begins_over.false in
           rw (w.out-is, w.early-is, w.before-is) (rw (here, goes_on) at c.loop-index.invariant)
     ]
-
-pub returns : goal.returns
-returns c = no_values _ ∙ (rw (drop_all _ _ c.loop-index-test.false) at c.loop-index.invariant)

@@ -1,5 +1,4 @@
-use Rattle.std.proofs.Common.{◌≡◌, true, codes, refl, sym, ◌∙◌, arith}
-use Rattle.std.proofs.lemmas.Grind.{common_steps}
+use Rattle.std.proofs.Common.{arith, codes, refl}
 use Rattle.toml.specs.View.{table_view}
 use Rattle.json_fields.proofs.Putting.{no_fields}
 use Rattle.export.proofs.HandedLemmas.{has_key}
@@ -7,11 +6,7 @@ use Rattle.export.proofs.value.put_title.Goals as goal
 
 pub returns-then-not-has_event : goal.returns-then-not-has_event
 returns-then-not-has_event c = λ given are.
-    let has = has_key (codes "event") (table_view c.args.info.now) given are refl ∙ sym c.if-not-has_event.ensures in
-    rw has (no_fields c.args.out.now)
+    grind (arith, no_fields c.args.out.now, has_key (codes "event") (table_view c.args.info.now) given are refl)
 
 pub returns : goal.returns
-returns c = λ given are.
-    let is : c.has_event.result ≡ true = grind (arith, common_steps) in
-    let has = has_key (codes "event") (table_view c.args.info.now) given are refl ∙ (sym c.has_event.ensures ∙ is) in
-    rw has c.put_own_title.ensures
+returns c = λ given are. grind (arith, has_key (codes "event") (table_view c.args.info.now) given are refl)
