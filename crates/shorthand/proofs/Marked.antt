@@ -1,14 +1,13 @@
 -- What a line of one mark is in full.
 use Rattle.std.proofs.lemmas.Grind.{common_steps}
-use Rattle.std.proofs.Common.{◌≡◌, ℕ, ◌+◌, ◌≤◌, ◌<◌, List, [], ◌∷◌, ◌++◌, length, Option, Some, None, Ok, Err, refl, sym, ap, ◌∙◌, inl, inr, codes, decimal, arith, append_assoc, length-append}
+use Rattle.std.proofs.Common.{◌≡◌, ℕ, ◌+◌, ◌≤◌, ◌<◌, List, [], ◌∷◌, ◌++◌, length, Option, Some, None, Ok, Err, refl, sym, ap, ◌∙◌, codes, decimal, arith, append_assoc, length-append}
 use Rattle.std.proofs.lemmas.Bool.Decides.{nat_tests}
-use Rattle.std.specs.Str.{bytes_eq}
+use Rattle.std.proofs.lemmas.Slice.Eq.{bytes_eq-Decides}
 use Rattle.notation.specs.declared.{entry.Ball.Ball, entry.Plain.Plain, entry.Entry.Entry}
 use Rattle.notation.specs.declared.fault.LineFault.TheVariants.{UnknownWord}
 use Rattle.notation.specs.Written.{IsBall, Token, text_of, tokens}
 use Rattle.notation.specs.Reading.{line_answer}
 use Rattle.notation.specs.inner.TokenReading.{all_of, entry_at, placed_at, plain_at, skip, word_at}
-use Rattle.notation.proofs.Found.{chosen, same}
 use Rattle.notation.proofs.Texts.{length-text, line_again}
 use Rattle.match_laws.specs.History.{or_else}
 use Rattle.cards.specs.Sheet.{Sheet}
@@ -37,18 +36,12 @@ pub record EachMark (P : Token → Token → Token → Type 0) : Type 0 where
 -- a token that stands in a row
 of_row : (P : Token → Token → Type 0) (rows : List (Token × Token)) (t v : Token) → EachRow P rows → in_row rows t ≡ Some v → P t v
 of_row P [] t v each is = absurd (cc)
-of_row P (row ∷ rows) t v each is = elim (chosen (bytes_eq t row.0) (Some row.1) (in_row rows t) (Some v) is) [
-  | inl p ↦ let value : v ≡ row.1 = cc p.1 in rw (same t row.0 p.0, value) each.0
-  | inr p ↦ of_row P rows t v each.1 p.1
-]
+of_row P (row ∷ rows) t v each is = grind (arith, bytes_eq-Decides t row.0, of_row P rows t v)
 
 of_word : (P : Token → Token → Token → Type 0) (rows : List (Token × Token × Token)) (t : Token) (m : Token × Token)
     → EachWord P rows → among_words rows t ≡ Some m → P t m.0 m.1
 of_word P [] t m each is = absurd (cc)
-of_word P (row ∷ rows) t m each is = elim (chosen (bytes_eq t row.0) (Some (row.1, row.2)) (among_words rows t) (Some m) is) [
-  | inl p ↦ let parts : m ≡ (row.1, row.2) = cc p.1 in rw (same t row.0 p.0, parts) each.0
-  | inr p ↦ of_word P rows t m each.1 p.1
-]
+of_word P (row ∷ rows) t m each is = grind (arith, bytes_eq-Decides t row.0, of_word P rows t m)
 
 cut_whole : (t : Token) → (cut t).0 ++ (cut t).1 ≡ t
 cut_whole [] = refl

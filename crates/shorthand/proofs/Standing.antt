@@ -49,10 +49,7 @@ words_fit s book line text e =
 put_fits : (s : Sheet) (book : List Entry) (line text : List ℕ) (read : Result Entry LineFault) → line_answer line ≡ read
     → put_in_full s book line read ≡ Ok text → length text ≤ 96
 put_fits s book line text (Ok e) r h =
-    let found = line_found line e r in
-    let most = length-text e found.0 in
-    let same : line ≡ text = cc in
-    rw (← same, found.1) (omega (arith, most))
+    let found = line_found line e r in grind (arith, found, length-text e found.0)
 put_fits s book line text (Err f) r h = elim (chosen (is_of_line f) (Err (Fault f)) (by_word s book line) (Ok text) h) [
   | inl p ↦ let e = p.1 in absurd (cc)
   | inr p ↦ words_fit s book line text p.1

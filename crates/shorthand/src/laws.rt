@@ -3,11 +3,13 @@
 ghost use Rattle.shorthand.specs.Laws.{BowlerLeftOutIsTheLast, FullLinesStand, NamesMeanOne, TakenLinesAreRead};
 
 /// The text of an entry is itself in full, whatever the book and the sheet.
+#[tactic(auto, using(crate::proofs::Standing::full_lines_stand))]
 pub fn full_lines_stand()
     ensures { FullLinesStand }
 {}
 
 /// What a line is in full is the text of an entry in its ranges, or `read_line` refuses it with its own fault.
+#[tactic(auto, using(crate::proofs::Standing::taken_lines_are_read))]
 pub fn taken_lines_are_read()
     ensures { TakenLinesAreRead }
 {}
