@@ -3,13 +3,9 @@ use Rattle.std.proofs.Common.{◌≡◌, ◌≤◌, ℕ, zero, suc, List, [], �
 use Rattle.std.specs.Prelude.{IfNone, IfSome}
 use Rattle.std.proofs.lemmas.Bool.Decides.{nat_tests}
 use Rattle.notation.specs.declared.entry.Entry.{Entry}
-use Rattle.agree_core.specs.declared.position.Position.{Position}
 use Rattle.agree_core.specs.Ballots.{Ballot, In, IsSequence, ballot_at}
 use Rattle.vote_store.proofs.SequenceLemmas.{earlier}
 use Rattle.books.specs.DeskVotes.{entry_at}
-
-abbrev At : ℕ → ℕ → Position
-At place round = record { place = place; round = round }
 
 -- what is found there is a vote
 pub found_in : (votes : List Ballot) (place round : ℕ) (e : Entry) → entry_at votes place round ≡ Some e → In (ballot_at place round e) votes

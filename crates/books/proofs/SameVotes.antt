@@ -41,8 +41,7 @@ none_in v none place round p r =
 pub same_entry : (x y : Option Entry) → IfSome x IsEntry → IfSome y IsEntry → is_alike x y ≡ true → x ≡ y
 same_entry None None h k e = refl
 same_entry (Some x) (Some y) h k e = ap Some (text_once x y h k ((bytes_eq-Decides (text_of x) (text_of y)).0 e))
-same_entry None (Some y) h k e = absurd (cc)
-same_entry (Some x) None h k e = absurd (cc)
+same_entry x y h k e = absurd (cc)
 
 pub alike_here : (x : Option Entry) → is_alike x x ≡ true
 alike_here None = refl

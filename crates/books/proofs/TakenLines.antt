@@ -1,5 +1,5 @@
 -- Lines that are taken one after the other, up to the first that isn't.
-use Rattle.std.proofs.Common.{◌≡◌, ◌+◌, ℕ, Some, List, [], ◌∷◌, length, length-append, refl, sym, arith, Result, Ok, Err}
+use Rattle.std.proofs.Common.{◌≡◌, ◌+◌, ℕ, Some, List, [], ◌∷◌, length, length-append, refl, sym, arith, Err}
 use Rattle.std.specs.Prelude.{IsOk}
 use Rattle.notation.specs.declared.entry.Entry.{Entry}
 use Rattle.notation.specs.Lines.{lines_of}
@@ -18,19 +18,14 @@ pub begins : (innings : ℕ) (input : List ℕ) (lines : List (List ℕ)) (book 
 begins innings input lines book e none = rw (e, none) (record { numbered = omega arith; long = refl; taken = refl; rejected = refl })
 
 module _ (innings : ℕ) (input line : List ℕ) (rest : List (List ℕ)) (number : ℕ) (book : List Entry) (m : Midway innings input (line ∷ rest) number book) where
-  -- by what is answered to this line
-  agreed : (answer : Result Entry Rejected) → answer_to innings book line ≡ answer → IsOk answer → Midway innings input rest (number + 1) (with_taken answer book)
-  agreed (Ok e) a ok = record {
-    numbered = omega (arith, m.numbered);
-    long = omega (arith, m.long, length-append book (e ∷ []));
-    taken = rw a at m.taken;
-    rejected = rw (a, first_rejected) at m.rejected;
-  }
-  agreed (Err why) a ok = absurd (cc)
-
   -- the line is taken too
   pub goes_on : (n : ℕ) (new : List Entry) → n ≡ innings → IsOk (answer_to n book line) → new ≡ with_taken (answer_to n book line) book → Midway innings input rest (number + 1) new
-  goes_on n new same ok taken = rw (taken, same) (agreed (answer_to innings book line) refl (rw same at ok))
+  goes_on n new same ok taken = record {
+    numbered = omega (arith, m.numbered);
+    long = grind (arith, m.long, length-append book);
+    taken = grind (arith, m.taken);
+    rejected = grind (arith, m.rejected);
+  }
 
   -- or not: then it is the first that isn't
   pub first_refused : (n : ℕ) (why : Rejected) → n ≡ innings → answer_to n book line ≡ Err why → first_rejected innings 1 [] (lines_of input) ≡ Some (number + 1, why)

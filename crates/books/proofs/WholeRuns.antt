@@ -10,11 +10,6 @@ use Rattle.books.specs.OneHistory.{IsWholeBelow, goes_wrong, is_torn}
 use Rattle.books.proofs.EntriesAt.{found_in, none_at, none_from, some_at}
 use Rattle.books.proofs.SameVotes.{alike_here, entries_at, same_entry}
 
--- it is false, where it can't be true
-not_true : (r : Bool) → (r ≡ true → ⊥) → r ≡ false
-not_true true n = absurd (n refl)
-not_true false n = refl
-
 module _ (own theirs : List Ballot) (jo : Justified theirs own) (jt : Justified own theirs) (place round : ℕ) (e f : Entry)
     (mine : In (ballot_at place round e) own) (other : In (ballot_at place round f) theirs) where
   -- after votes alike there is none in the next round

@@ -1,19 +1,14 @@
-use Rattle.std.proofs.Common.{◌≡◌, ◌∙◌, List, Result, Ok, length, sym, ap}
+use Rattle.std.proofs.Common.{◌≡◌, ◌∙◌, length, ap}
 use Rattle.agree_core.specs.declared.messages.DeskId.TheVariants.{A, B}
-use Rattle.agree_core.specs.Ballots.{Ballot}
-use Rattle.vote_store.specs.declared.refusal.Refusal.{Refusal}
 use Rattle.books.proofs.OneList.{one_list}
 use Rattle.books.proofs.SameVotes.{no_difference, same_votes}
 use Rattle.books.proofs.SoundVotes.{in_file}
 use Rattle.books.proofs.laws.comparisons_tell_all.Goals as goal
 
-same_ok : (xs ys : List Ballot) (r : Result (List Ballot) Refusal) → r ≡ Ok xs → r ≡ Ok ys → xs ≡ ys
-same_ok xs ys r e f = let both : Ok xs ≡ Ok ys = sym e ∙ f in cc
-
 pub returns-clause-counted : goal.returns-clause-counted
 returns-clause-counted _ = λ s a b c book compared made.
-    let first = same_ok made.votes.a compared.votes.a _ made.read.first compared.read.first in
-    let second = same_ok made.votes.b compared.votes.b _ made.read.second compared.read.second in
+    let first : made.votes.a ≡ compared.votes.a = cc (made.read.first, compared.read.first) in
+    let second : made.votes.b ≡ compared.votes.b = cc (made.read.second, compared.read.second) in
     let votes : made.votes ≡ compared.votes = λ i. record { a = first i; b = second i } in
     let sound = (in_file A s.game a compared.votes.a compared.read.first).sequence in
     compared.agreed ∙ ap length (one_list compared.votes sound compared.list book compared.agreed_list (rw votes at made.agreed))
