@@ -1,9 +1,7 @@
 -- How many players fit.
-use Rattle.std.proofs.Common.{◌≡◌, ℕ, ◌+◌, ◌≤◌, ◌<◌, Bool, true, false, List, [], ◌∷◌, filter, drop, get_or, Some, refl, arith}
-use Rattle.std.specs.Prelude.{slice_get}
+use Rattle.std.proofs.Common.{◌≡◌, ℕ, ◌≤◌, ◌<◌, List, [], ◌∷◌, get_or, refl, arith}
 use Rattle.std.proofs.lemmas.List.Elements.{All-from_recursion, All-get_or}
 use Rattle.ball_laws.specs.Over.{numbers}
-use Rattle.cards.proofs.Slots.{next}
 use Rattle.shorthand.specs.declared.names.Found.{Found}
 use Rattle.shorthand.specs.declared.names.Found.TheVariants.{NoOne, Several}
 use Rattle.shorthand.specs.Names.{found_in}
@@ -19,14 +17,6 @@ several (n ∷ ns) = several ns
 
 pub with_all-none : (ns : List ℕ) → with_all NoOne ns ≡ found_in ns
 with_all-none ns = grind (arith, several)
-
--- a player more is looked at, who fits or doesn't
-module _ (p : ℕ → Bool) (found : Found) (items : List ℕ) (k n : ℕ) (here : slice_get items k ≡ Some n) where
-  pub fitting_one : p n ≡ true → with_all (and_one found n) (filter p (drop (k + 1) items)) ≡ with_all found (filter p (drop k items))
-  fitting_one fits = rw (next items k n here, fits)
-
-  pub fitting_not : p n ≡ false → with_all found (filter p (drop (k + 1) items)) ≡ with_all found (filter p (drop k items))
-  fitting_not not = rw (next items k n here, not)
 
 abbrev InRange : ℕ → Type 0
 InRange n = (1 ≤ n) × (n ≤ 11)

@@ -16,7 +16,7 @@ use Rattle.shorthand.specs.Words.{among_words, in_row, run_words, said_runs, tri
 use Rattle.shorthand.specs.Marks.{both, cut, figures, letters, mark, written_mark}
 use Rattle.shorthand.specs.Points.{point_at}
 use Rattle.shorthand.specs.Lines.{joined, plus}
-use Rattle.shorthand.specs.Full.{begins_delivery, by_answer, by_letter, by_same_bowler, in_full, item_from, runs_from, same_bowler, unnamed, with_words, words_in_full}
+use Rattle.shorthand.specs.Full.{begins_delivery, by_answer, by_letter, by_same_bowler, in_full, item_from, runs_from, same_bowler, unnamed, words_in_full}
 use Rattle.shorthand.specs.inner.Marking.{ball_line}
 
 -- ---- what holds of each token of the tables that is a mark, and of its kind and its runs
@@ -86,9 +86,6 @@ joined_ball : (n : ℕ) (kind runs : Token) → length (ball_line n kind runs) �
     → joined (Ok (codes "ball") ∷ Ok (decimal n) ∷ Ok kind ∷ Ok runs ∷ []) ≡ Ok (ball_line n kind runs)
 joined_ball n kind runs h = grind (arith, common_steps, length-append, plus_more, append_assoc)
 
-with_read : (text : List ℕ) (e : Entry) → line_answer text ≡ Ok e → with_words (Ok text) ≡ Ok text
-with_read text e h = rw h refl
-
 pub marked_line : (s : Sheet) (book : List Entry) (line : List ℕ) (m : Token × Token) (n : ℕ) (b : Ball)
     → mark (trimmed line) ≡ Some m → (point_at book Last).bowler ≡ Some n → IsBall b
     → text_of (Entry.Write (Plain.Ball b)) ≡ ball_line n m.0 m.1 → in_full s book line ≡ Ok (text_of (Entry.Write (Plain.Ball b)))
@@ -99,5 +96,5 @@ marked_line s book line m n b is who h text =
     let fits : length (ball_line n m.0 m.1) ≤ 96 = (let most = length-text e h in let same_length = ap length text in omega (arith, most, same_length)) in
     let again = ap line_answer (sym text) ∙ line_again e h in
     let full : by_answer s book (trimmed line) ≡ Ok (ball_line n m.0 m.1) =
-    rw (read.0, read.1 s book, who, joined_ball n m.0 m.1 fits) (with_read (ball_line n m.0 m.1) e again) in
+    rw (read.0, read.1 s book, who, joined_ball n m.0 m.1 fits, again) in
     full ∙ ap Ok (sym text)

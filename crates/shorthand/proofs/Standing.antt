@@ -1,16 +1,16 @@
 -- What lines are in full, as whoever reads lines judges them.
 use Rattle.std.proofs.lemmas.Grind.{common_steps}
 use Rattle.std.proofs.Common.{◌≡◌, ℕ, ◌≤◌, List, [], ◌∷◌, length, true, false}
-use Rattle.std.proofs.Common.{Option, Result, Ok, Err, refl, inl, inr, arith, IfOk, lit≤}
+use Rattle.std.proofs.Common.{Result, Ok, Err, refl, inl, inr, arith, IfOk, lit≤}
 use Rattle.std.proofs.lemmas.Bool.Decides.{nat_tests}
 use Rattle.notation.specs.declared.{fault.LineFault.LineFault, entry.Entry.Entry}
-use Rattle.notation.specs.Written.{Token, tokens, is_spaced}
+use Rattle.notation.specs.Written.{tokens, is_spaced}
 use Rattle.notation.specs.Reading.{line_answer}
 use Rattle.notation.proofs.Found.{chosen}
 use Rattle.notation.proofs.Texts.{length-text, line_again, line_found}
 use Rattle.cards.specs.Sheet.{Sheet}
 use Rattle.shorthand.specs.Lines.{Reason, Fault, Word, joined, plus, plus_all}
-use Rattle.shorthand.specs.Full.{by_word, in_full, is_of_line, or_word, put_in_full, with_words, words_in_full}
+use Rattle.shorthand.specs.Full.{by_word, in_full, is_of_line, put_in_full, with_words, words_in_full}
 use Rattle.shorthand.specs.Laws.{FullLinesStand, IsReadOrRefused, TakenLinesAreRead}
 use Rattle.shorthand.specs.Words.{trimmed}
 use Rattle.shorthand.proofs.Blanks.{untrimmed}
@@ -36,11 +36,8 @@ plus_all_fits : (line : Result (List ℕ) Reason) (ws : List Word) → Fits line
 plus_all_fits line [] h = h
 plus_all_fits line (w ∷ ws) h = plus_all_fits (plus line w) ws (plus_fits line w)
 
-or_word_fits : (text : List ℕ) (found : Option Token) → length text ≤ 96 → Fits (or_word text found)
-or_word_fits text found h = grind (arith, common_steps)
-
 with_words_fits : (line : Result (List ℕ) Reason) → Fits line → Fits (with_words line)
-with_words_fits line h = grind (arith, common_steps, or_word_fits)
+with_words_fits line h = grind (arith, common_steps)
 
 words_fit : (s : Sheet) (book : List Entry) (line text : List ℕ) → by_word s book line ≡ Ok text → length text ≤ 96
 words_fit s book line text e =
