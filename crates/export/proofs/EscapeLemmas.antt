@@ -1,10 +1,10 @@
 -- What stands for a character that a terminal obeys is plain text, and is read as that character.
-use Rattle.std.proofs.Common.{◌≡◌, ℕ, ◌+◌, ◌*◌, ◌/◌, ◌%◌, ◌<◌, true, false, List, [], ◌∷◌, ◌++◌, Some, arith, encode_utf8, lt-ltb}
+use Rattle.std.proofs.Common.{◌≡◌, ℕ, ◌+◌, ◌*◌, ◌/◌, ◌%◌, ◌<◌, true, List, [], ◌∷◌, ◌++◌, Some, arith, encode_utf8, lt-ltb}
 use Rattle.std.proofs.lemmas.Bool.Decides.{nat_tests}
 use Rattle.std.proofs.lemmas.Str.{digit_value-digit_char, encode_ascii}
 use Rattle.std.specs.Char.{digit_char}
 use Rattle.cards.specs.Sheet.{is_printable}
-use Rattle.json.specs.Text.{content, plain, prepend, code_unit, is_high_surrogate, is_low_surrogate}
+use Rattle.json.specs.Text.{content, plain, prepend, code_unit}
 use Rattle.export.specs.Escapes.{IsPlain, is_obeyed, shown_char}
 
 -- a hex digit is one byte, and plain text
@@ -18,7 +18,7 @@ obeyed_below : (c : ℕ) → is_obeyed c ≡ true → c < 0x2070
 obeyed_below c h = grind (arith, nat_tests)
 
 -- four digits are read as the number
-pub read_digits : (a b c d : ℕ) → a < 16 → b < 16 → c < 16 → d < 16
+read_digits : (a b c d : ℕ) → a < 16 → b < 16 → c < 16 → d < 16
     → code_unit (digit_char a) (digit_char b) (digit_char c) (digit_char d) ≡ Some (a * 4096 + b * 256 + c * 16 + d)
 unfolding code_unit
 read_digits a b c d p q r s =
@@ -33,17 +33,11 @@ read_digits a b c d p q r s =
       lt-ltb d 16 s,
     )
 
-not_high : (u : ℕ) → u < 0xd800 → is_high_surrogate u ≡ false
-not_high u h = grind (arith, nat_tests)
-
-not_low : (u : ℕ) → u < 0xd800 → is_low_surrogate u ≡ false
-not_low u h = grind (arith, nat_tests)
-
 -- and an escape with them as the character
-pub read_unit : (a b c d u : ℕ) (more : List ℕ) → code_unit a b c d ≡ Some u → u < 0xd800
+read_unit : (a b c d u : ℕ) (more : List ℕ) → code_unit a b c d ≡ Some u → u < 0xd800
     → content plain (92 ∷ 117 ∷ a ∷ b ∷ c ∷ d ∷ more) ≡ prepend (encode_utf8 u) (content plain more)
 unfolding content
-read_unit a b c d u more is low = rw (is, not_high u low, not_low u low)
+read_unit a b c d u more is low = grind (arith, nat_tests)
 
 whole : (c : ℕ) → c < 0x2070 → c / 4096 % 16 * 4096 + c / 256 % 16 * 256 + c / 16 % 16 * 16 + c % 16 ≡ c
 whole c h = omega arith

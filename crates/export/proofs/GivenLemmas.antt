@@ -28,6 +28,3 @@ pub puts_more : (name : List ℕ) (d : Data) (ms : Members) (old mid new : List 
     PutsGiven (member name d ms) old new
 puts_more name d ms old mid new one more =
     (one.0 ++ more.0, handed_more (is_own name) name d (others ms) one.0 more.0 one.1 more.1, adds_fields old mid new one.0 more.0 one.2 more.2)
-
-pub puts_none : (old : List Token) → PutsGiven no_members old old
-puts_none old = ([], refl, no_fields old)

@@ -38,14 +38,18 @@ module _ (key : List ℕ) where
   -- fields have a key where the members have it, with its value
   has_all : (ms : Members) (fs : List Field) → AreFieldsOf ms fs → has fs ≡ is_some (get_member key ms)
   has_all no_members fs are = ap has are
-  has_all (member name d ms) fs (v, rest, whole, here, more) = rw whole (grind (arith, get_member-cons key name d ms, has_all ms rest more))
+  has_all (member name d ms) fs (v, rest, whole, here, more) =
+      rw whole (grind (arith, get_member-cons key name d ms, has_all ms rest more))
 
   stands : (d : Data) (ms : Members) (fs : List Field) → AreFieldsOf ms fs → get_member key ms ≡ Some d → IsValueOf d (under fs)
   stands d no_members fs are is = absurd (cc)
   stands d (member name e ms) fs (v, rest, whole, here, more) is =
       let either : cond (bytes_eq key name) (Some e) (get_member key ms) ≡ Some d = sym (get_member-cons key name e ms) ∙ is in
       elim (cases_Bool (bytes_eq key name)) [
-        | inl same ↦ let value : Some e ≡ Some d = rw same at either in let one : e ≡ d = cc in rw (whole, same) (rw one at here)
+        | inl same ↦
+            let value : Some e ≡ Some d = rw same at either in
+            let one : e ≡ d = cc in
+            rw (whole, same) (rw one at here)
         | inr apart ↦ rw (whole, apart) (stands d ms rest more (rw apart at either))
       ]
 

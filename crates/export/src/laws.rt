@@ -39,6 +39,7 @@ pub fn exports_name_two_sides()
 /// Each key of the sheet's table `[info]` stands under `info` with its value, but for those that are the export's own: none
 /// of these is handed on, so that none stands twice. Of a document that isn't refused, the day and the revision in the table
 /// `[meta]` stand under `meta` with their values; the version of the format is the export's own.
+#[tactic(auto, using(crate::proofs::HandedLemmas::has_each_key, crate::proofs::HandedLemmas::leaves_own, crate::proofs::MetaLemmas::tells_of_file, crate::proofs::MetaLemmas::tells_day))]
 pub fn exports_hand_on()
     ensures each { (s : Sheet) → (h : History) → (document : Members) → (given : List Field)
         → HandsOn document given → HasEachKey s h document given }
@@ -50,6 +51,7 @@ pub fn exports_hand_on()
 
 /// What stands in an export's text for a character that a terminal obeys, or that turns or breaks a line, is plain text, and a
 /// reader of JSON takes each string as it was before.
+#[tactic(auto, using(crate::proofs::EscapeLemmas::plain_text, crate::proofs::EscapedStrings::string_read))]
 pub fn escapes_read_back()
     ensures plain { (c : ℕ) → is_obeyed c ≡ true → IsPlain c }
     ensures strings { (s : List ℕ) → IsUtf8 s → IsReadBack s }

@@ -25,6 +25,7 @@ pub fn bowlers_add_up()
 {}
 
 /// Of a player whose name no other player of the card has, what the card's players of that name have is his own figure.
+#[tactic(auto, using(crate::proofs::ReaderSums::names_tell_players))]
 pub fn names_tell_players()
     ensures { (s : Sheet) → (h : History) → (i p : ℕ) → (figure : History → ℕ → ℕ → ℕ) → NamesTellPlayers s h i p figure }
 {}

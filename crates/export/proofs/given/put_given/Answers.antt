@@ -1,8 +1,9 @@
-use Rattle.std.proofs.Common.{◌≡◌, ◌∷◌, string_bytes, sym, subst, rules}
+use Rattle.std.proofs.Common.{◌≡◌, [], ◌∷◌, string_bytes, refl, sym, subst, rules}
 use Rattle.toml.specs.View.{view, members_view}
 use Rattle.toml.proofs.Views.{Entry}
+use Rattle.json_fields.proofs.Putting.{no_fields}
 use Rattle.export.specs.inner.Putting.{PutsGiven, PutsHanded}
-use Rattle.export.proofs.GivenLemmas.{puts_more, puts_none}
+use Rattle.export.proofs.GivenLemmas.{puts_more}
 use Rattle.export.proofs.given.put_given.Goals as goal
 
 pub loop-key-preserved : goal.loop-key-preserved
@@ -16,4 +17,4 @@ loop-key-preserved c =
 pub returns : goal.returns
 returns c =
     let l = c.loop-key in
-    l.invariant l.out (subst (λ es. PutsGiven (members_view es) l.out l.out) (sym c.in-None.ensures.steps.0) (puts_none l.out))
+    l.invariant l.out (subst (λ es. PutsGiven (members_view es) l.out l.out) (sym c.in-None.ensures.steps.0) ([], refl, no_fields l.out))
