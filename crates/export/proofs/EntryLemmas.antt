@@ -13,14 +13,11 @@ use Rattle.export.specs.Laws.{HasEachEntry}
 abbrev at : List Entry → ℕ → List Json
 at book p = entry_at book p (slice_get book p)
 
-one_long : (book : List Entry) (p : ℕ) → p < length book → length (at book p) ≡ 1
-one_long book p lt = grind (arith, (slice_get_cases book p).1)
-
 count : (book : List Entry) (n : ℕ) → n ≤ length book → length (up_to (at book) n) ≡ n
 unfolding up_to
 count book zero le = refl
 count book (suc n) le =
-    omega (arith, count book n (omega arith), one_long book n (omega arith), length-append (up_to (at book) n) (at book n))
+    grind (arith, count book n, (slice_get_cases book n).1, length-append (up_to (at book) n) (at book n))
 
 each : (book : List Entry) (n p : ℕ) (e : Entry) → n ≤ length book → p < n → slice_get book p ≡ Some e →
     slice_get (up_to (at book) n) p ≡ Some (entry_of book p e)

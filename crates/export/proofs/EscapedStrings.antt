@@ -1,5 +1,5 @@
 -- Each string of an export's text is read as it was before what a terminal obeys in it was escaped.
-use Rattle.std.proofs.Common.{◌≡◌, ℕ, zero, suc, ◌+◌, ◌<◌, ◌≤◌, Bool, true, false, nat_lt, List, [], ◌∷◌, ◌++◌, Option, Some, IsUtf8, chars, flat_map, encode_utf8, encode_utf8_all, inl, inr, refl, sym, ap, ◌∙◌, arith, append_assoc, append-nil, length, get_or, le-ltb, ne_eqb, ltb-true}
+use Rattle.std.proofs.Common.{◌≡◌, ℕ, zero, suc, ◌+◌, ◌<◌, ◌≤◌, Bool, true, false, nat_lt, List, [], ◌∷◌, ◌++◌, Some, IsUtf8, chars, flat_map, encode_utf8, encode_utf8_all, inl, inr, refl, sym, ap, ◌∙◌, arith, append_assoc, append-nil, length, get_or, le-ltb, ne_eqb, ltb-true}
 use Rattle.std.proofs.lemmas.Bool.{and_parts, cases_lt, cases_eq}
 use Rattle.std.proofs.lemmas.Bool.Decides.{nat_tests}
 use Rattle.std.proofs.lemmas.Grind.{flat_map-append}
@@ -21,9 +21,6 @@ shown_past c more ok =
     let one = chars_past_char (encode_utf8 c) [] c text (sym (append-nil (encode_utf8 c))) in
     rw (chars-append (encode_utf8 c) more text, one, chars-nil) refl
 
-seen : (c : ℕ) → c < 127 → is_obeyed c ≡ false
-seen c h = grind (arith, nat_tests)
-
 -- bytes below DEL stay
 abbrev are_below : List ℕ → Bool
 are_below = list_all (λ x. nat_lt x 127)
@@ -34,7 +31,8 @@ shown_below (x ∷ xs) more h =
     let p = and_parts _ _ h in
     let low : x < 127 = ltb-true _ _ p.0 in
     let one : encode_utf8 x ≡ x ∷ [] = encode_ascii x (omega arith) in
-    let past : shown (x ∷ (xs ++ more)) ≡ x ∷ shown (xs ++ more) = rw (one, seen x low) at (shown_past x (xs ++ more) (low_scalar x (omega arith))) in
+    let unseen : is_obeyed x ≡ false = grind (arith, nat_tests) in
+    let past : shown (x ∷ (xs ++ more)) ≡ x ∷ shown (xs ++ more) = rw (one, unseen) at (shown_past x (xs ++ more) (low_scalar x (omega arith))) in
     rw (past, shown_below xs more p.1) refl
 
 -- so a text of such bytes stays
@@ -57,9 +55,6 @@ escape_high (x ∷ xs) h =
 
 -- ---- what a reader makes of that
 
-prepend-prepend : (a b : List ℕ) (r : Option (List ℕ)) → prepend a (prepend b r) ≡ prepend (a ++ b) r
-prepend-prepend a b r = grind (arith, append_assoc)
-
 abbrev IsRead : List ℕ → List ℕ → Type 0
 IsRead text chars = (more : List ℕ) → content plain (text ++ more) ≡ prepend chars (content plain more)
 
@@ -68,8 +63,8 @@ unfolding content
 read_high [] h more = grind arith
 read_high (x ∷ xs) h more =
     let high : 127 ≤ x = h 0 (omega arith) in
-    rw (ne_eqb x 34 (λ e. omega arith), ne_eqb x 92 (λ e. omega arith), le-ltb x 32 (omega arith))
-    (ap (prepend (x ∷ [])) (read_high xs (λ k below. h (suc k) (omega arith)) more) ∙ prepend-prepend (x ∷ []) xs _)
+    let rest = read_high xs (λ k below. h (suc k) (omega arith)) more in
+    rw (ne_eqb x 34 (λ e. omega arith), ne_eqb x 92 (λ e. omega arith), le-ltb x 32 (omega arith), rest) (grind arith)
 
 shown_read : (b : Bool) (c : ℕ) (more : List ℕ) → is_obeyed c ≡ b → AreHigh (encode_utf8 c)
     → content plain (shown_char c ++ more) ≡ prepend (encode_utf8 c) (content plain more)

@@ -18,10 +18,6 @@ use Rattle.export.specs.Laws.{member_at, at, HasEachKey, LeavesOwn}
 get_member-cons : (key name : List ℕ) (d : Data) (ms : Members) → get_member key (member name d ms) ≡ cond (bytes_eq key name) (Some d) (get_member key ms)
 get_member-cons key name d ms = grind (arith, is_eq-slice_cmp key name)
 
--- a key that has the same bytes is the export's own, or none of its own, as well
-same_own : (key name : List ℕ) → bytes_eq key name ≡ true → is_own key ≡ is_own name
-same_own key name same = ap is_own ((bytes_eq-Decides key name).0 same)
-
 module _ (key : List ℕ) where
   abbrev has : List Field → Bool
   has fs = list_any (λ f. bytes_eq key f.0) fs
@@ -33,7 +29,7 @@ module _ (key : List ℕ) where
   others-at : (ms : Members) → get_member key (others ms) ≡ (if is_own key then None else get_member key ms)
   others-at no_members = grind arith
   others-at (member name d ms) =
-      grind (arith, others-at ms, get_member-cons key name d ms, get_member-cons key name d (others ms), same_own key name)
+      grind (arith, others-at ms, get_member-cons key name d ms, get_member-cons key name d (others ms), bytes_eq-Decides key name)
 
   -- fields have a key where the members have it, with its value
   has_all : (ms : Members) (fs : List Field) → AreFieldsOf ms fs → has fs ≡ is_some (get_member key ms)

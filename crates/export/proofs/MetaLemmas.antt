@@ -1,7 +1,7 @@
 -- What stands under `meta`.
 use Rattle.std.proofs.Common.{◌≡◌, true, Option, Some, None, is_some, option_and_then, codes, refl, sym, ap, ◌∙◌, arith, subst}
 use Rattle.std.specs.Prelude.{unwrap_or}
-use Rattle.std.proofs.lemmas.Bool.{and_parts, true≢false}
+use Rattle.std.proofs.lemmas.Bool.{true≢false}
 use Rattle.toml.specs.Data.{Members}
 use Rattle.toml_datetime.specs.declared.datetime.Date.{Date}
 use Rattle.toml_datetime.specs.Text.{date_text}
@@ -20,10 +20,7 @@ told (Some x) e = (x, refl)
 
 fine_parts : (document : Members) → is_fine_document document ≡ true
     → (is_fine day_of (meta_at (codes "created") document) ≡ true) × (is_fine revision_of (meta_at (codes "revision") document) ≡ true)
-fine_parts document fine =
-    let (three, revision) = and_parts _ (is_fine revision_of (meta_at (codes "revision") document)) fine in
-    let (two, created) = and_parts _ (is_fine day_of (meta_at (codes "created") document)) three in
-    (created, revision)
+fine_parts document fine = (grind arith, grind arith)
 
 at_created : (document : Members) (o : Option Date) → created_in document ≡ o →
     in_meta (codes "created") document ≡ elim o [ None ↦ null | Some day ↦ string (date_text day) ]

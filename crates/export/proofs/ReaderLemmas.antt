@@ -1,10 +1,9 @@
 -- What a reader takes of a delivery.
-use Rattle.std.proofs.Common.{◌≡◌, ℕ, ◌+◌, ◌≤◌, ◌==◌, ◌&&◌, not, cond, Bool, true, false, List, [], ◌∷◌, ◌++◌, Option, codes, refl, ap, arith, eqb-true, bytes_eq}
-use Rattle.std.specs.Prelude.{is_some}
+use Rattle.std.proofs.Common.{◌≡◌, ℕ, ◌+◌, ◌≤◌, ◌==◌, ◌&&◌, not, cond, Bool, true, false, List, [], ◌∷◌, ◌++◌, codes, refl, arith, eqb-true, bytes_eq}
 use Rattle.std.specs.List.{list_any}
 use Rattle.std.proofs.lemmas.Bool.Decides.{nat_tests}
 use Rattle.std.proofs.lemmas.Fmt.{digits_value-decimal}
-use Rattle.notation.specs.declared.entry.{Side.Side, Ball.Ball, How.How, Out.Out, Plain.Plain}
+use Rattle.notation.specs.declared.entry.{Side.Side, Ball.Ball, How.How}
 use Rattle.notation.proofs.Numbers.{own}
 use Rattle.ball_laws.specs.declared.{ends.Ends.Ends}
 use Rattle.ball_laws.specs.Over.{debit_of, is_wide_or_no_ball}
@@ -14,14 +13,14 @@ use Rattle.match_laws.specs.Figures.{batted_of, credit_of, credited, faced_of, f
 use Rattle.match_laws.proofs.Bounds.{ball-small}
 use Rattle.cards.specs.Sheet.{Sheet, player_of}
 use Rattle.json.specs.Json.{Json, null}
-use Rattle.json_fields.specs.Values.{array_of, flag_if, members_of, number_field, number_value}
+use Rattle.json_fields.specs.Values.{array_of, members_of, number_field, number_value}
 use Rattle.archive_deliveries.specs.declared.notes.Noted.{Noted}
 use Rattle.archive_deliveries.specs.Wickets as listing
-use Rattle.archive_deliveries.specs.Wickets.{gone_of, has_wickets, how_words, is_gone, own_wickets}
+use Rattle.archive_deliveries.specs.Wickets.{has_wickets, how_words, is_gone}
 use Rattle.archive_deliveries.specs.Deliveries.{delivery_of, extra_runs, extras_field, is_run}
 use Rattle.export.specs.Laws.{at, is_text, member_at}
 use Rattle.export.specs.Readers.{bat_runs, boundary_in, bowled_in, credited_in, credited_kinds, debited_in}
-use Rattle.export.specs.Readers.{faced_in, four_outrun, is_credited, is_set, noballs_in, number_in, six_outrun}
+use Rattle.export.specs.Readers.{faced_in, four_outrun, is_credited, noballs_in, number_in, six_outrun}
 use Rattle.export.specs.Readers.{wides_in}
 use Rattle.export.proofs.WicketLemmas.{delivered}
 use Rattle.export.proofs.LineLemmas.{takes}
@@ -44,9 +43,6 @@ extras_read : (key : List ℕ) (w e : Bool) (v x : Json) →
 extras_read key w e v x = grind arith
 
 -- ---- a delivery
-
-flag_read : (holds : Bool) → is_set (member_at (codes "non_boundary") (members_of (flag_if holds (codes "non_boundary")))) ≡ holds
-flag_read holds = grind arith
 
 module _ (s : Sheet) (side : Side) (penalty : ℕ) (early late : List Noted) (ends : Ends) (b : Ball) where
   abbrev delivery : Json
@@ -82,7 +78,7 @@ module _ (s : Sheet) (side : Side) (penalty : ℕ) (early late : List Noted) (en
 pub boundary_read : (n : ℕ) (s : Sheet) (side : Side) (penalty : ℕ) (early late : List Noted) (ends : Ends) (b : Ball) → b.ran ≤ 20 →
     boundary_in n (delivery_of s side penalty early ends b late) ≡ one_if ((batted_of b == n) && not (is_run b))
 boundary_read n s side penalty early late ends b low =
-    rw (bat_read s side penalty early late ends b low) (ap (λ t. one_if ((batted_of b == n) && not t)) (flag_read (is_run b)))
+    rw (bat_read s side penalty early late ends b low) (grind arith)
 
 -- ---- fours and sixes
 
@@ -97,16 +93,6 @@ sixes_told b = grind (arith, nat_tests)
 how_credited : (bowlers : Bool) (how : How) → list_any (λ kind. bytes_eq kind (how_words bowlers how)) credited_kinds ≡ credits how
 how_credited bowlers how = grind arith
 
-module _ (s : Sheet) (side : Side) where
-  own_credited : (ends : Ends) (bowler : ℕ) (out : Option Out) → count_of is_credited (own_wickets s side ends bowler out) ≡ credit_of out
-  own_credited ends bowler out = grind (arith, how_credited)
-
-  none_gone : (p : Plain) → count_of is_credited (gone_of s side p) ≡ cond (is_gone p && false) 1 0
-  none_gone p = grind arith
-
-none_of : (out : Option Out) → is_some out ≡ false → credit_of out ≡ 0
-none_of out e = grind arith
-
 none_went : (xs : List Noted) → count_of (λ x. is_gone x.item && false) xs ≡ 0
 none_went [] = refl
 none_went (x ∷ xs) = grind (arith, none_went xs)
@@ -114,5 +100,6 @@ none_went (x ∷ xs) = grind (arith, none_went xs)
 pub credited_read : (s : Sheet) (side : Side) (penalty : ℕ) (early late : List Noted) (ends : Ends) (b : Ball) →
     credited_in (delivery_of s side penalty early ends b late) ≡ credited b
 credited_read s side penalty early late ends b =
-    let all = delivered is_credited s side (λ p. false) credit_of (none_gone s side) (own_credited s side) none_of penalty early late ends b in
+    let all = delivered is_credited s side (λ p. false) credit_of (λ p. grind arith)
+    (λ ends bowler out. grind (arith, how_credited)) (λ out none. grind arith) penalty early late ends b in
     grind (arith, all, none_went early, none_went late)

@@ -87,21 +87,15 @@ counted_one b = one_if (counts b)
 abbrev bowled_one : Ball → ℕ
 bowled_one b = one_if (not (is_wide_or_no_ball b.kind))
 
-fair : (b : Ball) → counted_one b + dead_ball b ≡ bowled_one b
-fair b = grind arith
-
 all_by : (p : ℕ) (bs : List Ball) → list_all (bowled_by p) bs ≡ true → counting_by p bs ≡ counting bs
 all_by p [] e = refl
 all_by p (b ∷ bs) e = grind (arith, all_by p bs)
-
-alone_by : (p : ℕ) (bs : List Ball) → alone p bs ≡ true → counting_by p bs ≡ counting bs
-alone_by p bs e = grind (arith, all_by)
 
 -- of the called overs, those that he bowled alone and the others
 overs_apart : (p : ℕ) (overs : List (List Ball)) → tally (counting_by p) overs
     ≡ tally (λ over. if alone p over then counting over else 0) overs + tally (shared_by p) overs
 overs_apart p [] = refl
-overs_apart p (over ∷ overs) = grind (arith, overs_apart p overs, alone_by p over)
+overs_apart p (over ∷ overs) = grind (arith, overs_apart p overs, all_by p over)
 
 -- each delivery of an innings is of a called over, or since the last call
 by_overs : (h : History) (i p : ℕ) → tally (of_bowler counted_one i p) (deliveries h)
@@ -113,7 +107,7 @@ balls_of : (h : History) (i p : ℕ) → over_balls h i p + bowler_balls h i p +
     ≡ tally (of_bowler bowled_one i p) (deliveries h)
 unfolding bowler_balls
 balls_of h i p =
-    let dead = sum_if (λ d. is_of i d && ((d.ball).bowler == p)) (λ d. counted_one d.ball) (λ d. dead_ball d.ball) (λ d. bowled_one d.ball) (λ d. fair d.ball) (deliveries h) in
+    let dead = sum_if (λ d. is_of i d && ((d.ball).bowler == p)) (λ d. counted_one d.ball) (λ d. dead_ball d.ball) (λ d. bowled_one d.ball) (λ d. grind arith) (deliveries h) in
     omega (arith, dead, by_overs h i p, overs_apart p (innings_overs h i))
 
 -- ---- bowlers

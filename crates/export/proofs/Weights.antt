@@ -18,14 +18,11 @@ use Rattle.archive_deliveries.specs.declared.notes.Noted.{Noted}
 use Rattle.archive_deliveries.specs.Notes.{items_in, notes}
 
 -- a delivery or a departure stands in the innings that is on
-same_number : (m c i : ℕ) → m ≡ c + 1 → (m == i + 1) ≡ (c == i)
-same_number m c i e = grind (arith, nat_tests)
-
 pub ball_here : (n : ℕ) (h : History) (b : Ball) (i : ℕ) → refusal n h (Bowl b) ≡ None → (begun h == i + 1) ≡ (current h == i)
-ball_here n h b i e = same_number (begun h) (current h) i (current-open h (ball_open n h b e))
+ball_here n h b i e = grind (arith, nat_tests, current-open h (ball_open n h b e))
 
 pub gone_here : (n : ℕ) (h : History) (way : Leave) (p i : ℕ) → refusal n h (Gone way p) ≡ None → (begun h == i + 1) ≡ (current h == i)
-gone_here n h way p i e = same_number (begun h) (current h) i (current-open h (gone_open n h way p e))
+gone_here n h way p i e = grind (arith, nat_tests, current-open h (gone_open n h way p e))
 
 module _ (w : Option ℕ → Ball → ℕ) where
   -- the number of an item, where it is a delivery

@@ -90,16 +90,11 @@ how_fell : (own : Bool) (how : How) → bytes_eq (codes "retired hurt") (how_wor
 how_fell own how = grind arith
 
 module _ (s : Sheet) (side : Side) where
-  one_fell : (p : Plain) → count_of has_fallen (gone_of s side p) ≡ cond (gone_fell p) 1 0
-  one_fell p = grind arith
-
-  own_fell : (ends : Ends) (bowler : ℕ) (out : Option Out) → count_of has_fallen (own_wickets s side ends bowler out) ≡ cond (is_some out) 1 0
-  own_fell ends bowler out = grind (arith, how_fell)
-
   all_fell : (penalty : ℕ) (early late : List Noted) (ends : Ends) (b : Ball)
       → count_of has_fallen (wickets_of (delivery_of s side penalty early ends b late)) ≡ gone early + cond (is_some b.out) 1 0 + gone late
   all_fell penalty early late ends b =
-      delivered has_fallen s side is_wicket (λ out. cond (is_some out) 1 0) one_fell own_fell (λ out none. grind (arith, none)) penalty early late ends b
+      delivered has_fallen s side is_wicket (λ out. cond (is_some out) 1 0) (λ p. grind arith)
+      (λ ends bowler out. grind (arith, how_fell)) (λ out none. grind (arith, none)) penalty early late ends b
 
 -- ---- all deliveries of an innings
 
