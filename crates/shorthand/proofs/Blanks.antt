@@ -4,7 +4,7 @@ use Rattle.std.proofs.Common.{◌≡◌, ◌&&◌, ◌-◌, ◌<◌, ℕ, Bool, 
 use Rattle.std.proofs.lemmas.Bool.Decides.{nat_tests}
 use Rattle.std.proofs.lemmas.List.Sums.{suffix_len_is}
 use Rattle.std.specs.Char.{is_ascii_whitespace}
-use Rattle.std.specs.List.{list_all, onto_first, suffix_len}
+use Rattle.std.specs.List.{list_all, suffix_len}
 use Rattle.notation.specs.Written.{Token, tokens, is_visible, is_token, is_spaced}
 use Rattle.shorthand.specs.Words.{trimmed}
 
@@ -16,11 +16,8 @@ go_on (w ∷ ws) = list_all is_visible w && list_all is_token ws
 whole : (ws : List Token) → list_all is_token ws ≡ true → go_on ws ≡ true
 whole ws h = grind (arith, common_steps)
 
-onto : (b : ℕ) (ws : List Token) → go_on (onto_first b ws) ≡ true → go_on ws ≡ true
-onto b ws h = grind (arith, common_steps)
-
 behind : (b : ℕ) (bs : List ℕ) → go_on (tokens (b ∷ bs)) ≡ true → go_on (tokens bs) ≡ true
-behind b bs h = grind (arith, whole (tokens bs), onto b (tokens bs))
+behind b bs h = grind (arith, common_steps, whole (tokens bs))
 
 last_stays : (b : ℕ) (bs : List ℕ) → go_on (tokens (b ∷ bs)) ≡ true → is_ascii_whitespace (get_or (b ∷ bs) (length bs) 0) ≡ false
 last_stays b [] h = grind (arith, nat_tests)

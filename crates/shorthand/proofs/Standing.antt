@@ -29,12 +29,9 @@ full_lines_stand = grind (arith, common_steps, line_again, untrimmed, entry_apar
 abbrev Fits : Result (List ℕ) Reason → Type 0
 Fits line = IfOk line (λ text. length text ≤ 96)
 
-plus_fits : (line : Result (List ℕ) Reason) (w : Word) → Fits (plus line w)
-plus_fits line w = grind (arith, nat_tests)
-
 plus_all_fits : (line : Result (List ℕ) Reason) (ws : List Word) → Fits line → Fits (plus_all line ws)
 plus_all_fits line [] h = h
-plus_all_fits line (w ∷ ws) h = plus_all_fits (plus line w) ws (plus_fits line w)
+plus_all_fits line (w ∷ ws) h = plus_all_fits (plus line w) ws (grind (arith, nat_tests))
 
 with_words_fits : (line : Result (List ℕ) Reason) → Fits line → Fits (with_words line)
 with_words_fits line h = grind (arith, common_steps)
