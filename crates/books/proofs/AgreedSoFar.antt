@@ -15,10 +15,6 @@ use Rattle.vote_store.proofs.SequenceLemmas.{earlier, fewer}
 abbrev pub both : List Ballot → List Ballot → AllVotes
 both own theirs = record { a = own; b = theirs }
 
--- none of the votes settle nothing
-none_agreed : (theirs : List Ballot) → IsAgreedList (both [] theirs) []
-none_agreed theirs = (tt, λ r e h. h.0)
-
 -- a sequence has one vote at a position
 pub one_vote : (votes : List Ballot) → IsSequence votes → (b c : Ballot) → In b votes → In c votes → b.at ≡ c.at → b ≡ c
 one_vote [] s b c i k e = absurd i
@@ -65,7 +61,7 @@ pub record AgreedSoFar (votes theirs : List Ballot) (i : ℕ) (xs : List Entry) 
 
 pub begun : (votes theirs : List Ballot) → AgreedSoFar votes theirs 0 []
 begun votes theirs = record {
-  agreed = rw (drop_all (length votes - 0) votes (omega arith)) (none_agreed theirs);
+  agreed = rw (drop_all (length votes - 0) votes (omega arith)) (tt, λ r e h. h.0);
   entries = All-nil IsEntry;
   places = omega arith;
 }

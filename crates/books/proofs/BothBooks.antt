@@ -10,7 +10,7 @@ use Rattle.agree_core.specs.Books.{AllTaken}
 use Rattle.cards.specs.Sheet.{Sheet}
 use Rattle.books.specs.BothFiles.{HaveVotes, IsBookOfBoth, WhyNoBookOfBoth}
 use Rattle.books.specs.declared.fault.BothFault.{BothFault}
-use Rattle.books.specs.declared.fault.BothFault.TheVariants.{NoMemory, NotOneHistory, Votes, BadVotes}
+use Rattle.books.specs.declared.fault.BothFault.TheVariants.{NoMemory, BadVotes}
 use Rattle.books.specs.OneHistory.{Tears}
 use Rattle.books.specs.inner.Both.{NamesRefused}
 
@@ -26,6 +26,5 @@ module _
     pub not_made : (r : Result Contents BothFault) → IfErr r (NamesRefused (book_refusal innings) given) → IfErr r (WhyNoBookOfBoth s a b)
     not_made (Ok book) h = tt
     not_made (Err NoMemory) h = tt
-    not_made (Err (Votes desk why)) h = absurd h
-    not_made (Err (NotOneHistory place)) h = absurd h
     not_made (Err (BadVotes place)) h = record { votes = v; read = read; whole = whole; list = list; agreed = agreed; refused = rw (← side, ← same) h }
+    not_made (Err why) h = absurd h

@@ -1,9 +1,7 @@
-use Rattle.std.proofs.Common.{◌≡◌, ℕ, List, None, false, arith}
-use Rattle.std.specs.Prelude.{nat_lt}
+use Rattle.std.proofs.Common.{arith}
 use Rattle.std.proofs.lemmas.Bool.Decides.{nat_tests}
-use Rattle.agree_core.specs.Ballots.{Ballot}
 use Rattle.agree_core.specs.declared.position.TheConstants.{ROUNDS}
-use Rattle.books.specs.DeskVotes.{entry_at, read_votes, votes_of_both}
+use Rattle.books.specs.DeskVotes.{votes_of_both}
 use Rattle.books.proofs.Differences.{added_all, added_next, added_none}
 use Rattle.books.proofs.SoundVotes.{are_votes}
 use Rattle.books.proofs.compare.compare_place.Goals as goal
@@ -26,11 +24,10 @@ loop-round-preserved c = (
 )
 
 -- where a round before it had a vote, it answers so
-first : (votes : List Ballot) (place round : ℕ) → nat_lt 0 round ≡ false → entry_at votes place round ≡ None → entry_at votes place 0 ≡ None
-first votes place round zero none = grind (arith, nat_tests)
-
 pub returns-then-not-branch-clause-no_first : goal.returns-then-not-branch-clause-no_first
-returns-then-not-branch-clause-no_first c = λ none. first (read_votes c.args.a.now) c.args.place c.loop-round.round none (c.in_ok-compare_round.ensures.no_first c.if-not-branch.true)
+returns-then-not-branch-clause-no_first c = λ none.
+    grind (arith, nat_tests, c.in_ok-compare_round.ensures.no_first c.if-not-branch.true)
 
 pub returns-then-not-branch-clause-no_second : goal.returns-then-not-branch-clause-no_second
-returns-then-not-branch-clause-no_second c = λ none. first (read_votes c.args.b.now) c.args.place c.loop-round.round none (c.in_ok-compare_round.ensures.no_second c.if-not-branch.true)
+returns-then-not-branch-clause-no_second c = λ none.
+    grind (arith, nat_tests, c.in_ok-compare_round.ensures.no_second c.if-not-branch.true)
