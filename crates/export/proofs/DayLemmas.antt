@@ -9,7 +9,7 @@ use Rattle.std.proofs.lemmas.Bool.Decides.{nat_tests}
 use Rattle.std.proofs.lemmas.Option.{cond_some, none-some, option_and_then_some}
 use Rattle.toml_datetime.specs.declared.datetime.{Date.Date, Time.Time, Offset.Offset, Datetime.Datetime}
 use Rattle.toml_datetime.specs.Valid.{is_valid_date}
-use Rattle.toml_datetime.specs.Parse.{after_byte, after_date, after_time, colon, dash, full_date}
+use Rattle.toml_datetime.specs.Parse.{after_byte, after_date, colon, dash, full_date}
 use Rattle.toml_datetime.specs.Parse.{parse_datetime, partial_time, two_digits, whole}
 use Rattle.toml_datetime.specs.Text.{date_text, datetime_text, delim_text, offset_text, part_text, time_text, two_wide}
 use Rattle.toml.specs.Data as toml
@@ -32,9 +32,8 @@ digits_back a b ha hb =
 
 two_back : (text : List ℕ) (p : ℕ × List ℕ) → two_digits text ≡ Some p → (p.0 < 100) × (text ≡ two_wide p.0 ++ p.1)
 unfolding two_digits
-two_back [] p e = absurd (none-some p e)
-two_back (a ∷ []) p e = absurd (none-some p e)
 two_back (a ∷ b ∷ rest) p e = grind (arith, digits_back a b)
+two_back text p e = absurd (none-some p e)
 
 after_back : (byte : ℕ) (text rest : List ℕ) → after_byte byte text ≡ Some rest → text ≡ byte ∷ rest
 after_back byte text rest e = grind (arith, nat_tests)
@@ -63,13 +62,9 @@ full_date_back text p e =
 
 -- ---- a date-time that is a day alone
 
-delimited : (b : Bool) (d : Date) (o : Option (Time × List ℕ)) (dt : Datetime) (day : Date)
-    → cond b (option_and_then (λ time. after_time d time.0 time.1) o) None ≡ Some dt → local_date dt ≡ Some day → ⊥
-delimited b d o dt day e is = grind arith
-
 after_day : (d : Date) (more : List ℕ) (dt : Datetime) (day : Date) → after_date d more ≡ Some dt → local_date dt ≡ Some day → (more ≡ []) × (d ≡ day)
 unfolding after_date
-after_day d more dt day e is = grind (arith, delimited)
+after_day d more dt day e is = grind arith
 
 parsed_day : (b : Bool) (o : Option Time) (text : List ℕ) (dt : Datetime) (day : Date)
     → cond b (option_map (λ t. record { date = None; time = Some t; offset = None }) o)

@@ -4,13 +4,11 @@ use Rattle.std.proofs.Common.{map, nat_lt, codes, None, Option, refl, ap, ◌∙
 use Rattle.std.specs.List.{flat_map, list_any}
 use Rattle.std.proofs.lemmas.Bool.{eqb-true}
 use Rattle.std.proofs.lemmas.Bool.Decides.{nat_tests}
-use Rattle.notation.specs.declared.entry.{Ball.Ball, Plain.Plain, Entry.Entry}
+use Rattle.notation.specs.declared.entry.{Ball.Ball, Entry.Entry}
 use Rattle.ball_laws.specs.History.{History, is_wicket}
 use Rattle.ball_laws.specs.Sums.{tally, count_of}
-use Rattle.match_laws.specs.History.{begun, side_of, awards, is_at, Award}
+use Rattle.match_laws.specs.History.{side_of, awards, is_at, Award}
 use Rattle.match_laws.specs.Figures.{runs_of, total, wickets, award_innings, penalty_runs}
-use Rattle.match_laws.specs.Refusals.{refusal}
-use Rattle.match_laws.specs.Result.{current}
 use Rattle.corrections.specs.declared.placed.Placed.{Placed}
 use Rattle.corrections.specs.CleanList.{clean, history_of}
 use Rattle.corrections.specs.inner.Scoring.{history_after}
@@ -43,16 +41,13 @@ own_runs striker b = runs_of b
 abbrev pub wickets_listed : List Noted → ℕ → ℕ
 wickets_listed xs i = count_of (λ x. is_wicket x.item && (x.innings == i)) xs
 
-same_wicket : (n : ℕ) (h : History) (x : Plain) (i : ℕ) → refusal n h x ≡ None → (is_wicket x && (current h == i)) ≡ (is_wicket x && (begun h == i + 1))
-same_wicket n h x i e = grind (arith, ball_here, gone_here)
-
 wickets_so_far : (n : ℕ) (h : History) (xs : List Placed) (i : ℕ) → first_refused n h xs ≡ None →
     wickets_listed (notes h xs) i + wickets h i ≡ wickets (history_after h xs) i
 unfolding wickets
 wickets_so_far n h [] i e = omega arith
 wickets_so_far n h (x ∷ xs) i e =
     let both = first_refused-cons n h x xs e in
-    grind (arith, same_wicket n h x.item i both.0, wickets_so_far n (x.item ∷ h) xs i both.1)
+    grind (arith, ball_here n h, gone_here n h, both.0, wickets_so_far n (x.item ∷ h) xs i both.1)
 
 -- ---- penalty runs: each award that counts in an innings stands in one place
 

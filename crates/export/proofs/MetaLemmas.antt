@@ -4,8 +4,6 @@ use Rattle.std.specs.Prelude.{unwrap_or}
 use Rattle.std.proofs.lemmas.Bool.{true≢false}
 use Rattle.toml.specs.Data.{Members}
 use Rattle.toml_datetime.specs.declared.datetime.Date.{Date}
-use Rattle.toml_datetime.specs.Text.{date_text}
-use Rattle.json.specs.Json.{null, string}
 use Rattle.json_fields.specs.Values.{number_value}
 use Rattle.export.specs.Document.{is_fine_document}
 use Rattle.export.specs.Given.{IsValueOf}
@@ -22,17 +20,13 @@ fine_parts : (document : Members) → is_fine_document document ≡ true
     → (is_fine day_of (meta_at (codes "created") document) ≡ true) × (is_fine revision_of (meta_at (codes "revision") document) ≡ true)
 fine_parts document fine = (grind arith, grind arith)
 
-at_created : (document : Members) (o : Option Date) → created_in document ≡ o →
-    in_meta (codes "created") document ≡ elim o [ None ↦ null | Some day ↦ string (date_text day) ]
-at_created document o e = grind arith
-
 at_revision : (document : Members) (o : Option Date) → created_in document ≡ o → in_meta (codes "revision") document ≡ number_value (revision_in document)
 at_revision document o e = grind arith
 
 pub tells_day : (document : Members) → is_fine_document document ≡ true → TellsDay document
 tells_day document fine d here =
     let (day, is) = told (day_of d) (sym (ap (is_fine day_of) here) ∙ (fine_parts document fine).0) in
-    (day, is, at_created document (Some day) (ap (option_and_then day_of) here ∙ is))
+    (day, is, rw (ap (option_and_then day_of) here ∙ is))
 
 pub tells_of_file : (document : Members) → is_fine_document document ≡ true → TellsOfFile document
 tells_of_file document fine = record {
@@ -43,7 +37,7 @@ tells_of_file document fine = record {
       let (n, is) = told (revision_of d) (sym (ap (is_fine revision_of) here) ∙ (fine_parts document fine).1) in
       let value = ap (λ o. unwrap_or (option_and_then revision_of o) 1) here ∙ ap (λ o. unwrap_or o 1) is in
       subst (IsValueOf d) (sym (at_revision document (created_in document) refl ∙ ap number_value value)) (value_of_revision d n is);
-  undated = λ none. at_created document None (ap (option_and_then day_of) none);
+  undated = λ none. rw (ap (option_and_then day_of) none);
   first = λ none.
       at_revision document (created_in document) refl ∙ ap (λ o. number_value (unwrap_or (option_and_then revision_of o) 1)) none;
 }
