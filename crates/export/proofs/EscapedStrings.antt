@@ -1,5 +1,5 @@
 -- Each string of an export's text is read as it was before what a terminal obeys in it was escaped.
-use Rattle.std.proofs.Common.{◌≡◌, ℕ, zero, suc, ◌+◌, ◌<◌, ◌≤◌, Bool, true, false, nat_lt, List, [], ◌∷◌, ◌++◌, Some, IsUtf8, chars, flat_map, encode_utf8, encode_utf8_all, inl, inr, refl, sym, ap, ◌∙◌, arith, append_assoc, append-nil, length, get_or, le-ltb, ne_eqb, ltb-true}
+use Rattle.std.proofs.Common.{◌≡◌, ℕ, zero, suc, ◌<◌, ◌≤◌, Bool, true, false, nat_lt, List, [], ◌∷◌, ◌++◌, Some, IsUtf8, chars, flat_map, encode_utf8, encode_utf8_all, inl, inr, refl, sym, ap, ◌∙◌, arith, append_assoc, append-nil, length, get_or, le-ltb, ne_eqb, ltb-true}
 use Rattle.std.proofs.lemmas.Bool.{and_parts, cases_lt, cases_eq}
 use Rattle.std.proofs.lemmas.Bool.Decides.{nat_tests}
 use Rattle.std.proofs.lemmas.Grind.{flat_map-append}

@@ -20,7 +20,7 @@ use Rattle.cards.specs.Sheet.{Sheet}
 use Rattle.archive_deliveries.specs.declared.{begun.Begun.Begun, notes.Noted.Noted}
 use Rattle.archive_deliveries.specs.Notes.{notes, begun_of, carried, items_in}
 use Rattle.archive_deliveries.specs.Deliveries.{penalties}
-use Rattle.json.specs.Json.{Json, null}
+use Rattle.json.specs.Json.{Json}
 use Rattle.json_fields.specs.Values.{Field, members_of, number_field, object_of, flag_if}
 use Rattle.limits.specs.declared.powerplay.Powerplay.{Powerplay}
 use Rattle.limits.specs.Limits.{overs_for}
@@ -28,7 +28,7 @@ use Rattle.export.specs.Info.{overs_told}
 use Rattle.export.specs.Innings.{runs_before, runs_after, penalty_field, powerplay_fields, needed_in, overs_of, is_declared, is_forfeited}
 use Rattle.archive_deliveries.specs.Miscounts.{is_miscounted, miscounts}
 use Rattle.export.specs.Laws.{IsCount, TotalsAddUp, at, noted_items, member_at, total_in}
-use Rattle.export.proofs.Weights.{ball_here, gone_here, in_innings, noted_weight, weights_in, weights_so_far}
+use Rattle.export.proofs.Weights.{ball_here, gone_here, in_innings, noted_weight, weights_so_far}
 use Rattle.export.proofs.ReadLemmas.{elements-of, in_over, overs_all, totals_of, totals_read}
 
 -- the runs of a delivery, whoever faced it
@@ -63,11 +63,6 @@ module _ (f : Begun) (i : ℕ) where
   places [] = refl
   places (x ∷ xs) = grind (arith, nat_tests, places xs)
 
-  -- all that a reader adds up
-  added_up : (xs : List Noted) → tally (λ k. k) (totals_of f i (items_in i xs)) + runs_before f i xs + runs_after f i xs
-      ≡ weights_in own_runs i xs + penalties f i xs
-  added_up xs = omega (arith, totals_sum (items_in i xs), in_innings own_runs i xs, places xs)
-
 -- ---- and the awards are those of the Laws
 
 abbrev counts_at : History → ℕ → Award → Bool
@@ -92,18 +87,19 @@ pub total_added : (n : ℕ) (book : List Entry) → IsLegalBook n book → (i : 
 unfolding total penalty_runs
 total_added n book legal i =
     let h = history_after [] (clean book) in
-    let sum = added_up (begun_of h) i (noted_items book) in
+    let xs = noted_items book in
     let runs = weights_so_far own_runs n [] (clean book) i (scored_legal n book legal) in
     let penalty = awards_so_far h i [] (clean book) in
-    rw (← history_after-clean book) (omega (arith, sum, runs, penalty))
+    rw (← history_after-clean book) (omega (
+      arith,
+      totals_sum (begun_of h) i (items_in i xs),
+      in_innings own_runs i xs,
+      places (begun_of h) i xs,
+      runs,
+      penalty,
+    ))
 
 -- ---- what a reader looks up
-
--- behind the penalty runs nothing has their key
-none_there : (d e t m : Bool) (runs overs : Json) (ps : List Powerplay)
-    → member_at (codes "penalty_runs") (members_of ((((flag_if d (codes "declared") ++ flag_if e (codes "forfeited"))
-    ++ cond t ((codes "target", runs) ∷ []) []) ++ powerplay_fields ps) ++ cond m ((codes "miscounted_overs", overs) ∷ []) [])) ≡ null
-none_there d e t m runs overs ps = grind arith
 
 abbrev rest : Bool → Bool → Bool → Bool → Bool → ℕ → ℕ → Json → Json → List Powerplay → List Field
 rest z d e t m before after runs overs ps =
@@ -113,7 +109,7 @@ rest z d e t m before after runs overs ps =
 rest_read : (d e t m : Bool) (before after : ℕ) (runs overs : Json) (ps : List Powerplay) (z : Bool) → (z ≡ true → before + after ≡ 0)
     → let there = member_at (codes "penalty_runs") (members_of (rest z d e t m before after runs overs ps)) in
     IsCount before (at (codes "pre") there) × IsCount after (at (codes "post") there)
-rest_read d e t m before after runs overs ps z none = grind (arith, none, none_there d e t m runs overs ps, eqb-true before 0, eqb-true after 0)
+rest_read d e t m before after runs overs ps z none = grind (arith, none, eqb-true before 0, eqb-true after 0)
 
 pub totals_add_up : (s : Sheet) (n : ℕ) (book : List Entry) → IsLegalBook n book → TotalsAddUp s book
 totals_add_up s n book legal i =

@@ -34,6 +34,40 @@ use Rattle.export.proofs.LineLemmas.{AreNamed, bowlers_named, by_players, comers
 abbrev Reads : Sheet → Side → (Json → ℕ) → (Ball → ℕ) → Type 0
 Reads s side g f = (penalty : ℕ) (early late : List Noted) (ends : Ends) (b : Ball) → b.ran ≤ 20 → g (delivery_of s side penalty early ends b late) ≡ f b
 
+-- ---- a bowler's balls
+
+abbrev counted_one : Ball → ℕ
+counted_one b = one_if (counts b)
+
+abbrev bowled_one : Ball → ℕ
+bowled_one b = one_if (not (is_wide_or_no_ball b.kind))
+
+all_by : (p : ℕ) (bs : List Ball) → list_all (bowled_by p) bs ≡ true → counting_by p bs ≡ counting bs
+all_by p [] e = refl
+all_by p (b ∷ bs) e = grind (arith, all_by p bs)
+
+-- of the called overs, those that he bowled alone and the others
+overs_apart : (p : ℕ) (overs : List (List Ball)) → tally (counting_by p) overs
+    ≡ tally (λ over. if alone p over then counting over else 0) overs + tally (shared_by p) overs
+overs_apart p [] = refl
+overs_apart p (over ∷ overs) = grind (arith, overs_apart p overs, all_by p over)
+
+-- each delivery of an innings is of a called over, or since the last call
+by_overs : (h : History) (i p : ℕ) → tally (of_bowler counted_one i p) (deliveries h)
+    ≡ tally (counting_by p) (innings_overs h i) + counting_by p (since_call h i)
+by_overs [] i p = refl
+by_overs (x ∷ h) i p = grind (arith, by_overs h i p)
+
+balls_of : (h : History) (i p : ℕ) → over_balls h i p + bowler_balls h i p + tally (of_bowler dead_ball i p) (deliveries h)
+    ≡ tally (of_bowler bowled_one i p) (deliveries h)
+unfolding bowler_balls
+balls_of h i p =
+    let dead = sum_if (λ d. is_of i d && ((d.ball).bowler == p)) (λ d. counted_one d.ball) (λ d. dead_ball d.ball)
+    (λ d. bowled_one d.ball) (λ d. grind arith) (deliveries h) in
+    omega (arith, dead, by_overs h i p, overs_apart p (innings_overs h i))
+
+-- ---- sums by names
+
 module _ (s : Sheet) (n : ℕ) (book : List Entry) (all : All IsEntry book) (legal : IsLegalBook n book) (i : ℕ) (name : List ℕ) where
   abbrev h : History
   h = history_of book
@@ -68,7 +102,8 @@ module _ (s : Sheet) (n : ℕ) (book : List Entry) (all : All IsEntry book) (leg
       let told : Ball → ℕ = λ b. one_if ((batted_of b == m) && not (is_run b)) in
       rw (batter_sum (boundary_in m) told (boundary_read m s (side_of h i)))
       (sum_if bats (λ p. tally (of_striker told i p) (deliveries h)) (λ p. tally (of_striker out i p) (deliveries h)) _
-      (λ p. sum_if (λ d. is_of i d && is_at d.striker p) (λ d. told d.ball) (λ d. out d.ball) (λ d. all_of d.ball) (λ d. adds d.ball) (deliveries h)) (batting_order h i))
+      (λ p. sum_if (λ d. is_of i d && is_at d.striker p) (λ d. told d.ball) (λ d. out d.ball)
+      (λ d. all_of d.ball) (λ d. adds d.ball) (deliveries h)) (batting_order h i))
 
   pub batter_adds_up : BatterAddsUp s h i (innings_at s book i) name
   unfolding batter_runs faced fours sixes
@@ -79,71 +114,36 @@ module _ (s : Sheet) (n : ℕ) (book : List Entry) (all : All IsEntry book) (leg
     sixes = boundaries 6 six_outrun sixes_of sixes_told;
   }
 
--- ---- a bowler's balls
+  -- ---- bowlers
 
-abbrev counted_one : Ball → ℕ
-counted_one b = one_if (counts b)
+  abbrev bowls : ℕ → Bool
+  bowls p = bytes_eq name (player_of s (opponent (side_of h i)) p)
 
-abbrev bowled_one : Ball → ℕ
-bowled_one b = one_if (not (is_wide_or_no_ball b.kind))
-
-all_by : (p : ℕ) (bs : List Ball) → list_all (bowled_by p) bs ≡ true → counting_by p bs ≡ counting bs
-all_by p [] e = refl
-all_by p (b ∷ bs) e = grind (arith, all_by p bs)
-
--- of the called overs, those that he bowled alone and the others
-overs_apart : (p : ℕ) (overs : List (List Ball)) → tally (counting_by p) overs
-    ≡ tally (λ over. if alone p over then counting over else 0) overs + tally (shared_by p) overs
-overs_apart p [] = refl
-overs_apart p (over ∷ overs) = grind (arith, overs_apart p overs, all_by p over)
-
--- each delivery of an innings is of a called over, or since the last call
-by_overs : (h : History) (i p : ℕ) → tally (of_bowler counted_one i p) (deliveries h)
-    ≡ tally (counting_by p) (innings_overs h i) + counting_by p (since_call h i)
-by_overs [] i p = refl
-by_overs (x ∷ h) i p = grind (arith, by_overs h i p)
-
-balls_of : (h : History) (i p : ℕ) → over_balls h i p + bowler_balls h i p + tally (of_bowler dead_ball i p) (deliveries h)
-    ≡ tally (of_bowler bowled_one i p) (deliveries h)
-unfolding bowler_balls
-balls_of h i p =
-    let dead = sum_if (λ d. is_of i d && ((d.ball).bowler == p)) (λ d. counted_one d.ball) (λ d. dead_ball d.ball) (λ d. bowled_one d.ball) (λ d. grind arith) (deliveries h) in
-    omega (arith, dead, by_overs h i p, overs_apart p (innings_overs h i))
-
--- ---- bowlers
-
-module _ (s : Sheet) (n : ℕ) (book : List Entry) (all : All IsEntry book) (legal : IsLegalBook n book) (i : ℕ) (name : List ℕ) where
-  abbrev history : History
-  history = history_of book
-
-  abbrev named : ℕ → Bool
-  named p = bytes_eq name (player_of s (opponent (side_of history i)) p)
-
-  bowler_sum : (g : Json → ℕ) (f : Ball → ℕ) → Reads s (side_of history i) g f → summed (codes "bowler") g name (innings_at s book i)
-      ≡ picked named (λ p. tally (of_bowler f i p) (deliveries history)) (bowling_order history i)
+  bowler_sum : (g : Json → ℕ) (f : Ball → ℕ) → Reads s (side_of h i) g f → summed (codes "bowler") g name (innings_at s book i)
+      ≡ picked bowls (λ p. tally (of_bowler f i p) (deliveries h)) (bowling_order h i)
   unfolding bowling_order
-  bowler_sum = name_sum s n book all legal i name (codes "bowler") (λ striker b. Some b.bowler) named (filter_map (bowler_in i) (deliveries history))
-      (λ penalty early late ends b. refl) (bowlers_named i (deliveries history))
+  bowler_sum = name_sum (codes "bowler") (λ striker b. Some b.bowler) bowls (filter_map (bowler_in i) (deliveries h))
+      (λ penalty early late ends b. refl) (bowlers_named i (deliveries h))
 
   bowlers_balls : summed (codes "bowler") bowled_in name (innings_at s book i)
-      ≡ picked named (over_balls history i) (bowling_order history i) + picked named (bowler_balls history i) (bowling_order history i)
-      + picked named (λ p. tally (of_bowler dead_ball i p) (deliveries history)) (bowling_order history i)
+      ≡ picked bowls (over_balls h i) (bowling_order h i) + picked bowls (bowler_balls h i) (bowling_order h i)
+      + picked bowls (λ p. tally (of_bowler dead_ball i p) (deliveries h)) (bowling_order h i)
   bowlers_balls =
-      let order = bowling_order history i in
-      let own = λ (p : ℕ). over_balls history i p + bowler_balls history i p in
-      let inner = sum_if named (over_balls history i) (bowler_balls history i) own (λ p. refl) order in
-      let outer = sum_if named own (λ p. tally (of_bowler dead_ball i p) (deliveries history)) (λ p. tally (of_bowler bowled_one i p) (deliveries history))
-      (balls_of history i) order in
-      omega (arith, bowler_sum bowled_in bowled_one (bowled_read s (side_of history i)), inner, outer)
+      let order = bowling_order h i in
+      let own = λ (p : ℕ). over_balls h i p + bowler_balls h i p in
+      let inner = sum_if bowls (over_balls h i) (bowler_balls h i) own (λ p. refl) order in
+      let outer = sum_if bowls own (λ p. tally (of_bowler dead_ball i p) (deliveries h)) (λ p. tally (of_bowler bowled_one i p) (deliveries h))
+      (balls_of h i) order in
+      omega (arith, bowler_sum bowled_in bowled_one (bowled_read s (side_of h i)), inner, outer)
 
-  pub bowler_adds_up : BowlerAddsUp s history i (innings_at s book i) name
+  pub bowler_adds_up : BowlerAddsUp s h i (innings_at s book i) name
   unfolding bowler_runs bowler_wickets bowler_wides bowler_noballs
   bowler_adds_up = record {
     balls = bowlers_balls;
-    runs = bowler_sum debited_in debit_of (debited_read s (side_of history i));
-    wickets = bowler_sum credited_in credited (λ penalty early late ends b low. credited_read s (side_of history i) penalty early late ends b);
-    wides = bowler_sum wides_in wides_of (wides_read s (side_of history i));
-    noballs = bowler_sum noballs_in noballs_of (noballs_read s (side_of history i));
+    runs = bowler_sum debited_in debit_of (debited_read s (side_of h i));
+    wickets = bowler_sum credited_in credited (λ penalty early late ends b low. credited_read s (side_of h i) penalty early late ends b);
+    wides = bowler_sum wides_in wides_of (wides_read s (side_of h i));
+    noballs = bowler_sum noballs_in noballs_of (noballs_read s (side_of h i));
   }
 
 -- ---- overs of six

@@ -2,7 +2,6 @@ use Rattle.std.proofs.Common.{◌≡◌, ◌+◌, [], ◌∷◌, ◌++◌, drop,
 use Rattle.std.proofs.lemmas.List.{drop_more, drop_all}
 use Rattle.std.proofs.lemmas.Result.{on_ok_weaker}
 use Rattle.toml.specs.View.{view, items_view, members_view}
-use Rattle.toml.specs.Data as toml
 use Rattle.toml.proofs.Views.{Entry, view-Array, view-Boolean, view-Datetime, view-Integer, view-String, view-Table}
 use Rattle.json.specs.Json.{boolean, number, string}
 use Rattle.json.specs.Token.{begin_array, begin_object, key}
@@ -67,12 +66,9 @@ put_items-loop-item-preserved t c =
 pub put_items-returns : goal.put_items-returns
 put_items-returns t c =
     let l = c.loop-item in
-    let xs = c.deref-item-items.result.now in
-    let end = c.token.new.self in
-    let none : drop l.item-index xs ≡ [] = drop_all l.item-index xs (omega arith) in
-    on_ok_weaker c.token.result (λ e.
-    subst (λ ys. PutsItems (items_view ys) c.args.out.now end) c.deref-item-items.ensures.value
-    (l.invariant end (subst (λ ys. PutsItems (items_view ys) l.out end) (sym none) ([], refl, e)))) c.token.ensures.ok
+    let none : drop l.item-index c.deref-item-items.result.now ≡ [] = drop_all l.item-index _ (omega arith) in
+    on_ok_weaker c.token.result (λ e. rw (← c.deref-item-items.ensures.value)
+    (l.invariant c.token.new.self (rw none ([], refl, e)))) c.token.ensures.ok
 
 pub put_members-loop-key-preserved : goal.put_members-loop-key-preserved
 put_members-loop-key-preserved t c =
