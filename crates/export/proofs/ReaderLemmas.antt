@@ -12,12 +12,11 @@ use Rattle.ball_laws.specs.Sums.{count_of, one_if}
 use Rattle.match_laws.specs.Figures.{batted_of, credit_of, credited, faced_of, fours_of, noballs_of, sixes_of, wides_of}
 use Rattle.match_laws.proofs.Bounds.{ball-small}
 use Rattle.cards.specs.Sheet.{Sheet, player_of}
-use Rattle.json.specs.Json.{Json, null}
-use Rattle.json_fields.specs.Values.{array_of, members_of, number_field, number_value}
+use Rattle.json.specs.Json.{Json}
+use Rattle.json_fields.specs.Values.{members_of, number_field, number_value}
 use Rattle.archive_deliveries.specs.declared.notes.Noted.{Noted}
-use Rattle.archive_deliveries.specs.Wickets as listing
-use Rattle.archive_deliveries.specs.Wickets.{has_wickets, how_words, is_gone}
-use Rattle.archive_deliveries.specs.Deliveries.{delivery_of, extra_runs, extras_field, is_run}
+use Rattle.archive_deliveries.specs.Wickets.{how_words, is_gone}
+use Rattle.archive_deliveries.specs.Deliveries.{delivery_of, extra_runs, is_run}
 use Rattle.export.specs.Laws.{at, is_text, member_at}
 use Rattle.export.specs.Readers.{bat_runs, boundary_in, bowled_in, credited_in, credited_kinds, debited_in}
 use Rattle.export.specs.Readers.{faced_in, four_outrun, is_credited, noballs_in, number_in, six_outrun}
@@ -36,11 +35,6 @@ noballs_at : (w n b l p : Bool) (noballs : ℕ) (wides byes legs penalty : Json)
     ++ cond b [] ((codes "byes", byes) ∷ [])) ++ cond l [] ((codes "legbyes", legs) ∷ [])) ++ cond p [] ((codes "penalty", penalty) ∷ [])) in
     number_in (member_at (codes "noballs") there) ≡ noballs
 noballs_at w n b l p noballs wides byes legs penalty none few = grind (arith, none, number_again noballs few)
-
--- what stands there, where the delivery has no extras at all
-extras_read : (key : List ℕ) (w e : Bool) (v x : Json) →
-    at key (member_at (codes "extras") (members_of (cond w ((codes "wickets", v) ∷ []) [] ++ cond e [] ((codes "extras", x) ∷ [])))) ≡ cond e null (at key x)
-extras_read key w e v x = grind arith
 
 -- ---- a delivery
 
@@ -63,8 +57,7 @@ module _ (s : Sheet) (side : Side) (penalty : ℕ) (early late : List Noted) (en
         let x = split_of_ball b in
         let found = noballs_at (x.wides == 0) (x.noballs == 0) (x.byes == 0) (x.legs == 0) (penalty == 0) x.noballs (number_value x.wides) (number_value x.byes)
         (number_value x.legs) (number_value penalty) (eqb-true x.noballs 0) (ball-small b low).noballs in
-        let read = extras_read (codes "noballs") (has_wickets early b late) (extra_runs x + penalty == 0) (array_of (listing.wickets_of s side early ends b late)) ((extras_field x penalty).1) in
-        grind (arith, found, read, eqb-true (extra_runs x + penalty) 0)
+        grind (arith, found, eqb-true (extra_runs x + penalty) 0)
 
     pub faced_read : faced_in delivery ≡ faced_of b
     faced_read = rw wides_read (grind arith)

@@ -1,25 +1,23 @@
 -- The wickets that a reader finds in an export.
-use Rattle.std.proofs.Common.{◌≡◌, ℕ, ◌+◌, ◌==◌, ◌&&◌, ◌||◌, cond, Bool, false, List, [], ◌∷◌, ◌++◌, codes, Option, refl, ap, ◌∙◌, arith}
+use Rattle.std.proofs.Common.{◌≡◌, ℕ, ◌+◌, ◌&&◌, ◌||◌, cond, Bool, false, List, [], ◌∷◌, ◌++◌, codes, Option, refl, ap, ◌∙◌, arith}
 use Rattle.std.specs.Prelude.{bytes_eq, is_some}
 use Rattle.std.specs.List.{flat_map}
 use Rattle.notation.specs.declared.entry.{Side.Side, Ball.Ball, Entry.Entry, How.How, Out.Out, Plain.Plain}
 use Rattle.ball_laws.specs.declared.ends.Ends.{Ends}
 use Rattle.ball_laws.specs.History.{is_wicket}
-use Rattle.ball_laws.specs.Runs.{split_of_ball}
 use Rattle.ball_laws.specs.Sums.{count_of, tally}
 use Rattle.match_laws.specs.History.{side_of}
 use Rattle.corrections.specs.CleanList.{history_of}
 use Rattle.corrections.specs.Legal.{IsLegalBook}
 use Rattle.cards.specs.Sheet.{Sheet}
 use Rattle.json.specs.Json.{Json}
-use Rattle.json_fields.specs.Values.{array_of, members_of}
 use Rattle.archive_deliveries.specs.declared.{begun.Begun.Begun, notes.Noted.Noted}
 use Rattle.archive_deliveries.specs.Notes.{begun_of, carried, is_ball, items_in}
 use Rattle.archive_deliveries.specs.Wickets as listing
-use Rattle.archive_deliveries.specs.Wickets.{departures, gone_of, has_gone, has_wickets, how_words, is_gone, own_wickets}
-use Rattle.archive_deliveries.specs.Deliveries.{delivery_of, extra_runs, extras_field, penalties}
+use Rattle.archive_deliveries.specs.Wickets.{departures, gone_of, has_gone, how_words, is_gone, own_wickets}
+use Rattle.archive_deliveries.specs.Deliveries.{delivery_of, penalties}
 use Rattle.export.specs.Innings.{overs_of}
-use Rattle.export.specs.Laws.{WicketsAddUp, deliveries_in, has_fallen, innings_at, noted_items, member_at, values_of, wickets_of}
+use Rattle.export.specs.Laws.{WicketsAddUp, deliveries_in, has_fallen, innings_at, noted_items, wickets_of}
 use Rattle.export.proofs.ReadLemmas.{all_listed, elements-of, in_over, overs_all}
 use Rattle.export.proofs.LawLemmas.{wickets_added, wickets_listed}
 
@@ -45,11 +43,6 @@ count_append p [] ys = omega arith
 count_append p (x ∷ xs) ys = grind (arith, count_append p xs ys)
 
 -- ---- the wickets that a reader finds of a delivery and takes by a test: those of who went before it or behind it, and its own
-
-looked_up : (w e : Bool) (v x : Json) →
-    values_of (member_at (codes "wickets") (members_of (cond w ((codes "wickets", v) ∷ []) [] ++ cond e [] ((codes "extras", x) ∷ []))))
-    ≡ cond w (values_of v) []
-looked_up w e v x = grind arith
 
 module _ (takes : Json → Bool) (s : Sheet) (side : Side) (goes : Plain → Bool) (own : Option Out → ℕ)
     (one_gone : (p : Plain) → count_of takes (gone_of s side p) ≡ cond (is_gone p && goes p) 1 0)
@@ -81,8 +74,7 @@ module _ (takes : Json → Bool) (s : Sheet) (side : Side) (goes : Plain → Boo
         one_out ends b.bowler b.out,
         all_gone late,
       ) in
-      let read = looked_up (has_wickets early b late) (extra_runs (split_of_ball b) + penalty == 0) (array_of ws) ((extras_field (split_of_ball b) penalty).1) in
-      rw (read, elements-of ws) (grind (arith, all, none_gone early, none_out b.out, none_gone late))
+      grind (arith, all, none_gone early, none_out b.out, none_gone late, elements-of ws)
 
 -- ---- those that have fallen
 
