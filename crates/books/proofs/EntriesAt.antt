@@ -12,10 +12,6 @@ pub found_in : (votes : List Ballot) (place round : ℕ) (e : Entry) → entry_a
 found_in [] place round e f = absurd cc
 found_in (b ∷ bs) place round e f = grind (arith, nat_tests, found_in bs place round e)
 
-missed : (votes : List Ballot) (place round : ℕ) (e : Entry) → In (ballot_at place round e) votes → entry_at votes place round ≡ None → ⊥
-missed [] place round e i n = i
-missed (b ∷ bs) place round e i n = grind (arith, nat_tests, missed bs place round e)
-
 -- a position without a vote has nothing
 pub none_at : (votes : List Ballot) (place round : ℕ) → ((e : Entry) → In (ballot_at place round e) votes → ⊥) → entry_at votes place round ≡ None
 none_at [] place round none = refl
