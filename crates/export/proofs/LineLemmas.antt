@@ -82,9 +82,8 @@ module _ (i : ℕ) (key : Delivery → Option ℕ) where
   module _ (test : ℕ → Bool) (f : Ball → ℕ) (ps : List ℕ) where
     one_delivery : (b : Bool) (o : Option ℕ) (n : ℕ) → ((k : ℕ) → b ≡ true → is_at o k ≡ true → among k ps ≡ true) →
         cond b (cond (takes test o) n 0) 0 ≡ picked test (λ p. if b && is_at o p then n else 0) (named_once ps)
-    one_delivery false o n named = sym (picked-none test (named_once ps))
-    one_delivery true None n named = sym (picked-none test (named_once ps))
     one_delivery true (Some k) n named = sym (picked-one test k n ps ∙ rw (named k refl (eq-eqb k k refl)) refl)
+    one_delivery b o n named = sym (picked-none test (named_once ps))
 
     pub by_players : (ds : List Delivery) → AreNamed ps ds →
         tally (λ d. cond (is_of i d) (cond (takes test (key d)) (f d.ball) 0) 0) ds

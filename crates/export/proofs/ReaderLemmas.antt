@@ -1,5 +1,5 @@
 -- What a reader takes of a delivery.
-use Rattle.std.proofs.Common.{◌≡◌, ℕ, ◌+◌, ◌≤◌, ◌==◌, ◌&&◌, not, cond, Bool, true, false, List, [], ◌∷◌, ◌++◌, codes, refl, arith, eqb-true, bytes_eq}
+use Rattle.std.proofs.Common.{◌≡◌, ℕ, ◌+◌, ◌≤◌, ◌==◌, ◌&&◌, not, Bool, false, List, [], ◌∷◌, codes, refl, arith, eqb-true, bytes_eq}
 use Rattle.std.specs.List.{list_any}
 use Rattle.std.proofs.lemmas.Bool.Decides.{nat_tests}
 use Rattle.std.proofs.lemmas.Fmt.{digits_value-decimal}
@@ -13,11 +13,11 @@ use Rattle.match_laws.specs.Figures.{batted_of, credit_of, credited, faced_of, f
 use Rattle.match_laws.proofs.Bounds.{ball-small}
 use Rattle.cards.specs.Sheet.{Sheet, player_of}
 use Rattle.json.specs.Json.{Json}
-use Rattle.json_fields.specs.Values.{members_of, number_field, number_value}
+use Rattle.json_fields.specs.Values.{number_value}
 use Rattle.archive_deliveries.specs.declared.notes.Noted.{Noted}
 use Rattle.archive_deliveries.specs.Wickets.{how_words, is_gone}
 use Rattle.archive_deliveries.specs.Deliveries.{delivery_of, extra_runs, is_run}
-use Rattle.export.specs.Laws.{at, is_text, member_at}
+use Rattle.export.specs.Laws.{at, is_text}
 use Rattle.export.specs.Readers.{bat_runs, boundary_in, bowled_in, credited_in, credited_kinds, debited_in}
 use Rattle.export.specs.Readers.{faced_in, four_outrun, is_credited, noballs_in, number_in, six_outrun}
 use Rattle.export.specs.Readers.{wides_in}
@@ -26,15 +26,6 @@ use Rattle.export.proofs.LineLemmas.{takes}
 
 number_again : (n : ℕ) → n ≤ 25 → number_in (number_value n) ≡ n
 number_again n small = digits_value-decimal own n (omega (arith, small))
-
--- ---- the extras of a delivery
-
--- the no balls are found, whatever else stands there
-noballs_at : (w n b l p : Bool) (noballs : ℕ) (wides byes legs penalty : Json) → (n ≡ true → noballs ≡ 0) → noballs ≤ 25 →
-    let there = members_of ((((cond w [] ((codes "wides", wides) ∷ []) ++ cond n [] (number_field (codes "noballs") noballs ∷ []))
-    ++ cond b [] ((codes "byes", byes) ∷ [])) ++ cond l [] ((codes "legbyes", legs) ∷ [])) ++ cond p [] ((codes "penalty", penalty) ∷ [])) in
-    number_in (member_at (codes "noballs") there) ≡ noballs
-noballs_at w n b l p noballs wides byes legs penalty none few = grind (arith, none, number_again noballs few)
 
 -- ---- a delivery
 
@@ -55,9 +46,8 @@ module _ (s : Sheet) (side : Side) (penalty : ℕ) (early late : List Noted) (en
     pub noballs_read : noballs_in delivery ≡ noballs_of b
     noballs_read =
         let x = split_of_ball b in
-        let found = noballs_at (x.wides == 0) (x.noballs == 0) (x.byes == 0) (x.legs == 0) (penalty == 0) x.noballs (number_value x.wides) (number_value x.byes)
-        (number_value x.legs) (number_value penalty) (eqb-true x.noballs 0) (ball-small b low).noballs in
-        grind (arith, found, eqb-true (extra_runs x + penalty) 0)
+        let again = number_again x.noballs (ball-small b low).noballs in
+        grind (arith, again, eqb-true x.noballs 0, eqb-true (extra_runs x + penalty) 0)
 
     pub faced_read : faced_in delivery ≡ faced_of b
     faced_read = rw wides_read (grind arith)

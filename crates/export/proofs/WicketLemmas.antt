@@ -65,7 +65,6 @@ module _ (takes : Json → Bool) (s : Sheet) (side : Side) (goes : Plain → Boo
       let first = departures s side early in
       let out = own_wickets s side ends b.bowler b.out in
       let ws = listing.wickets_of s side early ends b late in
-      let all : count_of takes ws ≡ went early + own b.out + went late =
       grind (
         arith,
         count_append takes (first ++ out) (departures s side late),
@@ -73,8 +72,11 @@ module _ (takes : Json → Bool) (s : Sheet) (side : Side) (goes : Plain → Boo
         all_gone early,
         one_out ends b.bowler b.out,
         all_gone late,
-      ) in
-      grind (arith, all, none_gone early, none_out b.out, none_gone late, elements-of ws)
+        none_gone early,
+        none_out b.out,
+        none_gone late,
+        elements-of ws,
+      )
 
 -- ---- those that have fallen
 
