@@ -1,5 +1,5 @@
 -- Lines that say entries are lines that were typed.
-use Rattle.std.proofs.Common.{◌≡◌, ◌++◌, ℕ, Bool, true, false, List, [], ◌∷◌, Option, None, Some, refl, sym, subst, inl}
+use Rattle.std.proofs.Common.{arith, ◌≡◌, ◌++◌, ℕ, Bool, true, false, List, [], ◌∷◌, Option, None, refl, sym, subst, inl}
 use Rattle.std.specs.Prelude.{bytes_eq, codes, if◌then◌else◌}
 use Rattle.agree_core.specs.declared.messages.Message.{Message}
 use Rattle.agree_core.specs.FileView.{FileView}
@@ -21,11 +21,7 @@ use Rattle.station_texts.specs.declared.said.Said.{Said}
 -- what is no word may be an entry's line
 sort_casts : (undo quit again : Bool) (word : Option Word) → quit ≡ false → word ≡ None
     → casts (if undo then Sort.Undo else if quit then Sort.Quit else if again then Sort.Again else by_word word) ≡ true
-sort_casts true quit again word q w = refl
-sort_casts false true again word q w = absurd (cc)
-sort_casts false false true word q w = refl
-sort_casts false false false None q w = refl
-sort_casts false false false (Some x) q w = absurd (cc)
+sort_casts undo quit again word q w = grind arith
 
 no_word_casts : (line : List ℕ) → IsNoWord line → may_cast line ≡ true
 no_word_casts line h =

@@ -1,12 +1,11 @@
 -- Runs of a board.
-use Rattle.std.proofs.Common.{◌≡◌, ◌⊎◌, ◌<◌, ◌+◌, ℕ, List, [], ◌∷◌, ◌++◌, Option, None, Some, Result, Bool, true, false, nat_eq, inl, inr}
-use Rattle.std.proofs.Common.{refl, sym, ap, ◌∙◌, subst, append-nil, arith}
-use Rattle.std.proofs.lemmas.Bool.Decides.{nat_tests}
+use Rattle.std.proofs.Common.{◌≡◌, ◌⊎◌, ◌<◌, ◌+◌, ℕ, List, [], ◌∷◌, ◌++◌, Option, None, Some, Result, Bool, true, false, nat_eq, inl, inr, ⊎_elim}
+use Rattle.std.proofs.Common.{refl, sym, ap, ◌∙◌, subst, append-nil}
 use Rattle.std.proofs.lemmas.List.Elements.{All-nil}
-use Rattle.streams.proofs.Appending.{appends_kept, appends_none}
+use Rattle.streams.proofs.Appending.{appends_none}
 use Rattle.wire.specs.Layout.{IsMessage}
-use Rattle.std.specs.Prelude.{All, Ok, Err, IsErrAnd, IsSome, OnOk}
-use Rattle.std.specs.Io.KnownBytes.{Appends, Keeps}
+use Rattle.std.specs.Prelude.{All, Ok, Err, IsErr, IsErrAnd, IsSome, OnOk}
+use Rattle.std.specs.Io.KnownBytes.{Appends}
 use Rattle.notation.specs.declared.entry.Entry.{Entry}
 use Rattle.agree_core.specs.declared.messages.Message.{Message}
 use Rattle.agree_core.specs.Boards.{BoardTicks}
@@ -32,19 +31,7 @@ use Rattle.station_texts.specs.declared.{notices.Notice.Notice, notices.Telling.
 use Rattle.live.proofs.TellingLemmas.{told_first}
 use Rattle.live.proofs.RunLemmas.{both, none_logged, one, stays, unsaid}
 
--- a book as long as before isn't printed, and one of another length is
-pub no_more : (text : List ℕ) (m n : ℕ) (s : Option (List ℕ)) → m ≡ n → Appends s s (grown (nat_eq m n) text)
-no_more text m n s e = grind (arith, nat_tests, appends_none)
-
-pub some_more : (text : List ℕ) (m n : ℕ) (s t : Option (List ℕ)) → (m ≡ n → ⊥) → Appends s t text → Appends s t (grown (nat_eq m n) text)
-some_more text m n s t e a = grind (arith, nat_tests)
-
--- and handed on
-pub handed_on : {E : Type 0} (r : Result (Unit {0}) E) (text : List ℕ) (s t u : Option (List ℕ)) → Appends s t text → Keeps t u → OnOk r (Appends s u text)
-handed_on (Ok done) text s t u a k = appends_kept s t u text a k
-handed_on (Err fault) text s t u a k = tt
-
--- the same, by a length that is as told
+-- a book's text, by a length that is as told
 pub printed_by : (text : List ℕ) (m : ℕ) {n had : ℕ} (s t : Option (List ℕ)) → n ≡ had → Appends s t (grown (nat_eq m n) text) → Appends s t (grown (nat_eq m had) text)
 printed_by text m s t e a = subst (λ (n : ℕ). Appends s t (grown (nat_eq m n) text)) e a
 
@@ -207,26 +194,24 @@ module _ {B : Type 0} {g : _} {content : B → List Entry} {innings_of : B → �
       }) (reads_clock {ticking = unticked} now tt times)
   shown_first a (Err fault) t text now times first = reads_clock {ticking = unticked} now tt times
 
-  pub runs_on : {l : Board B g} {E : Type 0} (a : Logs) {b : Logs} {readings : List ℕ} {t : Option (List ℕ)} {to : ℕ} {noted notes : List Notice} {seen sees : List Sight}
-      (r : Result (Unit {0}) E) (text : List ℕ) (now : ℕ) → readings ≡ a.readings ++ now ∷ [] → Appends a.told t text
-      → BoardRuns content innings_of sheet k l (record a { readings = readings; told = t }) b 0 to untold unticked noted notes seen sees r
-      → BoardRuns content innings_of sheet k l (with_told a text) b 0 to untold unticked noted notes seen sees r
-  runs_on a {t = t} r text now times first v =
-      record { last = v.last; is = v.is; noticed = v.noticed; sighted = v.sighted; goes = then (shown_first a r t text now times first) v.goes; whole = v.whole }
-
   -- its first lines are printed and its book is handed over, and then it runs
   pub lives_on : {l : Board B g} {E : Type 0} (a : Logs) {b : Logs} {readings : List ℕ} {t : Option (List ℕ)} {to : ℕ} {noted notes : List Notice} {seen had sees : List Sight}
       (r : Result (Unit {0}) E) (now : ℕ) → readings ≡ a.readings ++ now ∷ [] → Appends a.told t (board_text sheet (innings_of (book_of k)) (history_of (content (book_of k))))
       → had ≡ seen ++ sight_at content innings_of sheet k ∷ []
       → BoardRuns content innings_of sheet k l (record a { readings = readings; told = t }) b 0 to untold unticked noted notes had sees r
       → BoardLives content innings_of sheet k l a b to noted notes seen sees r
-  lives_on {l = l} a {b = b} {readings = readings} {t = t} {to = to} {noted = noted} {notes = notes} {sees = sees} r now times text is v =
-      record {
-        first = sight_at content innings_of sheet k ∷ [];
-        shows_first = inl refl;
-        runs = runs_on a r _ now times text
-            (subst (λ (xs : List Sight). BoardRuns content innings_of sheet k l (record a { readings = readings; told = t }) b 0 to untold unticked noted notes xs sees r) is v);
-      }
+  lives_on a {t = t} r now times text is v = record {
+    first = sight_at content innings_of sheet k ∷ [];
+    shows_first = inl refl;
+    runs = rw (← is) (record {
+      last = v.last;
+      is = v.is;
+      noticed = v.noticed;
+      sighted = v.sighted;
+      goes = then (shown_first a r t _ now times text) v.goes;
+      whole = v.whole;
+    });
+  }
 
   -- or that failed
   pub not_begun : {E failed : Type 0} (a : Logs) {readings : List ℕ} {t : Option (List ℕ)} {to : ℕ} {noted : List Notice} {seen sees : List Sight}
@@ -234,23 +219,17 @@ module _ {B : Type 0} {g : _} {content : B → List Entry} {innings_of : B → �
       → (sees ≡ seen ++ sight_at content innings_of sheet k ∷ []) ⊎ ((sees ≡ seen) × failed)
       → BoardLives content innings_of sheet k k a (record a { readings = readings; told = t }) to noted noted seen sees r
   not_begun a (Ok done) fault now h times seen = absurd h
-  not_begun a {readings = readings} {t = t} {noted = noted} {seen = seen} (Err e) fault now h times (inl is) =
-      let first : List Sight = sight_at content innings_of sheet k ∷ [] in
+  not_begun {E = E} a {readings = readings} {t = t} {to = to} {noted = noted} {seen = seen} {sees = sees} (Err e) fault now h times began =
+      let failed : Result (Unit {0}) E = Err e in
+      let Lives : Type 0 = BoardLives content innings_of sheet k k a (record a { readings = readings; told = t }) to noted noted seen sees failed in
+      let ends : (first : List Sight) → (first ≡ sight_at content innings_of sheet k ∷ []) ⊎ ((first ≡ []) × IsErr failed) → seen ++ first ≡ sees → Lives = λ first shows is.
       let last = at_turn content k 0 untold unticked noted (seen ++ first) in
       record {
         first = first;
-        shows_first = inl refl;
-        runs = (stopped _ (record a { readings = readings; told = t }) {last = last} last (Err e) fault h refl refl (sym is) (reads_clock {ticking = unticked} now tt times)).0;
-      }
-  not_begun a {readings = readings} {t = t} {noted = noted} {seen = seen} (Err e) fault now h times (inr is) =
-      let last = at_turn content k 0 untold unticked noted (seen ++ []) in
-      record {
-        first = [];
-        shows_first = inr (refl, refl);
-        runs =
-            (stopped _ (record a { readings = readings; told = t }) {last = last} last (Err e) fault h refl refl (append-nil seen ∙ sym is.0)
-            (reads_clock {ticking = unticked} now tt times)).0;
-      }
+        shows_first = shows;
+        runs = (stopped _ (record a { readings = readings; told = t }) {last = last} last failed fault h refl refl is (reads_clock {ticking = unticked} now tt times)).0;
+      } in
+      ⊎_elim (λ is. ends _ (inl refl) (sym is)) (λ is. ends [] (inr (refl, refl)) (append-nil seen ∙ sym is.0)) began
 
 -- where that went well the book was handed over
 pub has_begun : {seen sees : List Sight} (first : Sight) → (sees ≡ seen ++ first ∷ []) ⊎ ((sees ≡ seen) × (false ≡ true)) → sees ≡ seen ++ first ∷ []

@@ -6,6 +6,7 @@ use Rattle.agree_core.specs.Desks.{DeskState, Receives, Told}
 use Rattle.agree_core.specs.FileView.{FileView}
 use Rattle.wire.specs.Layout.{Says}
 use Rattle.wire.specs.Reading.{Reads}
+use Rattle.wire.proofs.FaultLemmas.{reads_once}
 use Rattle.wire.specs.declared.{fault.WireFault.WireFault, what.What.What}
 use Rattle.cards.specs.Sheet.{Sheet}
 use Rattle.desk.specs.Takes.{Takes}
@@ -13,14 +14,13 @@ use Rattle.station_texts.specs.declared.warned.Warned.{Warned}
 use Rattle.station_texts.specs.Texts.{came_text}
 use Rattle.live.specs.Desks.{entry_in}
 use Rattle.live.proofs.HiddenLemmas.{entry_of_vote}
-use Rattle.live.proofs.LostLemmas.{read_once}
 
 module _ {Disk : Type 0} (view : FileView Disk) (game : ℕ) (k l : DeskState Disk) where
   -- a vote that was heard has the entry of its bytes
   entry_so : (bytes : List ℕ) (read : Result Message WireFault) (h : Heard) (out : List Message) (other : Option Entry) (m : Message) → Says game bytes m
       → Receives view k m (Told h) l out → Reads game bytes read → ((v : Vote) → read ≡ Ok (Message.Vote v) → other ≡ Some v.entry) → other ≡ entry_in bytes
   entry_so bytes read h out other (Message.Vote v) says r reads e =
-      e v (read_once game bytes read (Message.Vote v) reads says) ∙ sym (entry_of_vote game bytes v says)
+      e v (reads_once game bytes read (Ok (Message.Vote v)) reads says) ∙ sym (entry_of_vote game bytes v says)
   entry_so bytes read h out other (Message.Ask q) says r reads e = absurd r
 
   pub came_so : (bytes : List ℕ) (read : Result Message WireFault) (what : What) (out : List Message) (other : Option Entry) → Takes view game k bytes what l out

@@ -1,6 +1,6 @@
 -- Runs of a desk.
 use Rattle.std.proofs.Common.{◌≡◌, ◌≤◌, ◌+◌, ℕ, List, [], ◌∷◌, ◌++◌, None, Some, Option, Result, Ok, Err}
-use Rattle.std.proofs.Common.{Bool, true, false, refl, sym, ap, ◌∙◌, subst, append-nil, append_assoc, arith, length, map, All}
+use Rattle.std.proofs.Common.{true, false, refl, sym, ap, ◌∙◌, subst, append-nil, append_assoc, arith, length, map, All}
 use Rattle.std.specs.Prelude.{IsErrOf, IsErrAnd, IsSome, is_some, nat_lt}
 use Rattle.std.specs.Bool.{⊤}
 use Rattle.std.specs.Io.KnownBytes.{Appends, Keeps}
@@ -13,7 +13,6 @@ use Rattle.entry_log.specs.Blame.{BlamesDisk}
 use Rattle.entry_log.specs.Disk.{Faults}
 use Rattle.entry_log.specs.declared.{disk.Disk.Ghosts as Disks, slots_of.SlotsOf.Ghosts as Files}
 use Rattle.agree_core.specs.declared.messages.{DeskId.DeskId, Message.Message}
-use Rattle.agree_core.specs.Ballots.{Ballot}
 use Rattle.agree_core.specs.Desks.{Pens, Ticks}
 use Rattle.agree_core.specs.FileView.{FileView}
 use Rattle.vote_store.specs.View.{file_view}
@@ -59,11 +58,6 @@ blamed r device course old new to from room b = record {
   calm = λ due w e. b.calm due (room (to e) w) (to e);
   spent = λ due w e. b.spent due (room (to e) w) (to e);
 }
-
--- a line that says no entry ends nothing for the disk
-no_blame : (sheet : Sheet) (book : List Entry) (votes : List Ballot) (differs is_cast : Bool) (line : List ℕ) (answer : Said)
-    → ComesTo sheet book votes differs is_cast line answer → IsErrOf (end_of answer) DeskEnd.Device → ⊥
-no_blame sheet book votes differs is_cast line answer h e = grind arith
 
 -- the kind of a desk's runs, by what it depends on
 abbrev kind_with : {D : Type 0} → (DeskId → ℕ → FileView D) → (D → Faults) → (ℕ → ℕ) → Sheet → DeskId → ℕ → ℕ → ℕ → Kind (DeskProcess D) DeskCall
@@ -237,16 +231,10 @@ module _ {S B D : Type 0} {g : Files S D} {h : Disks D} {b : Books B} where
   -- ---- the calls themselves
 
   -- a line that says no entry
-  nothing_said : (sheet : Sheet) (k : Desk S B D g h b) (line : List ℕ) (answer : Said)
-      → ComesTo sheet (state_of k).book (state_of k).votes (nat_lt 0 (state_of k).seat.position.round) (is_some (state_of k).seat.mine) line answer
-      → DeskStep sheet (view_of k) (game_of k) (innings_of k) (state_of k) (Typed line answer) [] (state_of k)
-  nothing_said sheet k line answer w = grind arith
-
   pub unpenned : (sheet : Sheet) (k : Desk S B D g h b) (line : List ℕ) (answer : Said) (log : List Passed)
       → ComesTo sheet (state_of k).book (state_of k).votes (nat_lt 0 (state_of k).seat.position.round) (is_some (state_of k).seat.mine) line answer
       → Calls sheet k k (Typed line answer) log log
-  unpenned sheet k line answer log w =
-      unmoved (Typed line answer) (nothing_said sheet k line answer w) (no_blame sheet (state_of k).book _ _ _ line answer w)
+  unpenned sheet k line answer log w = unmoved {sheet = sheet} (Typed line answer) (grind arith) (λ e. grind arith)
 
   abbrev PenStep : Desk S B D g h b → Entry → Result Penned Refusal → Desk S B D g h b → Type 0
   PenStep k e r l = AreSent (game_of k) (sent r) (λ out. Pens (view_of k) (rules_of k) (state_of k) e (pen_answer r) (state_of l) out)

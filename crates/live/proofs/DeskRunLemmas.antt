@@ -1,5 +1,5 @@
 -- Whole runs of a desk's process.
-use Rattle.std.proofs.Common.{◌≡◌, ℕ, List, [], Option, Result, Ok, Err, false, refl, sym, ◌∙◌, subst}
+use Rattle.std.proofs.Common.{arith, ◌≡◌, ℕ, List, [], Option, Result, Ok, Err, false, refl, subst}
 use Rattle.std.specs.Prelude.{IsErrAnd}
 use Rattle.std.specs.Io.KnownBytes.{Appends, Keeps}
 use Rattle.cards.specs.Sheet.{Sheet}
@@ -23,11 +23,10 @@ use Rattle.live.proofs.RunLemmas.{none_logged}
 use Rattle.live.proofs.TellingLemmas.{told_first}
 
 ended_at : {Disk : Type 0} (met : DeskEnd) (turns : ℕ) (last : DeskProcess Disk) → last.course ≡ ending met → Ended turns (Err met) last
-ended_at DeskEnd.Write turns last e = λ q. let path : further ≡ Err DeskEnd.Device = sym e ∙ q in (cc)
-ended_at met turns last e = e
+ended_at met turns last e = grind arith
 
-not_the_disk : (course : Course) (end : DeskEnd) → course ≡ Err end → (end ≡ DeskEnd.Device → ⊥) → course ≡ Err DeskEnd.Device → ⊥
-not_the_disk course end e n q = let path : ◌≡◌ {A = Course} (Err end) (Err DeskEnd.Device) = sym e ∙ q in n (cc)
+not_the_disk : {Disk : Type 0} (turns : ℕ) (r : Course) (last : DeskProcess Disk) → Ended turns r last → (r ≡ Err DeskEnd.Device → ⊥) → last.course ≡ Err DeskEnd.Device → ⊥
+not_the_disk turns r last is n e = grind arith
 
 module _ {S B D : Type 0} {g : Files S D} {h : Disks D} {b : Books B} where
   abbrev greeting_of : Sheet → Desk S B D g h b → List ℕ
@@ -75,10 +74,6 @@ module _ {S B D : Type 0} {g : Files S D} {h : Disks D} {b : Books B} {sheet : S
         let here = subst (λ (d : DeskState D). BlamesDisk DeskEnd.Device room v.last.course (h.faults (disk_of k)) (h.faults d.disk)) v.is last in
         answer_blames turns r v.last (h.faults (disk_of k)) (h.faults (disk_of l)) v.ended here
 
-    -- an end that isn't the disk's, and then a write that failed
-    unwritten : {u : Option (List ℕ)} → (v.last.course ≡ Err DeskEnd.Device → ⊥) → DeskRuns sheet k l a (record c { told = u }) turns (Err DeskEnd.Write)
-    unwritten n = record { last = v.last; is = v.is; goes = silent v.goes; ended = n }
-
   -- the last flush leaves what was written
   flushed : {a c : Logs} {u : Option (List ℕ)} {turns : ℕ} (r : Result (Unit {0}) DeskEnd) → DeskRuns sheet k l a c turns r → Keeps c.told u
       → DeskRuns sheet k l a (record c { told = u }) turns r
@@ -88,10 +83,8 @@ module _ {S B D : Type 0} {g : Files S D} {h : Disks D} {b : Books B} {sheet : S
   -- a run and its last flush
   pub told_last : {a c : Logs} {u : Option (List ℕ)} {turns : ℕ} (answer : Result (Unit {0}) WriteFailed) (r r' : Course)
       → r' ≡ end_told r (written answer) → DeskRuns sheet k l a c turns r → Keeps c.told u → DeskRuns sheet k l a (record c { told = u }) turns r'
-  told_last (Err fault) (Ok over) r' e v w =
-      rw e (unwritten (Ok over) v (λ q. let path : further ≡ Err DeskEnd.Device = sym v.ended.0 ∙ q in (cc)))
-  told_last (Err fault) (Err DeskEnd.Write) r' e v w = rw e (unwritten (Err DeskEnd.Write) v v.ended)
   told_last (Err fault) (Err DeskEnd.Device) r' e v w = rw e (flushed (Err DeskEnd.Device) v w)
-  told_last (Err fault) (Err end) r' e v w = rw e (unwritten (Err end) v (not_the_disk v.last.course end v.ended (λ q. (cc))))
+  told_last {turns = turns} (Err fault) r r' e v w =
+      rw e (record { last = v.last; is = v.is; goes = silent v.goes; ended = not_the_disk turns r v.last v.ended (λ q. (cc)) })
   told_last (Ok done) (Err DeskEnd.Write) r' e v w = rw e (flushed (Err DeskEnd.Write) v w)
   told_last answer r r' e v w = rw e (flushed r v w)

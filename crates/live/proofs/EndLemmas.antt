@@ -18,13 +18,8 @@ module _ {Disk : Type 0} (sheet : Sheet) (view : FileView Disk) (game innings : 
   pub runs_on : (call : DeskCall) → DeskStep sheet view game innings k call out l → course_after k call ≡ further → l.failed ≡ false
   runs_on call r e = grind arith
 
--- the same blame, after calls that met no failure
-later : {W : Type 0} (course course' : Course) (start mid end : Faults) → mid ≡ start → course ≡ course' → BlamesDisk DeskEnd.Device W course mid end
-    → BlamesDisk DeskEnd.Device W course' start end
-later course course' start mid end e f b = rw (← e, ← f) b
-
 not_ended : (course : Course) → course ≡ further → IsErrOf course DeskEnd.Device → ⊥
-not_ended course e f = let path : further ≡ Err DeskEnd.Device = sym e ∙ f in (cc)
+not_ended course e f = cc (e, f)
 
 module _ {Disk : Type 0} (sheet : Sheet) (view : FileView Disk) (disks : DiskView Disk) (game innings : ℕ) where
   -- what is so after moments of a process whose desk hadn't failed
@@ -42,8 +37,7 @@ module _ {Disk : Type 0} (sheet : Sheet) (view : FileView Disk) (disks : DiskVie
       let sound = so_far.running step.0 in
       let is : m.after.course ≡ course_after q.desk m.call = ap (λ (x : DeskProcess Disk). x.course) step.3 in
       record {
-        blame = later (course_after q.desk m.call) m.after.course (disks.faults p.desk.disk) (disks.faults q.desk.disk) (disks.faults m.after.desk.disk)
-            (so_far.blame.same (not_ended q.course step.0)) (sym is) (step.2 sound);
+        blame = rw (← so_far.blame.same (not_ended q.course step.0), is) (step.2 sound);
         running = λ x. runs_on sheet view game innings q.desk m.after.desk m.out sound m.call step.1 (sym is ∙ x);
       }
 

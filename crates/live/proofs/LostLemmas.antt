@@ -1,9 +1,8 @@
 -- How a desk's process goes on where bytes come for a later position, and what they show of the other desk's file.
-use Rattle.std.proofs.Common.{arith, ◌≡◌, ℕ, Bool, true, false, List, [], ◌∷◌, Option, Some, None, Result, Ok, refl, sym, ap, ◌∙◌, subst, inl, inr, map, not, ◌&&◌, ◌||◌, IsTrue, ◌↔◌}
+use Rattle.std.proofs.Common.{arith, ◌≡◌, ℕ, Bool, true, false, List, [], ◌∷◌, Option, Some, None, Result, Ok, refl, sym, ap, ◌∙◌, subst, inr, map, not, ◌&&◌, IsTrue, ◌↔◌}
 use Rattle.std.specs.Prelude.{IsErrOf, is_some, if◌then◌else◌}
 use Rattle.std.specs.Result.{ForOk}
 use Rattle.std.specs.Str.{bytes_eq}
-use Rattle.std.proofs.lemmas.Bool.{cases_Bool}
 use Rattle.std.proofs.lemmas.Bool.Decides.{Decides-like, nat_tests, same_from_decides}
 use Rattle.std.proofs.lemmas.Slice.Eq.{bytes_eq-Decides}
 use Rattle.notation.specs.declared.entry.Entry.{Entry}
@@ -11,7 +10,7 @@ use Rattle.notation.specs.Code.{code}
 use Rattle.notation.specs.Written.{IsEntry}
 use Rattle.notation.proofs.Decoded.{code_once}
 use Rattle.agree_core.specs.declared.messages.{Ask.Ask, DeskId.DeskId, Vote.Vote}
-use Rattle.agree_core.specs.Ballots.{Ballot, In, vote_of}
+use Rattle.agree_core.specs.Ballots.{Ballot, In}
 use Rattle.agree_core.specs.Positions.{next_place, next_round, position_of}
 use Rattle.vote_store.specs.VoteList.{last_vote}
 use Rattle.agree_core.specs.declared.{messages.Message.Message, position.Position.Position, seat.Heard.Heard}
@@ -38,18 +37,14 @@ heard_ends reach h e = grind arith
 pub position_of_message : (game : ℕ) (bytes : List ℕ) (m : Message) → Says game bytes m → position_in bytes ≡ message_at m
 position_of_message game bytes m says = λ i. record { place = place_of game bytes m says i; round = round_of game bytes m says i }
 
--- what was read of bytes is the message that they say
-pub read_once : (game : ℕ) (bytes : List ℕ) (read : Result Message WireFault) (m : Message) → Reads game bytes read → Says game bytes m → read ≡ Ok m
-read_once game bytes read m reads says = reads_once game bytes read (Ok m) reads says
-
--- and has its numbers in their ranges
+-- what was read has its numbers in their ranges
 pub is_message : (game : ℕ) (bytes : List ℕ) (read : Result Message WireFault) → Reads game bytes read → ForOk read IsMessage
 is_message game bytes read reads m is = let says : Says game bytes m = subst (Reads game bytes) is reads in says.0
 
 -- its position is that of the bytes
 read_at : (game : ℕ) (bytes : List ℕ) (read : Result Message WireFault) (at : Position) (m : Message) → Says game bytes m → Reads game bytes read
     → ForOk read (λ n. at ≡ message_at n) → at ≡ position_in bytes
-read_at game bytes read at m says reads e = e m (read_once game bytes read m reads says) ∙ sym (position_of_message game bytes m says)
+read_at game bytes read at m says reads e = e m (reads_once game bytes read (Ok m) reads says) ∙ sym (position_of_message game bytes m says)
 
 pub ends_so : {Disk : Type 0} (view : FileView Disk) (game : ℕ) (k l : DeskState Disk) (bytes : List ℕ) (read : Result Message WireFault) (what : What)
     (out : List Message) (at : Position) → Takes view game k bytes what l out → Reads game bytes read → ForOk read (λ m. at ≡ message_at m)
@@ -63,33 +58,21 @@ ends_so view game k l bytes read what out at t reads e = refl
 module _ (s : SeatState) (at : Position) (entry : List ℕ) where
   -- without a vote no other's is another one
   pub none_cast : (desk : DeskId) (votes : List Ballot) → last_vote desk votes ≡ None → is_another s votes at entry ≡ false
-  none_cast desk [] e = refl
-  none_cast desk (b ∷ bs) e = absurd (cc)
+  none_cast desk votes e = grind arith
 
   -- whether it is, by this desk's last vote
   pub by_last : (desk : DeskId) (votes : List Ballot) (v : Vote) → last_vote desk votes ≡ Some v
       → is_another s votes at entry ≡ (if is_at (position_of v) at
       then is_at (if bytes_eq entry (code v.entry) then next_round (position_of v) else next_place (position_of v)) s.position
       else is_before (position_of v) at)
-  by_last desk [] v e = absurd (cc)
-  by_last desk (b ∷ bs) v e = let same : vote_of desk b ≡ v = cc in rw (← same) refl
-
-  turned : (alike : Bool) (p : Position) → (if not alike then next_place p else next_round p) ≡ (if alike then next_round p else next_place p)
-  turned true p = refl
-  turned false p = refl
+  by_last desk votes v e = grind arith
 
   -- so it is of a vote for the position of the last one, by the position that comes next after both
   pub another_so : (desk : DeskId) (votes : List Ballot) (v : Vote) → last_vote desk votes ≡ Some v → is_at (position_of v) at ≡ true
       → (alike : Bool) → alike ≡ bytes_eq entry (code v.entry)
       → (next : Position) → next ≡ (if not alike then next_place (position_of v) else next_round (position_of v))
       → (r : Bool) → r ≡ is_at next s.position → r ≡ is_another s votes at entry
-  another_so desk votes v last here alike a next n r e =
-      let p = position_of v in
-      let after : next ≡ (if bytes_eq entry (code v.entry) then next_round p else next_place p) =
-      n ∙ turned alike p ∙ ap (λ (x : Bool). if x then next_round p else next_place p) a in
-      let taken : (if is_at p at then is_at (if bytes_eq entry (code v.entry) then next_round p else next_place p) s.position else is_before p at)
-      ≡ is_at (if bytes_eq entry (code v.entry) then next_round p else next_place p) s.position = rw here refl in
-      e ∙ ap (λ (q : Position). is_at q s.position) after ∙ sym (by_last desk votes v last ∙ taken)
+  another_so desk votes v last here alike a next n r e = grind (arith, by_last)
 
 -- a test of two entries is that of their codes
 pub is_coded : (r : Bool) (e f : Entry) → IsEntry e → IsEntry f → IsTrue r ↔ (e ≡ f) → r ≡ bytes_eq (code e) (code f)
@@ -104,36 +87,19 @@ at_self p = grind (arith, nat_tests)
 at_once : (p q : Position) → is_at p q ≡ true → p ≡ q
 at_once p q e = grind (arith, nat_tests)
 
-or_true : (r : Bool) → (r || true) ≡ true
-or_true true = refl
-or_true false = refl
-
 voted_in : (votes : List Ballot) (at : Position) (e : Entry) → In (record { at = at; entry = e }) votes → is_voted votes at ≡ true
 voted_in [] at e i = absurd i
-voted_in (b ∷ bs) at e (inl here) = let same : at ≡ b.at = ap (λ (x : Ballot). x.at) here in rw (← same) (rw (at_self at) refl)
-voted_in (b ∷ bs) at e (inr there) = rw (voted_in bs at e there) (or_true (is_at b.at at))
+voted_in (b ∷ bs) at e i = grind (arith, at_self, voted_in bs at e)
 
 not_voted : (votes : List Ballot) (at : Position) → ((e : Entry) → In (record { at = at; entry = e }) votes → ⊥) → is_voted votes at ≡ false
 not_voted [] at n = refl
-not_voted (b ∷ bs) at n = elim (cases_Bool (is_at b.at at)) [
-  | inl here ↦ absurd (n b.entry (inl (λ i. record { at = sym (at_once b.at at here) i; entry = b.entry })))
-  | inr other ↦ rw other (not_voted bs at (λ e i. n e (inr i)))
-]
-
-none_sent : {x : List ℕ} {xs : List (List ℕ)} → [] ≡ x ∷ xs → ⊥
-none_sent e = (cc)
-
-one_sent : {x : List ℕ} {xs : List (List ℕ)} → x ∷ xs ≡ [] → ⊥
-one_sent e = (cc)
+not_voted (b ∷ bs) at n = grind (arith, at_once b.at at, n b.entry, not_voted bs at (λ e i. n e (inr i)))
 
 module _ {Disk : Type 0} (view : FileView Disk) (game : ℕ) (k l : DeskState Disk) where
   -- an ask is replied to exactly where the desk has voted
   by_reply : (q : Ask) (reply : Option (List ℕ)) (out : List Message) → replied reply ≡ map (written game) out → Replies k q out
       → is_some reply ≡ is_voted k.votes (message_at (Message.Ask q))
-  by_reply q None out sent (inl has) = absurd (none_sent (rw has.2 at sent))
-  by_reply q (Some r) out sent (inl has) = sym (voted_in k.votes (message_at (Message.Ask q)) has.0 has.1)
-  by_reply q None out sent (inr none) = sym (not_voted k.votes (message_at (Message.Ask q)) none.0)
-  by_reply q (Some r) out sent (inr none) = absurd (one_sent (rw none.1 at sent))
+  by_reply q reply out sent r = grind (arith, voted_in, not_voted)
 
   by_message : (bytes : List ℕ) (reply : Option (List ℕ)) (out : List Message) (m : Message) → Says game bytes m
       → replied reply ≡ map (written game) out → Receives view k m Asked l out → is_some reply ≡ is_voted k.votes (position_in bytes)
@@ -153,7 +119,7 @@ module _ {Disk : Type 0} (view : FileView Disk) (game : ℕ) (k l : DeskState Di
       → ((v : Vote) → read ≡ Ok (Message.Vote v) → another ≡ is_another k.seat k.votes (position_of v) (code v.entry))
       → another ≡ is_another k.seat k.votes (position_in bytes) (body_in bytes)
   another_so_read bytes read h out another (Message.Vote v) says r reads a =
-      a v (read_once game bytes read (Message.Vote v) reads says)
+      a v (reads_once game bytes read (Ok (Message.Vote v)) reads says)
       ∙ sym (λ i. is_another k.seat k.votes (position_of_message game bytes (Message.Vote v) says i) (code_in game bytes v says i))
   another_so_read bytes read h out another (Message.Ask q) says r reads a = absurd r
 

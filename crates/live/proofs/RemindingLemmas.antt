@@ -1,25 +1,15 @@
 -- What a scorer is told of the other desk by the clock comes once.
-use Rattle.std.proofs.Common.{arith, subst, sym, ◌≡◌, ℕ, Bool, true, false, List, [], ◌∷◌, ap}
+use Rattle.std.proofs.Common.{arith, subst, sym, ◌≡◌, ℕ, true, false, List, [], ◌∷◌, ap}
 use Rattle.std.specs.Prelude.{All}
 use Rattle.std.proofs.lemmas.List.Elements.{All-cons, All-head, All-nil, All-tail}
 use Rattle.agree_core.specs.Desks.{DeskState}
 use Rattle.agree_core.specs.FileView.{FileView}
 use Rattle.cards.specs.Sheet.{Sheet}
 use Rattle.live.specs.Desks.{DeskCall, DeskProcess, DiskView, MayCall, Reminded, desk_kind, warned_at}
-use Rattle.live.specs.Reminding.{BringsNone, IsNot, RemindsOnce, brings_news}
+use Rattle.live.specs.Reminding.{BringsNone, IsNot, RemindsOnce}
 use Rattle.live.specs.Runs.{Moment, Run, last_of}
 use Rattle.station_texts.specs.declared.{reminder.Reminder.Reminder, warned.Warned.Warned}
 use Rattle.station_texts.specs.declared.reminder.Reminder.TheVariants.{HasWritten, IsHeard, IsMissed}
-
--- what was told stays told
-writing_stays : {Disk : Type 0} (k : DeskState Disk) (w : Warned) (call : DeskCall) → brings_news call ≡ false → w.of_writing ≡ true
-    → (warned_at k w call).of_writing ≡ true
-writing_stays k w call n e = grind arith
-
--- what is told of silence is told by these two alone
-silence_stays : {Disk : Type 0} (k : DeskState Disk) (w : Warned) (call : DeskCall) (silent : Bool) → (call ≡ Reminded IsMissed → ⊥) → (call ≡ Reminded IsHeard → ⊥) → w.of_silence ≡ silent
-    → (warned_at k w call).of_silence ≡ silent
-silence_stays k w call silent m h e = grind arith
 
 module _ {Disk : Type 0} (sheet : Sheet) (view : FileView Disk) (disks : DiskView Disk) (game innings : ℕ) where
   -- the process after moments, and that none of them tells this
@@ -43,32 +33,18 @@ module _ {Disk : Type 0} (sheet : Sheet) (view : FileView Disk) (disks : DiskVie
       let here = keeps k.desk k.warned m (All-head Quiet m ms quiet) this before.stays in
       record { stays = subst Stays (sym (ap (λ (p : DeskProcess Disk). p.warned) run.2.3)) here; never = All-cons (IsNot reminder) m ms this before.never }
 
-  writing_once : (l : DeskProcess Disk) (ms : List (Moment (DeskProcess Disk) DeskCall)) → l.warned.of_writing ≡ true → Ran l ms → All BringsNone ms
-      → All (IsNot HasWritten) ms
-  writing_once l ms so run quiet =
-      (once HasWritten (λ (w : Warned). w.of_writing ≡ true) BringsNone (λ k stays may. cc (stays, may.2))
-      (λ d w m news this stays. writing_stays d w m.call news stays) l ms so run quiet).never
-
-  silence_once : (l : DeskProcess Disk) (ms : List (Moment (DeskProcess Disk) DeskCall)) → l.warned.of_silence ≡ true → Ran l ms → All (IsNot IsHeard) ms
-      → All (IsNot IsMissed) ms
-  silence_once l ms so run quiet =
-      (once IsMissed (λ (w : Warned). w.of_silence ≡ true) (IsNot IsHeard) (λ k stays may. cc (stays, may))
-      (λ d w m other this stays. silence_stays d w m.call true this other stays) l ms so run quiet).never
-
-  heard_once : (l : DeskProcess Disk) (ms : List (Moment (DeskProcess Disk) DeskCall)) → l.warned.of_silence ≡ false → Ran l ms → All (IsNot IsMissed) ms
-      → All (IsNot IsHeard) ms
-  heard_once l ms so run quiet =
-      (once IsHeard (λ (w : Warned). w.of_silence ≡ false) (IsNot IsMissed) (λ k stays may. cc (stays, may))
-      (λ d w m other this stays. silence_stays d w m.call false other this stays) l ms so run quiet).never
-
 pub reminds_once : {Disk : Type 0} (view : FileView Disk) (disks : DiskView Disk) → RemindsOnce view disks
 reminds_once view disks = record {
   writing = λ sheet game innings k l out ms step run none.
-      writing_once sheet view disks game innings l ms (ap (λ (p : DeskProcess _). p.warned.of_writing) step.3) run none;
+      (once sheet view disks game innings HasWritten (λ (w : Warned). w.of_writing ≡ true) BringsNone (λ k stays may. cc (stays, may.2))
+      (λ d w m news this stays. grind arith) l ms (ap (λ (p : DeskProcess _). p.warned.of_writing) step.3) run none).never;
   missed = λ sheet game innings k l out ms step run none.
-      silence_once sheet view disks game innings l ms (ap (λ (p : DeskProcess _). p.warned.of_silence) step.3) run none;
+      (once sheet view disks game innings IsMissed (λ (w : Warned). w.of_silence ≡ true) (IsNot IsHeard) (λ k stays may. cc (stays, may))
+      (λ d w m other this stays. grind arith) l ms (ap (λ (p : DeskProcess _). p.warned.of_silence) step.3) run none).never;
   heard = λ sheet game innings k l out ms step run none.
-      heard_once sheet view disks game innings l ms (ap (λ (p : DeskProcess _). p.warned.of_silence) step.3) run none;
+      (once sheet view disks game innings IsHeard (λ (w : Warned). w.of_silence ≡ false) (IsNot IsMissed) (λ k stays may. cc (stays, may))
+      (λ d w m other this stays. grind arith) l ms (ap (λ (p : DeskProcess _). p.warned.of_silence) step.3) run none).never;
   first = λ sheet game innings k ms none_told run none.
-      heard_once sheet view disks game innings k ms (ap (λ (w : Warned). w.of_silence) none_told) run none;
+      (once sheet view disks game innings IsHeard (λ (w : Warned). w.of_silence ≡ false) (IsNot IsMissed) (λ k stays may. cc (stays, may))
+      (λ d w m other this stays. grind arith) k ms (ap (λ (w : Warned). w.of_silence) none_told) run none).never;
 }

@@ -1,5 +1,5 @@
 -- Runs of a station, one after the other.
-use Rattle.std.proofs.Common.{◌≡◌, ℕ, List, [], ◌∷◌, ◌++◌, Option, None, refl, sym, ap, ◌∙◌, append-nil, append_assoc}
+use Rattle.std.proofs.Common.{arith, ◌≡◌, ℕ, List, [], ◌∷◌, ◌++◌, Option, None, refl, sym, ap, ◌∙◌, append-nil, append_assoc}
 use Rattle.std.specs.Prelude.{All}
 use Rattle.std.specs.Io.KnownBytes.{Appends}
 use Rattle.agree_core.specs.declared.messages.Message.{Message}
@@ -19,27 +19,19 @@ module _ {State Call : Type 0} (kind : Kind State Call) where
 
   passed_both : (ns ms : List (Moment State Call)) → passed_in kind (ns ++ ms) ≡ passed_in kind ms ++ passed_in kind ns
   passed_both [] ms = sym (append-nil (passed_in kind ms))
-  passed_both (n ∷ ns) ms =
-      let here = passed_at kind n.call n.out in
-      ap (λ xs. xs ++ here) (passed_both ns ms) ∙ append_assoc (passed_in kind ms) (passed_in kind ns) here
+  passed_both (n ∷ ns) ms = grind (arith, append_assoc, passed_both ns ms)
 
   typed_both : (ns ms : List (Moment State Call)) → typed_in kind (ns ++ ms) ≡ typed_in kind ms ++ typed_in kind ns
   typed_both [] ms = sym (append-nil (typed_in kind ms))
-  typed_both (n ∷ ns) ms =
-      ap (λ xs. xs ++ kind.typed n.call) (typed_both ns ms) ∙ append_assoc (typed_in kind ms) (typed_in kind ns) (kind.typed n.call)
+  typed_both (n ∷ ns) ms = grind (arith, append_assoc, typed_both ns ms)
 
   read_both : (ns ms : List (Moment State Call)) → read_in kind (ns ++ ms) ≡ read_in kind ms ++ read_in kind ns
   read_both [] ms = sym (append-nil (read_in kind ms))
-  read_both (n ∷ ns) ms =
-      let here = reads (kind.beat n.call) in
-      ap (λ xs. xs ++ here) (read_both ns ms) ∙ append_assoc (read_in kind ms) (read_in kind ns) here
+  read_both (n ∷ ns) ms = grind (arith, append_assoc, read_both ns ms)
 
   printed_both : (k : State) (ns ms : List (Moment State Call)) → printed_in kind k (ns ++ ms) ≡ printed_in kind k ms ++ printed_in kind (last_of k ms) ns
   printed_both k [] ms = sym (append-nil (printed_in kind k ms))
-  printed_both k (n ∷ ns) ms =
-      let here = kind.prints (last_of (last_of k ms) ns) n.call n.after in
-      ap (λ x. printed_in kind k (ns ++ ms) ++ kind.prints x n.call n.after) (last_both k ns ms)
-      ∙ (ap (λ xs. xs ++ here) (printed_both k ns ms) ∙ append_assoc (printed_in kind k ms) (printed_in kind (last_of k ms) ns) here)
+  printed_both k (n ∷ ns) ms = grind (arith, append_assoc, last_both k ns ms, printed_both k ns ms)
 
 -- nothing but what is told
 pub none_logged : {State Call : Type 0} {kind : Kind State Call} {k : State} {a : Logs} {t : Option (List ℕ)} → Appends a.told t [] → LogsGrow kind k [] a (record a { told = t })

@@ -1,6 +1,6 @@
 -- A station's process ticks in time.
-use Rattle.std.proofs.Common.{◌≡◌, ◌≤◌, ◌<◌, ◌+◌, ◌⊎◌, ℕ, List, [], ◌∷◌, Option, None, Some, refl, ap, ◌∙◌, arith, inl, inr, ⊎_elim, subst}
-use Rattle.std.specs.Prelude.{IfSome, IsSome}
+use Rattle.std.proofs.Common.{◌≡◌, ◌⊎◌, ℕ, List, [], ◌∷◌, Option, None, Some, refl, ap, ◌∙◌, arith, inr, subst}
+use Rattle.std.specs.Prelude.{IsSome}
 use Rattle.agree_core.specs.declared.messages.Message.{Message}
 use Rattle.agree_core.specs.FileView.{FileView}
 use Rattle.cards.specs.Sheet.{Sheet}
@@ -8,17 +8,12 @@ use Rattle.live.specs.Boards as boards
 use Rattle.live.specs.Boards.{BoardCall, BoardTurn, board_kind}
 use Rattle.live.specs.Desks.{DeskProcess, DiskView, desk_kind}
 use Rattle.live.specs.Runs.{Kind, Moment, Run, last_of}
-use Rattle.live.specs.Silences.{HasTicked, IsNeverSilent, TickedBy}
-use Rattle.live.specs.Ticks.{Beat, MayBeat, Tick, Ticking, TurnEnd, after_beat, recent_until}
+use Rattle.live.specs.Silences.{HasTicked, IsNeverSilent}
+use Rattle.live.specs.Ticks.{Beat, MayBeat, Tick, Ticking, TurnEnd, after_beat}
 
 -- the last tick stays the last one, but for a tick
 stays_or_ticks : (k : Ticking) (beat : Beat) → (beat ≡ Tick) ⊎ ((after_beat k beat).ticked ≡ k.ticked)
-stays_or_ticks k Tick = inl refl
-stays_or_ticks k beat = inr refl
-
-too_late : (ticked : Option ℕ) (then now : ℕ) → IfSome ticked (λ t. t ≤ then) → now < recent_until ticked → then + 500 ≤ now → ⊥
-too_late None then now by recent late = omega (arith, recent)
-too_late (Some t) then now by recent late = omega (arith, by, recent, late)
+stays_or_ticks k beat = grind arith
 
 looked_at : (looked : Option ℕ) → IsSome looked → (now : ℕ) × (looked ≡ Some now)
 looked_at None h = cc
@@ -35,28 +30,15 @@ module _ {State Call : Type 0} (kind : Kind State Call) where
     ticked_or_same : (k : State) (ms : List (Moment State Call)) → Run kind k ms
         → HasTicked kind ms ⊎ ((kind.ticking (last_of k ms)).ticked ≡ (kind.ticking k).ticked)
     ticked_or_same k [] run = inr refl
-    ticked_or_same k (m ∷ ms) run =
-        let before = last_of k ms in
-        let after = ap (λ (t : Ticking). t.ticked) (keeps before m.after m.call m.out run.2).1 in
-        ⊎_elim (λ so. inl (inr so)) (λ same. ⊎_elim (λ is. inl (inl is)) (λ here. inr (after ∙ (here ∙ same)))
-        (stays_or_ticks (kind.ticking before) (kind.beat m.call))) (ticked_or_same k ms run.0)
+    ticked_or_same k (m ∷ ms) run = grind (arith, ticked_or_same k ms run.0, keeps (last_of k ms) m.after m.call m.out run.2, stays_or_ticks (kind.ticking (last_of k ms)) (kind.beat m.call))
 
     ends_in_time : (k l : State) (call : Call) (out : List Message) → kind.Step k call out l → kind.beat call ≡ TurnEnd → MayBeat (kind.ticking k) TurnEnd
     ends_in_time k l call out step is = subst (MayBeat (kind.ticking k)) is (keeps k l call out step).0
 
-    ticks_in_time : (k l : State) (call : Call) (out : List Message) (ms : List (Moment State Call)) (then now : ℕ) → Run kind k ms
-        → kind.Step (last_of k ms) call out l → kind.beat call ≡ TurnEnd
-        → (kind.ticking (last_of k ms)).looked ≡ Some now → TickedBy kind then k → then + 500 ≤ now → HasTicked kind ms
-    ticks_in_time k l call out ms then now run step is looked by late =
-        let last = kind.ticking (last_of k ms) in
-        ⊎_elim (λ so. so) (λ same.
-        let recent : now < recent_until last.ticked =
-        subst (λ (o : Option ℕ). IfSome o (λ shown. shown < recent_until last.ticked)) looked (ends_in_time (last_of k ms) l call out step is).1 in
-        absurd (too_late (kind.ticking k).ticked then now by (subst (λ (o : Option ℕ). now < recent_until o) same recent) late)) (ticked_or_same k ms run)
-
     never_silent : IsNeverSilent kind
     never_silent = record {
-      ticks = λ k l call out ms then now run step is looked by late. ticks_in_time k l call out ms then now run step is looked by late;
+      ticks = λ k l call out ms then now run step is looked by late.
+          grind (arith, ticked_or_same k ms run, ends_in_time (last_of k ms) l call out step is);
       looks = λ k l call out step is. looked_at (kind.ticking k).looked (ends_in_time k l call out step is).0;
     }
 
@@ -68,10 +50,7 @@ desks_tick {Disk} sheet view disks game innings =
 -- a board's calls are to its clock what they are
 goes_by_the_clock : (sheet : Sheet) (innings : ℕ) (k l : BoardTurn) (call : BoardCall)
     → (boards.after_call sheet innings k call l.board).ticking ≡ after_beat k.ticking (boards.beat_of call)
-goes_by_the_clock sheet innings k l (boards.Given bytes answer) = refl
-goes_by_the_clock sheet innings k l boards.Unopened = refl
-goes_by_the_clock sheet innings k l boards.TurnEnded = refl
-goes_by_the_clock sheet innings k l call = refl
+goes_by_the_clock sheet innings k l call = grind arith
 
 pub boards_tick : (sheet : Sheet) (game innings : ℕ) → IsNeverSilent (board_kind sheet game innings)
 boards_tick sheet game innings =

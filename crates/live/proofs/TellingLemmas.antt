@@ -1,5 +1,5 @@
 -- What the scorer is told, and how the process goes on then.
-use Rattle.std.proofs.Common.{arith, ◌≡◌, ℕ, Bool, List, [], ◌++◌, Result, Ok, Err, Option, Some, None, sym, ◌∙◌, append-nil}
+use Rattle.std.proofs.Common.{arith, ◌≡◌, ℕ, Bool, List, [], Result, Err, Option, append-nil}
 use Rattle.std.specs.Prelude.{OnOk}
 use Rattle.std.specs.Io.KnownBytes.{Appends}
 use Rattle.streams.proofs.Appending.{appends_none}
@@ -34,8 +34,7 @@ came_nothing sheet innings place own other book warned loss reach what end s e =
 -- a text is told, or a write failed
 pub tells : (answer : Result (Unit {0}) WriteFailed) (r : Course) (s t : Option (List ℕ)) (text : List ℕ) → r ≡ written answer
     → OnOk answer (Appends s t text) → Appends (known_at r s) (known_at r t) text
-tells (Ok done) r s t text e a = rw e a
-tells (Err fault) r s t text e a = rw e tt
+tells answer r s t text e a = grind arith
 
 -- only a failed write isn't told
 pub write_failed : (answer : Result (Unit {0}) WriteFailed) (met : DeskEnd) → ◌≡◌ {A = Course} (Err met) (written answer) → met ≡ DeskEnd.Write
@@ -50,6 +49,4 @@ goes_further answer r e = grind arith
 
 -- what was told first
 pub told_first : (s t : Option (List ℕ)) (text : List ℕ) → Appends s t text → Appends (with_text s text) t []
-told_first None t text a = tt
-told_first (Some xs) None text a = absurd a
-told_first (Some xs) (Some ys) text a = a ∙ sym (append-nil (xs ++ text))
+told_first s t text a = grind (arith, append-nil)

@@ -152,16 +152,7 @@ module _ {B : Type 0} {g : _} (content : B → List Entry) where
   -- a board in a turn
   abbrev pub in_turn : Board B g → ℕ → ℕ → ℕ → Telling → Ticking → List Notice → List Sight → BoardTurn
   in_turn k turns had taken telling ticking notices seen =
-      record {
-        board = state_of content k;
-        turns = turns;
-        had = had;
-        taken = taken;
-        telling = telling;
-        ticking = ticking;
-        notices = notices;
-        seen = seen;
-      }
+      record (begun (state_of content k) turns telling ticking notices seen) { had = had; taken = taken }
 
   -- at the beginning of a turn
   abbrev pub at_turn : Board B g → ℕ → Telling → Ticking → List Notice → List Sight → BoardTurn

@@ -1,5 +1,5 @@
 -- The pace at which a station says what it says unasked.
-use Rattle.std.specs.Prelude.{◌+◌, ◌*◌, ◌^◌, ◌-◌, ℕ, Bool, true, false, if◌then◌else◌, min, nat_le, None}
+use Rattle.std.specs.Prelude.{◌+◌, ◌*◌, ◌^◌, ◌-◌, ℕ, Bool, false, ◌||◌, if◌then◌else◌, min, nat_le, None}
 use Rattle.live.specs.declared.pace.Pace.{Pace}
 use Rattle.live.specs.Ticks.{Ticking, after_look, unticked}
 
@@ -35,36 +35,20 @@ wait_left p now = if p.waits then min 500 (p.due - now) else 0
 abbrev pub is_due : Paced → ℕ → Bool
 is_due p now = nat_le p.due now
 
--- what is due is said now, and is due again after the wait, which then doubles, up to half a second
-abbrev pub due_again : Bool → Paced → ℕ → ℕ
-due_again true p now = later now p.wait
-due_again false p now = p.due
-
-abbrev pub wait_again : Bool → ℕ → ℕ
-wait_again true wait = min 500 (wait * 2)
-wait_again false wait = wait
-
--- after a look at the clock
+-- After a look at the clock: what is due is said now, and is due again after the wait, which then doubles, up to half a
+-- second.
 abbrev pub after_taken : Bool → Paced → ℕ → Paced
 after_taken due p now =
-    record {
-      due = due_again due p now;
-      wait = wait_again due p.wait;
-      waits = p.waits;
+    record p {
+      due = if due then later now p.wait else p.due;
+      wait = if due then min 500 (p.wait * 2) else p.wait;
       ticking = after_look due p.ticking now;
     }
 
 -- at a new position something is due at once; where an answer may come, after 20 ms at the latest
-abbrev pub due_noted : Bool → Bool → ℕ → ℕ → ℕ
-due_noted true may_come due now = 0
-due_noted false true due now = min due (later now 20)
-due_noted false false due now = due
-
-abbrev pub wait_noted : Bool → Bool → ℕ → ℕ
-wait_noted true may_come wait = 20
-wait_noted false true wait = 20
-wait_noted false false wait = wait
-
 abbrev pub noted : Bool → Bool → Paced → ℕ → Paced
 noted is_new may_come p now =
-    record p { due = due_noted is_new may_come p.due now; wait = wait_noted is_new may_come p.wait }
+    record p {
+      due = if is_new then 0 else if may_come then min p.due (later now 20) else p.due;
+      wait = if is_new || may_come then 20 else p.wait;
+    }

@@ -162,6 +162,7 @@ fn take_all<B: BookOf, L: Link, C: Clock, N: Notices>(
 }
 
 /// Prints a board's six lines, where its book isn't as long as it was, and hands on what waits for its screen.
+#[tactic(auto, using(std::proofs::lemmas::Grind::common_steps, std::proofs::lemmas::Bool::Decides::nat_tests, streams::proofs::Appending::appends_kept, streams::proofs::Appending::appends_none))]
 fn print_news<B: BookOf, W: Sink>(
     board: &Board<B>,
     sheet: &MatchSheet,

@@ -20,17 +20,20 @@ use entry_log::SlotsOf;
 
 /// Nothing that a desk's scorer is told depends on what the other scorer wrote at a position before the own vote of that
 /// position is stored.
+#[tactic(auto, using(crate::proofs::HiddenLemmas::hides_the_other))]
 pub fn the_other_is_hidden<S: SlotsOf>()
     ensures { (desk : ADesk) (game : ℕ) → HidesTheOther (file_view S.contents S.Disk.seen S.Disk.images desk game) }
 {}
 
 /// Where the two votes of a position are stored and differ, a desk's scorer is told both entries.
+#[tactic(auto, using(crate::proofs::HiddenLemmas::tells_both))]
 pub fn both_lines_are_told<D>()
     ensures { TellsBoth D }
 {}
 
 /// That the other has written is told once, until a vote of the other desk that is news comes; that the other desk isn't
 /// heard, and that it is again, are told in turns.
+#[tactic(auto, using(crate::proofs::RemindingLemmas::reminds_once))]
 pub fn reminders_come_once<S: SlotsOf>()
     ensures { (desk : ADesk) (game cap : ℕ) → RemindsOnce (file_view S.contents S.Disk.seen S.Disk.images desk game)
         (record { faults = S.Disk.faults; FitsLongest = FitsLongest S.room cap }) }

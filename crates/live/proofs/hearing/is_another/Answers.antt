@@ -1,16 +1,13 @@
-use Rattle.std.proofs.Common.{◌≡◌, ◌∙◌, ap, subst}
+use Rattle.std.proofs.Common.{◌≡◌, ◌∙◌, ap}
 use Rattle.notation.specs.Code.{code}
-use Rattle.agree_core.specs.declared.messages.{Message.Message, Vote.Vote}
+use Rattle.agree_core.specs.declared.messages.Vote.{Vote}
 use Rattle.agree_core.specs.LostLines.{is_another}
 use Rattle.agree_core.specs.Positions.{position_of}
 use Rattle.desk.specs.Desk.{state_of}
-use Rattle.wire.specs.Layout.{IsMessage}
 use Rattle.live.proofs.hearing.is_another.Goals as goal
 
 pub is_another_vote-requires : goal.is_another_vote-requires
-is_another_vote-requires g c =
-    let fine : IsMessage (Message.Vote c.in-Ok-Vote.vote) = subst IsMessage c.in-Ok-Vote.field-0-is (c.requires c.in-Ok-Vote.field-0 c.in-Ok-Vote.is) in
-    fine.1
+is_another_vote-requires g c = (rw c.in-Ok-Vote.field-0-is at (c.requires c.in-Ok-Vote.field-0 c.in-Ok-Vote.is)).1
 
 pub returns-in-Ok-Vote : goal.returns-in-Ok-Vote
 returns-in-Ok-Vote g c = λ v is.
