@@ -1,4 +1,2 @@
-pub mod MarkLemmas
-pub mod OverEnds
 pub mod Rooms
-pub mod Newest
+pub mod Items

@@ -1,9 +1,9 @@
 -- The columns that are left behind texts in a row.
 use Rattle.std.proofs.lemmas.Grind.{common_steps}
-use Rattle.std.proofs.Common.{arith, ◌≡◌, ℕ, List, [], ◌++◌, length, length-append, refl, ap, sym, ◌∙◌}
+use Rattle.std.proofs.Common.{arith, ◌≡◌, ℕ, List, [], ◌++◌, length, length-append}
 use Rattle.std.specs.Prelude.{nat_le}
 use Rattle.score_rows.specs.declared.room.Room.{Room}
-use Rattle.score_rows.specs.declared.room.Room.TheVariants.{Left, Full}
+use Rattle.score_rows.specs.declared.room.Room.TheVariants.{Left}
 use Rattle.cards.specs.Sheet.{Sheet}
 use Rattle.score_rows.specs.Fit.{all_columns, behind, fits, is_left}
 

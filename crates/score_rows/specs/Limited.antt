@@ -47,9 +47,8 @@ abbrev pub past_text : ℕ → ℕ → List ℕ
 past_text most bowled = if nat_lt most bowled then codes " past " ++ decimal most else []
 
 abbrev pub past : Option ℕ → History → Option ℕ → List ℕ
-past None h b = []
-past (Some most) h None = []
 past (Some most) h (Some p) = past_text most (overs_bowled p h)
+past most h b = []
 
 -- ---- in the check of an over
 
@@ -77,15 +76,13 @@ bowled_of s h i most p =
 
 -- the bowler of the last delivery, where both are known
 abbrev pub bowler_part : Sheet → History → ℕ → Option ℕ → Option ℕ → List ℕ
-bowler_part s h i None b = []
-bowler_part s h i (Some most) None = []
 bowler_part s h i (Some most) (Some p) = bowled_of s h i most p
+bowler_part s h i most b = []
 
 -- alone in a line
 abbrev pub bowler_line : Sheet → History → ℕ → Option ℕ → Option ℕ → List ℕ
-bowler_line s h i None b = []
-bowler_line s h i (Some most) None = []
 bowler_line s h i (Some most) (Some p) = bowled_of s h i most p ++ codes "\n"
+bowler_line s h i most b = []
 
 -- behind the overs left of so many
 abbrev pub left_line : Sheet → History → ℕ → ℕ → List ℕ
@@ -107,9 +104,8 @@ abbrev pub past_line : Sheet → History → ℕ → ℕ → ℕ → List ℕ
 past_line s h i most p = if nat_lt most (overs_bowled p h) then bowled_of s h i most p ++ codes "\n" else []
 
 abbrev pub past_row : Sheet → History → ℕ → Option ℕ → Option ℕ → List ℕ
-past_row s h i None b = []
-past_row s h i (Some most) None = []
 past_row s h i (Some most) (Some p) = past_line s h i most p
+past_row s h i most b = []
 
 -- ---- who may bowl
 

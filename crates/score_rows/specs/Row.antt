@@ -57,9 +57,8 @@ batter f s h i mark (Some p) =
 
 -- whether the names at both ends look alike as they are cut
 abbrev pub are_both_alike : Form → Sheet → Side → Option ℕ → Option ℕ → Bool
-are_both_alike f s side None other = false
-are_both_alike f s side (Some p) None = false
 are_both_alike f s side (Some p) (Some q) = are_alike (letters f) (player_of s side p) (player_of s side q)
+are_both_alike f s side striker other = false
 
 abbrev pub are_ends_alike : Form → Sheet → History → ℕ → Bool
 are_ends_alike f s h i = are_both_alike f s (side_of h i) (state_after h).ends.striker (state_after h).ends.other

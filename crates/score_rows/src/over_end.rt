@@ -28,6 +28,7 @@ fn item_counts(item: &Plain) -> u32
 }
 
 /// How many deliveries of an over count.
+#[tactic(auto, using(crate::proofs::Items::item_by_item))]
 pub fn counting_of(over: &[Placed]) -> u32
     requires { length over.now ≤ PLACES }
     ensures { result ≡ counting (balls_of over.now) }
@@ -46,7 +47,7 @@ fn is_ball(item: &Plain) -> bool
 }
 
 /// An over without its last delivery.
-#[tactic(auto, using(crate::proofs::OverEnds::balls_push))]
+#[tactic(auto, using(crate::proofs::Items::balls_push))]
 fn older_of(over: &[Placed]) -> &[Placed]
     ensures older { balls_of result.now ≡ rows.older_of (balls_of over.now) }
     ensures few { length result.now ≤ length over.now }

@@ -1,7 +1,0 @@
-use Rattle.std.proofs.Common.{arith}
-use Rattle.std.proofs.lemmas.Grind.{common_steps}
-use Rattle.streams.proofs.Appending.{appends_last}
-use Rattle.score_rows.proofs.row.print_bowler.Goals as goal
-
-pub returns-clause-text : goal.returns-clause-text
-returns-clause-text g c = grind (arith, common_steps, appends_last)
