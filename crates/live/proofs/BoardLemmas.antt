@@ -1,6 +1,6 @@
 -- Runs of a board.
-use Rattle.std.proofs.Common.{◌≡◌, ◌⊎◌, ◌<◌, ◌+◌, ℕ, List, [], ◌∷◌, ◌++◌, Option, None, Some, Result, Bool, true, false, nat_eq, inl, inr, ⊎_elim}
-use Rattle.std.proofs.Common.{refl, sym, ap, ◌∙◌, subst, append-nil}
+use Rattle.std.proofs.Common.{◌≡◌, ◌⊎◌, ◌<◌, ◌+◌, ℕ, List, [], ◌∷◌, ◌++◌, Option, None, Some, Result, true, inl, inr, ⊎_elim}
+use Rattle.std.proofs.Common.{refl, sym, ◌∙◌, subst, append-nil}
 use Rattle.std.proofs.lemmas.List.Elements.{All-nil}
 use Rattle.streams.proofs.Appending.{appends_none}
 use Rattle.wire.specs.Layout.{IsMessage}
@@ -8,21 +8,19 @@ use Rattle.std.specs.Prelude.{All, Ok, Err, IsErr, IsErrAnd, IsSome, OnOk}
 use Rattle.std.specs.Io.KnownBytes.{Appends}
 use Rattle.notation.specs.declared.entry.Entry.{Entry}
 use Rattle.agree_core.specs.declared.messages.Message.{Message}
-use Rattle.agree_core.specs.Boards.{BoardTicks}
 use Rattle.corrections.specs.CleanList.{history_of}
 use Rattle.corrections.specs.Refusal.{book_refusal}
-use Rattle.wire.specs.Sent.{AreSent}
 use Rattle.wire.specs.declared.what.What.{What}
 use Rattle.cards.specs.Board.{board as board_text}
 use Rattle.cards.specs.Sheet.{Sheet}
 use Rattle.board.specs.declared.{refusal.BoardRefusal.BoardRefusal, board.Board.Board}
 use Rattle.board.specs.Board.{SameMatch, book_of, game_of, state_of}
 use Rattle.board.specs.Takes.{Takes}
-use Rattle.links.specs.Passed.{Passed, Came, sends, sent_to}
+use Rattle.links.specs.Passed.{Passed, Came, sends}
 use Rattle.links.specs.declared.link.Receivers.TheVariants.{ToAll}
 use Rattle.live.specs.Runs.{Goes, Logs, known_where, with_told}
 use Rattle.live.specs.Boards.{Asks, BoardCall, BoardGoes, BoardLives, BoardRuns, BoardTurn, Given, Looked, Read, Ticked, TurnEnded, TurnStep, Unopened}
-use Rattle.live.specs.Boards.{at_turn, beat_of, board_kind, given, grown, in_turn, shown, sight_at, unless_stopped}
+use Rattle.live.specs.Boards.{at_turn, beat_of, board_kind, given, in_turn, shown, sight_at, unless_stopped}
 use Rattle.live.specs.Sights.{Sight}
 use Rattle.live.specs.Ticks.{IsInTime, Ticking, after_look, reads, unticked}
 use Rattle.station_texts.specs.Notices.{untold, notices_after, notices_unopened, telling_after, telling_unopened}
@@ -30,30 +28,6 @@ use Rattle.links.specs.declared.link.TheConstants.{MOST_TAKEN}
 use Rattle.station_texts.specs.declared.{notices.Notice.Notice, notices.Telling.Telling}
 use Rattle.live.proofs.TellingLemmas.{told_first}
 use Rattle.live.proofs.RunLemmas.{both, none_logged, one, stays, unsaid}
-
--- a book's text, by a length that is as told
-pub printed_by : (text : List ℕ) (m : ℕ) {n had : ℕ} (s t : Option (List ℕ)) → n ≡ had → Appends s t (grown (nat_eq m n) text) → Appends s t (grown (nat_eq m had) text)
-printed_by text m s t e a = subst (λ (n : ℕ). Appends s t (grown (nat_eq m n) text)) e a
-
--- nothing is printed once both desks' votes were refused, otherwise what is news
-pub stopped_none : (text : List ℕ) (b : Bool) (s : Option (List ℕ)) → b ≡ true → Appends s s (unless_stopped b text)
-stopped_none text b s e = rw e (appends_none s)
-
-pub goes_on : (text : List ℕ) (b : Bool) (s t : Option (List ℕ)) → b ≡ false → Appends s t text → Appends s t (unless_stopped b text)
-goes_on text b s t e a = rw e a
-
--- and nothing more is handed to be shown then, otherwise what comes next
-pub none_seen : (seen more : List Sight) (b : Bool) → b ≡ true → seen ≡ seen ++ unless_stopped b more
-none_seen seen more b e = rw (e, append-nil)
-
-pub more_seen : (seen more : List Sight) (b : Bool) {sees : List Sight} → b ≡ false → sees ≡ seen ++ more → sees ≡ seen ++ unless_stopped b more
-more_seen seen more b e is = rw e is
-
--- what it says unasked
-pub asks : {B : Type 0} {g : _} (content : B → List Entry) (k : Board B g) (bytes : List (List ℕ)) (log after : List Passed)
-    → AreSent (game_of k) bytes (BoardTicks (state_of content k)) → after ≡ log ++ sent_to ToAll bytes → Asks content k log after
-asks content k bytes log after ticks passed =
-    record { out = ticks.0; fine = ticks.1; passed = passed ∙ ap (λ (xs : List (List ℕ)). log ++ sent_to ToAll xs) ticks.2; step = ticks.3 }
 
 same_here : {B : Type 0} {g : _} {innings_of : B → ℕ} {k : Board B g} → SameMatch innings_of k k
 same_here = record { game = refl; innings_a_side = refl }
@@ -110,14 +84,6 @@ module _ {B : Type 0} {g : _} {content : B → List Entry} {innings_of : B → �
         (few, (refl, refl), (λ i. in_turn content k turns had (taken + 1) (tells i) (stands i) (notices i) seen), beats)
         (rw (is, append-nil)) refl (rw append-nil) (appends_none a.told)
 
-    -- it has ticked
-    ticks : {after : List Passed} {said : Ticking} → IsSome ticking.looked → said ≡ record ticking { ticked = ticking.looked } → Asks content k a.passed after
-        → BoardGoes content innings_of sheet k k (in_turn content k turns had taken telling ticking noted seen) (in_turn content k turns had taken telling said noted seen)
-        a (record a { passed = after })
-    ticks looked is asked =
-        called Ticked asked.out same_here asked.fine (tt, (asked.step, refl), (λ i. in_turn content k turns had taken telling (is i) noted seen), looked)
-        asked.passed refl (rw append-nil) (appends_none a.told)
-
     -- it has looked at its clock
     pub looks : {n : List ℕ} {saw : Ticking} (now : ℕ) → IsInTime ticking → n ≡ a.readings ++ now ∷ [] → saw ≡ record ticking { looked = Some now }
         → BoardGoes content innings_of sheet k k (in_turn content k turns had taken telling ticking noted seen) (in_turn content k turns had taken telling saw noted seen)
@@ -125,6 +91,16 @@ module _ {B : Type 0} {g : _} {content : B → List Entry} {innings_of : B → �
     looks now beats times is =
         called (Looked now) [] same_here (All-nil IsMessage) (tt, (refl, refl), (λ i. in_turn content k turns had taken telling (is i) noted seen), beats)
         (rw append-nil) refl times (appends_none a.told)
+
+    -- it has looked at its clock, and ticked
+    pub speaks : {after : List Passed} {n : List ℕ} {said : Ticking} (now : ℕ) → IsInTime ticking → n ≡ a.readings ++ now ∷ [] → said ≡ after_look true ticking now
+        → Asks content k a.passed after
+        → BoardGoes content innings_of sheet k k (in_turn content k turns had taken telling ticking noted seen) (in_turn content k turns had taken telling said noted seen)
+        a (record a { passed = after; readings = n })
+    speaks now beats times is asked =
+        then (looks now beats times refl)
+        (called Ticked asked.out same_here asked.fine (tt, (asked.step, refl), (λ i. in_turn content k turns had taken telling (is i) noted seen), refl)
+        asked.passed refl (rw append-nil) (appends_none a.told))
 
     -- it has read its clock
     pub reads_clock : {n : List ℕ} (now : ℕ) → IsInTime ticking → n ≡ a.readings ++ now ∷ []
@@ -142,13 +118,6 @@ module _ {B : Type 0} {g : _} {content : B → List Entry} {innings_of : B → �
     turn_over looked beats is sights text =
         called TurnEnded [] same_here (All-nil IsMessage)
         (tt, (refl, refl), (λ i. at_turn content k (turns + 1) telling (is i) noted (sights i)), (looked, beats)) (rw append-nil) refl (rw append-nil) text
-
-  -- it has looked at its clock, and ticked
-  pub speaks : {turns had taken : ℕ} {telling : Telling} {ticking : Ticking} {noted : List Notice} {seen : List Sight} {a : Logs} {after : List Passed} {n : List ℕ} {said : Ticking} (now : ℕ) → IsInTime ticking → n ≡ a.readings ++ now ∷ [] → said ≡ after_look true ticking now → Asks content k a.passed after
-      → BoardGoes content innings_of sheet k k (in_turn content k turns had taken telling ticking noted seen) (in_turn content k turns had taken telling said noted seen)
-      a (record a { passed = after; readings = n })
-  speaks {ticking = ticking} now beats times is asked =
-      then (looks {ticking = ticking} now beats times refl) (ticks {ticking = record { ticked = ticking.ticked; looked = Some now }} refl is asked)
 
   -- nothing is seen of its clock
   pub unread : {turns had taken : ℕ} {telling : Telling} {ticking saw : Ticking} {noted : List Notice} {seen : List Sight} {a : Logs} → saw ≡ ticking
@@ -230,8 +199,3 @@ module _ {B : Type 0} {g : _} {content : B → List Entry} {innings_of : B → �
         runs = (stopped _ (record a { readings = readings; told = t }) {last = last} last failed fault h refl refl is (reads_clock {ticking = unticked} now tt times)).0;
       } in
       ⊎_elim (λ is. ends _ (inl refl) (sym is)) (λ is. ends [] (inr (refl, refl)) (append-nil seen ∙ sym is.0)) began
-
--- where that went well the book was handed over
-pub has_begun : {seen sees : List Sight} (first : Sight) → (sees ≡ seen ++ first ∷ []) ⊎ ((sees ≡ seen) × (false ≡ true)) → sees ≡ seen ++ first ∷ []
-has_begun first (inl is) = is
-has_begun first (inr is) = absurd (cc)

@@ -12,9 +12,8 @@ use Rattle.corrections.specs.declared.book_of.BookOf.{Ghosts as Books}
 use Rattle.entry_log.specs.Blame.{BlamesDisk}
 use Rattle.entry_log.specs.Disk.{Faults}
 use Rattle.entry_log.specs.declared.{disk.Disk.Ghosts as Disks, slots_of.SlotsOf.Ghosts as Files}
-use Rattle.agree_core.specs.declared.messages.{DeskId.DeskId, Message.Message}
+use Rattle.agree_core.specs.declared.messages.Message.{Message}
 use Rattle.agree_core.specs.Desks.{Pens, Ticks}
-use Rattle.agree_core.specs.FileView.{FileView}
 use Rattle.vote_store.specs.View.{file_view}
 use Rattle.wire.specs.Layout.{IsMessage, written}
 use Rattle.wire.specs.Sent.{AreSent}
@@ -25,7 +24,7 @@ use Rattle.desk.specs.Desk.{SameOwner, disk_of, game_of, rules_of, state_of, vie
 use Rattle.desk.specs.Takes.{Takes}
 use Rattle.links.specs.Passed.{Passed, Came, Sent, sends, sent_to}
 use Rattle.links.specs.declared.link.Receivers.TheVariants.{ToAll, ToOne}
-use Rattle.live.specs.Runs.{Goes, Kind, Logs}
+use Rattle.live.specs.Runs.{Goes, Logs}
 use Rattle.station_texts.specs.Saying.{ComesTo, SaysEntry}
 use Rattle.links.specs.Typing.{Input, Line, End}
 use Rattle.links.specs.declared.aside.Aside.{Aside}
@@ -40,7 +39,6 @@ use Rattle.live.specs.declared.ends.DeskEnd.{DeskEnd}
 use Rattle.station_texts.specs.declared.{reminder.Reminder.Reminder, said.Said.Said, warned.Warned.Warned}
 use Rattle.live.proofs.LostLemmas.{heard_ends}
 use Rattle.live.proofs.RunLemmas.{both, one, retold, stays, unsaid}
-use Rattle.live.proofs.TellingLemmas.{came_course, came_nothing, said_course, said_nothing}
 
 -- no device call failed
 pub blameless : {W : Type 0} (course : Course) (old new : Faults) → (IsErrOf course DeskEnd.Device → ⊥) → new ≡ old
@@ -59,18 +57,15 @@ blamed r device course old new to from room b = record {
   spent = λ due w e. b.spent due (room (to e) w) (to e);
 }
 
--- the kind of a desk's runs, by what it depends on
-abbrev kind_with : {D : Type 0} → (DeskId → ℕ → FileView D) → (D → Faults) → (ℕ → ℕ) → Sheet → DeskId → ℕ → ℕ → ℕ → Kind (DeskProcess D) DeskCall
-kind_with view faults room sheet d game innings cap =
-    desk_kind sheet (view d game) (record { faults = faults; FitsLongest = FitsLongest room cap }) game innings
-
 module _ {S B D : Type 0} {g : Files S D} {h : Disks D} {b : Books B} where
   pub same_here : (k : Desk S B D g h b) → SameOwner k k
   same_here k = record { desk = refl; game = refl; innings_a_side = refl; cap = refl }
 
   -- the same desk's runs are of one kind
   kind_stays : (sheet : Sheet) (k l : Desk S B D g h b) → SameOwner k l → kind_of sheet l ≡ kind_of sheet k
-  kind_stays sheet k l x = λ i. kind_with (file_view g.contents h.seen h.images) h.faults g.room sheet (x.desk i) (x.game i) (x.innings_a_side i) (x.cap i)
+  kind_stays sheet k l x = λ i.
+      desk_kind sheet (file_view g.contents h.seen h.images (x.desk i) (x.game i)) (record { faults = h.faults; FitsLongest = FitsLongest g.room (x.cap i) })
+      (x.game i) (x.innings_a_side i)
 
   pub rests : {sheet : Sheet} {k : Desk S B D g h b} {p : DeskProcess D} {a : Logs} → DeskGoes sheet k k p p a a
   rests {k = k} = record { same = same_here k; goes = stays }
@@ -131,8 +126,7 @@ module _ {S B D : Type 0} {g : Files S D} {h : Disks D} {b : Books B} where
         → DeskGoes sheet k l (process_of k warned turns ticking further) (process_of l warned turns ticking (ending end)) a
         (record a { passed = after; typed = y })
     says_last answer end beats c types e =
-        says answer beats c types (said_course answer end e)
-        (said_nothing sheet (innings_of k) (state_of k).seat.position (own_line (state_of k)) (state_of k).seat.theirs warned.of_silence (state_of l).book answer end a.told e)
+        says answer beats c types (grind arith) (grind (arith, appends_none))
 
     -- bytes came
     pub hears : {bytes : List ℕ} (what : What) {course : Course} {later : Warned} {heard : Ticking} {before after : List Passed} {t : Option (List ℕ)}
@@ -146,9 +140,8 @@ module _ {S B D : Type 0} {g : Files S D} {h : Disks D} {b : Books B} where
     pub hears_last : {bytes : List ℕ} (what : What) (end : DeskEnd) {later : Warned} {heard : Ticking} {before after : List Passed} → IsInTime ticking
         → heard ≡ ticking → Calls sheet k l (Given bytes what) before after → before ≡ a.passed ++ Came bytes ∷ [] → later ≡ warned_after warned (loss_in (state_of k) bytes what) what → end_here (state_of k).seat bytes what ≡ Err end
         → DeskGoes sheet k l (process_of k warned turns ticking further) (process_of l later turns heard (ending end)) a (record a { passed = after })
-    hears_last {bytes = bytes} what end beats same c came tells e =
-        hears what beats same c came tells (came_course _ what end e)
-        (came_nothing sheet (innings_of k) (state_of k).seat.position.place (own_line (state_of k)) (entry_in bytes) (state_of l).book warned _ _ what end a.told e)
+    hears_last what end beats same c came tells e =
+        hears what beats same c came tells (grind arith) (grind (arith, appends_none))
 
   unmoved : {sheet : Sheet} {k : Desk S B D g h b} (call : DeskCall) {log : List Passed}
       → DeskStep sheet (view_of k) (game_of k) (innings_of k) (state_of k) call [] (state_of k) → (IsErrOf (course_after (state_of k) call) DeskEnd.Device → ⊥)
@@ -193,17 +186,6 @@ module _ {S B D : Type 0} {g : Files S D} {h : Disks D} {b : Books B} where
     typing_over beats types =
         called TypingEnded {ticking = ticking} tt beats (unmoved TypingEnded (refl, refl) (λ e. (cc))) (rw append-nil) types (rw append-nil) refl (appends_none a.told)
 
-    -- its turn is over
-    pub turn_over : {rested : Ticking} → IsSome ticking.looked → IsInTime ticking → rested ≡ record ticking { looked = None }
-        → DeskGoes sheet k k (process_of k warned turns ticking further) (process_of k warned (turns + 1) rested further) a a
-    turn_over looked beats is =
-        called TurnEnded {ticking = ticking} tt (looked, beats) (unmoved TurnEnded (refl, refl) (λ e. (cc))) (rw append-nil) (rw append-nil) (rw append-nil) (rw is) (appends_none a.told)
-
-    -- it has ticked
-    ticks : {after : List Passed} {said : Ticking} → IsSome ticking.looked → said ≡ record ticking { ticked = ticking.looked } → Calls sheet k k Ticked a.passed after
-        → DeskGoes sheet k k (process_of k warned turns ticking further) (process_of k warned turns said further) a (record a { passed = after })
-    ticks looked is c = called Ticked {ticking = ticking} tt looked c (rw append-nil) (rw append-nil) (rw append-nil) (rw is) (appends_none a.told)
-
     -- it has looked at its clock
     pub looks : {n : List ℕ} {seen : Ticking} (now : ℕ) → IsInTime ticking → n ≡ a.readings ++ now ∷ [] → seen ≡ record ticking { looked = Some now }
         → DeskGoes sheet k k (process_of k warned turns ticking further) (process_of k warned turns seen further) a (record a { readings = n })
@@ -215,18 +197,19 @@ module _ {S B D : Type 0} {g : Files S D} {h : Disks D} {b : Books B} where
         → DeskGoes sheet k k (process_of k warned turns ticking further) (process_of k warned turns seen further) a a
     unread is = rw is rests
 
+    -- it has looked at its clock, and ticked
+    pub speaks : {after : List Passed} {n : List ℕ} {said : Ticking} (now : ℕ) → IsInTime ticking → n ≡ a.readings ++ now ∷ [] → said ≡ after_look true ticking now
+        → Calls sheet k k Ticked a.passed after
+        → DeskGoes sheet k k (process_of k warned turns ticking further) (process_of k warned turns said further) a (record a { passed = after; readings = n })
+    speaks now beats times is c =
+        then (looks now beats times refl)
+        (called Ticked {ticking = record { ticked = ticking.ticked; looked = Some now }} tt refl c (rw append-nil) (rw append-nil) (rw append-nil) (rw is) (appends_none a.told))
+
     -- it has read its clock
     pub reads_clock : {n : List ℕ} {seen : Ticking} (now : ℕ) → IsInTime ticking → n ≡ a.readings ++ now ∷ [] → seen ≡ ticking
         → DeskGoes sheet k k (process_of k warned turns ticking further) (process_of k warned turns seen further) a (record a { readings = n })
     reads_clock now beats times is =
         called (Read now) {ticking = ticking} tt beats (unmoved (Read now) (refl, refl) (λ e. (cc))) (rw append-nil) (rw append-nil) times (rw is) (appends_none a.told)
-
-  module _ {sheet : Sheet} {k : Desk S B D g h b} {warned : Warned} {turns : ℕ} {ticking : Ticking} {a : Logs} where
-    -- it has looked at its clock, and ticked
-    pub speaks : {after : List Passed} {n : List ℕ} {said : Ticking} (now : ℕ) → IsInTime ticking → n ≡ a.readings ++ now ∷ [] → said ≡ after_look true ticking now
-        → Calls sheet k k Ticked a.passed after
-        → DeskGoes sheet k k (process_of k warned turns ticking further) (process_of k warned turns said further) a (record a { passed = after; readings = n })
-    speaks now beats times is c = then (looks {ticking = ticking} now beats times refl) (ticks {ticking = record { ticked = ticking.ticked; looked = Some now }} refl is c)
 
   -- ---- the calls themselves
 
@@ -318,7 +301,9 @@ module _ {S B D : Type 0} {g : Files S D} {h : Disks D} {b : Books B} where
     pub turn_done : {warned : Warned} {turns : ℕ} {ticking rested : Ticking} {u : Option (List ℕ)} → IsSome ticking.looked → IsInTime ticking
         → rested ≡ record ticking { looked = None } → DeskGoes sheet k l p (process_of l warned turns ticking further) a c → Keeps c.told u
         → DeskGoes sheet k l p (process_of l warned (turns + 1) rested further) a (record c { told = u })
-    turn_done {ticking = ticking} looked beats is v w = then (kept v w) (turn_over {ticking = ticking} looked beats is)
+    turn_done {ticking = ticking} {u = u} looked beats is v w =
+        then (kept v w) (called TurnEnded {ticking = ticking} tt (looked, beats) (unmoved TurnEnded (refl, refl) (λ e. (cc)))
+        (rw append-nil) (rw append-nil) (rw append-nil) (rw is) (appends_none u))
 
     -- its flush failed
     pub not_flushed : {T : Type 0} (r : Result T DeskEnd) (met : DeskEnd) {warned : Warned} {turns : ℕ} {ticking : Ticking} (u : Option (List ℕ))
@@ -338,5 +323,4 @@ module _ {S B D : Type 0} {g : Files S D} {h : Disks D} {b : Books B} where
 -- an answer that is passed on in a turn
 pub turn_passed_on : {T : Type 0} (r : Result T DeskEnd) (met : DeskEnd) (turns : ℕ) (P : ℕ → Course → (Logs → Logs) → Type 0)
     → IsErrAnd r (λ end. end ≡ met) → P turns (ending met) (known_until met) → P (turns_after turns r) (course_of r) (known_in r)
-turn_passed_on (Ok value) met turns P h x = absurd h
-turn_passed_on (Err end) met turns P h x = rw h x
+turn_passed_on r met turns P h x = grind arith

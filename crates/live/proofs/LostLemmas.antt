@@ -67,13 +67,6 @@ module _ (s : SeatState) (at : Position) (entry : List ℕ) where
       else is_before (position_of v) at)
   by_last desk votes v e = grind arith
 
-  -- so it is of a vote for the position of the last one, by the position that comes next after both
-  pub another_so : (desk : DeskId) (votes : List Ballot) (v : Vote) → last_vote desk votes ≡ Some v → is_at (position_of v) at ≡ true
-      → (alike : Bool) → alike ≡ bytes_eq entry (code v.entry)
-      → (next : Position) → next ≡ (if not alike then next_place (position_of v) else next_round (position_of v))
-      → (r : Bool) → r ≡ is_at next s.position → r ≡ is_another s votes at entry
-  another_so desk votes v last here alike a next n r e = grind (arith, by_last)
-
 -- a test of two entries is that of their codes
 pub is_coded : (r : Bool) (e f : Entry) → IsEntry e → IsEntry f → IsTrue r ↔ (e ≡ f) → r ≡ bytes_eq (code e) (code f)
 is_coded r e f h k same =

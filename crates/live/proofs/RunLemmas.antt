@@ -10,8 +10,7 @@ use Rattle.live.specs.Ticks.{reads}
 
 module _ {State Call : Type 0} (kind : Kind State Call) where
   last_both : (k : State) (ns ms : List (Moment State Call)) → last_of k (ns ++ ms) ≡ last_of (last_of k ms) ns
-  last_both k [] ms = refl
-  last_both k (n ∷ ns) ms = refl
+  last_both k ns ms = grind arith
 
   run_both : (k : State) (ns ms : List (Moment State Call)) → Run kind k ms → Run kind (last_of k ms) ns → Run kind k (ns ++ ms)
   run_both k [] ms r s = r

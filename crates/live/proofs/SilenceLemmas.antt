@@ -4,8 +4,7 @@ use Rattle.std.specs.Prelude.{IsSome}
 use Rattle.agree_core.specs.declared.messages.Message.{Message}
 use Rattle.agree_core.specs.FileView.{FileView}
 use Rattle.cards.specs.Sheet.{Sheet}
-use Rattle.live.specs.Boards as boards
-use Rattle.live.specs.Boards.{BoardCall, BoardTurn, board_kind}
+use Rattle.live.specs.Boards.{BoardTurn, board_kind}
 use Rattle.live.specs.Desks.{DeskProcess, DiskView, desk_kind}
 use Rattle.live.specs.Runs.{Kind, Moment, Run, last_of}
 use Rattle.live.specs.Silences.{HasTicked, IsNeverSilent}
@@ -47,12 +46,7 @@ pub desks_tick : {Disk : Type 0} (sheet : Sheet) (view : FileView Disk) (disks :
 desks_tick {Disk} sheet view disks game innings =
     never_silent (desk_kind sheet view disks game innings) (λ k l call out step. (step.5, ap (λ (p : DeskProcess Disk). p.ticking) step.3))
 
--- a board's calls are to its clock what they are
-goes_by_the_clock : (sheet : Sheet) (innings : ℕ) (k l : BoardTurn) (call : BoardCall)
-    → (boards.after_call sheet innings k call l.board).ticking ≡ after_beat k.ticking (boards.beat_of call)
-goes_by_the_clock sheet innings k l call = grind arith
-
 pub boards_tick : (sheet : Sheet) (game innings : ℕ) → IsNeverSilent (board_kind sheet game innings)
 boards_tick sheet game innings =
     never_silent (board_kind sheet game innings)
-    (λ k l call out step. (step.3, ap (λ (t : BoardTurn). t.ticking) step.2 ∙ goes_by_the_clock sheet innings k l call))
+    (λ k l call out step. (step.3, ap (λ (t : BoardTurn). t.ticking) step.2 ∙ grind arith))

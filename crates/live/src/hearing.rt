@@ -150,7 +150,7 @@ fn is_alike(entry: &Entry, other: &Entry) -> bool
 }
 
 /// Whether the other desk's vote for this earlier position, for this entry, is another than the one by which this desk went on.
-#[tactic(auto, using(crate::proofs::LostLemmas::none_cast, crate::proofs::LostLemmas::by_last))]
+#[tactic(auto, using(std::proofs::lemmas::Grind::common_steps, crate::proofs::LostLemmas::none_cast, crate::proofs::LostLemmas::by_last))]
 fn is_another_vote<S: SlotsOf, B: BookOf + Drop>(
     desk: &Desk<S, B>,
     at: Position,

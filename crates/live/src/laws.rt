@@ -41,6 +41,7 @@ pub fn reminders_come_once<S: SlotsOf>()
 
 /// A desk and a board look at their clock in each turn, and where that shows half a second more than at their last tick, they
 /// tick.
+#[tactic(auto, using(crate::proofs::SilenceLemmas::boards_tick, crate::proofs::SilenceLemmas::desks_tick))]
 pub fn stations_are_never_silent<S: SlotsOf>()
     ensures desks { (sheet : Sheet) (desk : ADesk) (game innings cap : ℕ) →
         IsNeverSilent (desk_kind sheet (file_view S.contents S.Disk.seen S.Disk.images desk game)
@@ -50,6 +51,7 @@ pub fn stations_are_never_silent<S: SlotsOf>()
 
 /// Where a desk's keys are an `Ahead`, each vote is for a line that its scorer typed before and didn't take back, each line
 /// being used at most once, in their order.
+#[tactic(auto, using(crate::proofs::BeforeLemmas::votes_typed))]
 pub fn votes_were_typed<S: SlotsOf>()
     ensures { (desk : ADesk) (game cap : ℕ) → VotesWereTyped (file_view S.contents S.Disk.seen S.Disk.images desk game)
         (record { faults = S.Disk.faults; FitsLongest = FitsLongest S.room cap }) }

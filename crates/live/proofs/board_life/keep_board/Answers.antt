@@ -1,6 +1,7 @@
+use Rattle.std.proofs.Common.{arith}
 use Rattle.streams.specs.Watched.{stream_of}
 use Rattle.live.specs.Runs.{untyped}
-use Rattle.live.proofs.BoardLemmas.{has_begun, lives_on, not_begun}
+use Rattle.live.proofs.BoardLemmas.{lives_on, not_begun}
 use Rattle.live.proofs.board_life.keep_board.Goals as goal
 
 pub returns-in_err-begin-clause-lives : goal.returns-in_err-begin-clause-lives
@@ -9,4 +10,4 @@ returns-in_err-begin-clause-lives g c =
 
 pub returns-clause-lives : goal.returns-clause-lives
 returns-clause-lives g c =
-    lives_on (untyped (g.L.Link.log c.args.link.now) (g.C.Clock.readings c.args.clock.now) (g.W.Sink.contents (stream_of c.args.out.now))) c.run_board.result c.millis.result c.millis.ensures c.in_ok-begin.ensures.text (has_begun _ c.in_ok-begin.ensures.seen) c.run_board.ensures.runs
+    lives_on (untyped (g.L.Link.log c.args.link.now) (g.C.Clock.readings c.args.clock.now) (g.W.Sink.contents (stream_of c.args.out.now))) c.run_board.result c.millis.result c.millis.ensures c.in_ok-begin.ensures.text (grind arith) c.run_board.ensures.runs

@@ -1,11 +1,10 @@
-use Rattle.std.proofs.Common.{ap, ℕ}
+use Rattle.std.proofs.Common.{ap, arith, ℕ}
 use Rattle.live.specs.Desks.{DeskGoes, process_of}
 use Rattle.live.specs.Ends.{Course, further}
 use Rattle.live.specs.Outside.{logs_of}
 use Rattle.live.specs.Paces.{Paced, ticking_of}
 use Rattle.live.specs.Runs.{Logs}
 use Rattle.live.proofs.DeskLemmas.{not_flushed, turn_done, turn_passed_on}
-use Rattle.live.proofs.TellingLemmas.{write_failed}
 use Rattle.live.proofs.desk_loop.turn.Goals as goal
 
 pub returns-in_err-act-clause-goes : goal.returns-in_err-act-clause-goes
@@ -22,7 +21,7 @@ pub returns-in_err-told-clause-goes : goal.returns-in_err-told-clause-goes
 returns-in_err-told-clause-goes g c =
     let residual = c.from_residual-in_err-told in
     let met = c.in_err-told.field-0.0 in
-    λ turns. not_flushed residual.result met _ residual.ensures.1 (write_failed c.flush.result met c.in_err-told.ensures) (c.in_ok-act.ensures.goes turns)
+    λ turns. not_flushed residual.result met _ residual.ensures.1 (grind arith) (c.in_ok-act.ensures.goes turns)
 
 pub returns-clause-goes : goal.returns-clause-goes
 returns-clause-goes g c = λ turns.
