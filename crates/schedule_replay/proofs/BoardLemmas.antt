@@ -24,14 +24,13 @@ use Rattle.schedule_replay.specs.declared.{seen.Seen.Seen, seen.WorldRefusal.Wor
 use Rattle.headline.specs.Configurations.{Running, Node, Configuration, board_at, fresh_boards, with_board}
 use Rattle.headline.specs.Events.{station_of}
 use Rattle.headline.specs.Answers.{Answer, board_told}
-use Rattle.headline.specs.BoardSteps.{AtBoard}
 use Rattle.schedule_replay.specs.Refusals.{first_cause, may_grow, may_send, no_board, refusal_of}
 use Rattle.headline.specs.Match.{match_of}
 use Rattle.schedule_replay.specs.Answers.{AreBytesOf, answer_of}
 use Rattle.headline.specs.Runs.{Begins, BeginsAt}
 use Rattle.schedule_replay.specs.inner.Sites.{BeginsSite, HasNode}
 use Rattle.world_desks.specs.WorldDesks.{state_of}
-use Rattle.schedule_replay.specs.CodeWorlds.{BeginsWorld, boards_of, match_version, IsBoardOf, HasConfiguration, MatchBoard}
+use Rattle.schedule_replay.specs.CodeWorlds.{BeginsWorld, boards_of, IsBoardOf, HasConfiguration, MatchBoard}
 use Rattle.schedule_replay.specs.CodeWorlds.{RefusesTo, StepsTo, board_game, board_innings, board_seen, board_state, code_site}
 use Rattle.schedule_replay.specs.inner.WorldBoards.{AreFresh, BoardSteps, SameBoard}
 use Rattle.schedule_replay.proofs.TakeLemmas.{sending_grows}
@@ -58,15 +57,14 @@ board_gives k l n t d answer sent there takes messages b =
     ([], board_told taken.0, taken.1, (m.0, taken.0, inl m.1, taken.2, refl, refl), no_bytes (board_game k) sent messages b)
 
 -- what a tick hands out
-pub board_ticks : (k : MatchBoard) (t : Station) (n : ℕ) (out before after : List Datagram) → AreSent (board_game k) (map (λ (d : Datagram). d.bytes) out) (BoardTicks (board_state k))
-    → n ≡ length out → after ≡ before ++ out → BoardSteps (Event.Tick t) k before (Seen.Ticked n) k after
-board_ticks k t n out before after sent long added messages b =
-    let z = ticked (board_game k) (BoardTicks (board_state k)) n out before after messages sent long added b in
-    (sent.0, Answer.Ticked n, refl, (sent.3, ap (λ (m : ℕ). Answer.Ticked m) z.0, refl), z.1)
+pub board_ticks : (k : MatchBoard) (t : Station) (said out before after : List Datagram) → AreSent (board_game k) (map (λ (d : Datagram). d.bytes) out) (BoardTicks (board_state k))
+    → said ≡ out → after ≡ before ++ said → BoardSteps (Event.Tick t) k before (Seen.Ticked (length said)) k after
+board_ticks k t said out before after sent is added messages b =
+    let z = ticked (board_game k) (BoardTicks (board_state k)) said out before after messages sent is added b in
+    (sent.0, Answer.Ticked (length said), refl, (sent.3, ap Answer.Ticked z.0, refl), z.1)
 
--- the world has this board in the place of that number
-pub record PutsBoard (n : ℕ) (old new : World) (l : MatchBoard) : Type 0 where
-  pub there : new.boards.items ≡ slice_set old.boards.items (n - 1) l
+-- the world has the same desks, in the same match
+pub record SameDesks (old new : World) : Type 0 where
   pub a : new.a ≡ old.a
   pub b : new.b ≡ old.b
   pub same_game : new.game ≡ old.game
@@ -81,18 +79,6 @@ pub record IsThere (n : ℕ) (old : World) (event : Event) (k : MatchBoard) : Ty
 site_stays : (old new : World) (d : DeskId) → new.a ≡ old.a → new.b ≡ old.b → code_site new d ≡ code_site old d
 site_stays old new d a b = grind arith
 
--- the first cause against an event at a board
-cause_is : (n : ℕ) (old : World) (w : Configuration MemDisk) (event : Event) → station_of event ≡ Station.Board n → HasConfiguration old w
-    → refusal_of w event ≡ first_cause (no_board (length old.boards.items) n) false (length old.sent.items) event
-cause_is n old w event e h = grind (
-  arith,
-  nat_tests,
-  h.board_states,
-  slice_get-map board_state old.boards.items,
-  slice_get_cases old.boards.items,
-  sent_length old.game old.sent.items w.sent h.bytes,
-)
-
 -- where no cause stands there is the board of this number
 pub is_there : {n many : ℕ} {old : World} (event : Event) {k : MatchBoard} {missing : Bool} → missing ≡ no_board many n
     → many ≡ length old.boards.items → first_cause missing false (length old.sent.items) event ≡ None → k ≡ get_or old.boards.items (n - 1) k
@@ -100,60 +86,24 @@ pub is_there : {n many : ℕ} {old : World} (event : Event) {k : MatchBoard} {mi
 is_there {n = n} {old = old} event {k = k} m many none e =
     grind (arith, nat_tests, slice_get-get_or old.boards.items (n - 1) k)
 
--- the world after one of its boards has changed
-put : (n : ℕ) (old new : World) (l : MatchBoard) (w : Configuration MemDisk) (out : List Message) → PutsBoard n old new l → IsBoardOf old.game old.innings_a_side l → HasConfiguration old w
-    → AreBytesOf old.game new.sent.items (w.sent ++ out) → HasConfiguration new (record w { boards = with_board w.boards (suc (n - 1)) (board_state l); sent = w.sent ++ out })
-put n old new l w out c owner h b = grind (
-  arith,
-  site_stays old new,
-  h.sites,
-  h.named,
-  map-set board_state old.boards.items (n - 1) l,
-  All-set (IsBoardOf old.game old.innings_a_side) old.boards.items (n - 1) l owner h.boards_are,
-)
-
--- what a board's step gives, by the match's names
-abbrev BoardGives : Event → MatchBoard → List Message → Seen → MatchBoard → List Datagram → ℕ → ℕ → Type 0
-BoardGives event k messages seen l after game innings =
-    (out : List Message) × (answer : Answer Refusal) × (answer_of seen ≡ Some answer)
-    × AtBoard (match_of game innings) messages event (board_state k) answer (board_state l) out
-    × AreBytesOf game after (messages ++ out)
-
--- an event that a board has taken
-pub board_steps : (n : ℕ) (old new : World) (k l : MatchBoard) (event same : Event) (seen : Seen) (before after : List Datagram) → station_of event ≡ Station.Board n → IsThere n old event k
-    → PutsBoard n old new l → (IsBoardOf old.game old.innings_a_side k → IsBoardOf old.game old.innings_a_side l) → event ≡ same → before ≡ old.sent.items → after ≡ new.sent.items
-    → BoardSteps same k before seen l after → StepsTo event old seen new
-board_steps n old new k l event same seen before after e t c owner q b a steps w h =
-    let of = all_at (IsBoardOf old.game old.innings_a_side) old.boards.items (n - 1) k h.boards_are t.here in
-    let own : AreBytesOf (board_game k) before w.sent = rw (of.same_game, b) h.bytes in
-    let given : BoardGives event k w.sent seen l after old.game old.innings_a_side = rw (← of.same_game, ← of.same_innings, q) (steps w.sent own) in
-    let there : board_at w.boards (suc (n - 1)) ≡ Some (board_state k) = grind (arith, h.board_states, t.here, slice_get-map board_state old.boards.items) in (
-      cause_is n old w event e h ∙ t.none,
-      (
-        given.1,
-        record w { boards = with_board w.boards (suc (n - 1)) (board_state l); sent = w.sent ++ given.0 },
-        given.2,
-        rw (e ∙ ap Station.Board t.number) (board_state k, board_state l, given.0, there, given.3, refl),
-        put n old new l w given.0 c (owner of) h (rw (← a) given.4),
-        λ d f. absurd (let z = sym e ∙ f in cc),
-        λ none d fault due. grind arith,
-      ),
-    )
-
 pub same_owner : (game innings : ℕ) (k l : MatchBoard) → SameBoard k l → IsBoardOf game innings k → IsBoardOf game innings l
 same_owner game innings k l s of = record { same_game = s.same_game ∙ of.same_game; same_innings = s.same_innings ∙ of.same_innings }
 
--- the messages have room for more, and all else is as it was
-pub record StaysSo (old new : World) : Type 0 where
-  pub a : new.a ≡ old.a
-  pub b : new.b ≡ old.b
-  pub boards : new.boards.items ≡ old.boards.items
-  pub sent : new.sent.items ≡ old.sent.items
-  pub same_game : new.game ≡ old.game
-  pub same_innings : new.innings_a_side ≡ old.innings_a_side
+module _ (old new : World) (same : SameDesks old new) (w : Configuration MemDisk) (h : HasConfiguration old w) where
+  -- the world after one of its boards has changed
+  put : (at : ℕ) (l : MatchBoard) (out : List Message) → new.boards.items ≡ slice_set old.boards.items at l → IsBoardOf old.game old.innings_a_side l
+      → AreBytesOf old.game new.sent.items (w.sent ++ out) → HasConfiguration new (record w { boards = slice_set w.boards at (board_state l); sent = w.sent ++ out })
+  put at l out c owner b = grind (
+    arith,
+    site_stays old new,
+    h.sites,
+    h.named,
+    map-set board_state old.boards.items at l,
+    All-set (IsBoardOf old.game old.innings_a_side) old.boards.items at l owner h.boards_are,
+  )
 
-stays : (old new : World) (w : Configuration MemDisk) → StaysSo old new → HasConfiguration old w → HasConfiguration new w
-stays old new w s h = grind (arith, site_stays old new, h.sites, h.named)
+  stays : new.boards.items ≡ old.boards.items → new.sent.items ≡ old.sent.items → HasConfiguration new w
+  stays boards sent = grind (arith, site_stays old new, h.sites, h.named)
 
 -- a cause stands against it, or there is no memory, which it may want
 abbrev pub WhyNot : (Event → Bool) → ℕ → World → Event → WorldRefusal → Type 0
@@ -161,29 +111,54 @@ WhyNot may n old event why =
     let cause = first_cause (no_board (length old.boards.items) n) false (length old.sent.items) event in
     (cause ≡ Some why) ⊎ ((cause ≡ None) × (why ≡ WorldRefusal.NoMemory) × (may event ≡ true))
 
--- an event that a board hasn't taken
-pub board_refuses : (n : ℕ) (old new : World) (event : Event) (why : WorldRefusal) → station_of event ≡ Station.Board n → StaysSo old new
-    → WhyNot may_grow n old event why → RefusesTo event old why new
-board_refuses n old new event why e s c w h = (w, grind (arith, cause_is n old w event e h), stays old new w s h)
+module _ (n : ℕ) (old new : World) (event : Event) (e : station_of event ≡ Station.Board n) (same : SameDesks old new) where
+  -- the first cause against an event at a board
+  cause_is : (w : Configuration MemDisk) → HasConfiguration old w
+      → refusal_of w event ≡ first_cause (no_board (length old.boards.items) n) false (length old.sent.items) event
+  cause_is w h = grind (
+    arith,
+    nat_tests,
+    h.board_states,
+    slice_get-map board_state old.boards.items,
+    slice_get_cases old.boards.items,
+    sent_length old.game old.sent.items w.sent h.bytes,
+  )
 
--- one that was refused before anything was done, out of memory where it may send
-pub board_admits_not : (n : ℕ) (old new : World) (event : Event) (why : WorldRefusal) → station_of event ≡ Station.Board n → StaysSo old new
-    → WhyNot may_send n old event why → RefusesTo event old why new
-board_admits_not n old new event why e s c = board_refuses n old new event why e s (grind (arith, sending_grows event))
+  -- an event that a board has taken
+  pub board_steps : (k l : MatchBoard) (seen : Seen) → IsThere n old event k → new.boards.items ≡ slice_set old.boards.items (n - 1) l
+      → (IsBoardOf old.game old.innings_a_side k → IsBoardOf old.game old.innings_a_side l) → BoardSteps event k old.sent.items seen l new.sent.items → StepsTo event old seen new
+  board_steps k l seen t put_there owner steps w h =
+      let of = all_at (IsBoardOf old.game old.innings_a_side) old.boards.items (n - 1) k h.boards_are t.here in
+      let given = rw (of.same_game, of.same_innings) at (steps w.sent (rw of.same_game h.bytes)) in
+      let there : board_at w.boards (suc (n - 1)) ≡ Some (board_state k) = grind (arith, h.board_states, t.here, slice_get-map board_state old.boards.items) in (
+        cause_is w h ∙ t.none,
+        (
+          given.1,
+          record w { boards = with_board w.boards (suc (n - 1)) (board_state l); sent = w.sent ++ given.0 },
+          given.2,
+          rw (e ∙ ap Station.Board t.number) (board_state k, board_state l, given.0, there, given.3, refl),
+          put old new same w h (n - 1) l given.0 put_there (owner of) given.4,
+          λ d f. absurd (let z = sym e ∙ f in cc),
+          λ none d fault due. grind arith,
+        ),
+      )
 
--- the board begins empty, or is as it was where it is out of memory
-pub wipes : (n m : ℕ) (old new : World) (k l : MatchBoard) (event : Event) (result : Result Seen WorldRefusal)
-    → station_of event ≡ Station.Board n → IsThere n old event k → PutsBoard n old new l → event ≡ Event.Wipe m → new.sent.items ≡ old.sent.items
-    → IfOk result (λ seen. (n : ℕ) (sent : List Datagram) → BoardSteps (Event.Wipe n) k sent seen l sent)
-    → OnOk result (IsBoardOf old.game old.innings_a_side l) → IfErr result (λ why. (why ≡ WorldRefusal.NoMemory) × (l ≡ k))
-    → IfOk result (λ seen. StepsTo event old seen new) × IfErr result (λ why. RefusesTo event old why new)
-wipes n m old new k l event (Ok seen) e t c q items steps owner refused = (
-  board_steps n old new k l event (Event.Wipe m) seen old.sent.items old.sent.items e t c (λ of. owner) q refl (sym items) (steps m old.sent.items),
-  tt,
-)
-wipes n m old new k l event (Err why) e t c q items steps owner (want, same) =
-    let boards : new.boards.items ≡ old.boards.items = grind (arith, c.there, get_or_from_slice_get old.boards.items (n - 1) k k t.here, set-get_or old.boards.items (n - 1) k) in
-    (tt, board_refuses n old new event why e (grind (arith, c, items)) (inr (t.none, want, ap may_grow q)))
+  -- an event that a board hasn't taken; where it was refused before anything was done it is out of memory for what it may send
+  pub board_refuses : (why : WorldRefusal) → new.boards.items ≡ old.boards.items → new.sent.items ≡ old.sent.items → WhyNot may_grow n old event why → RefusesTo event old why new
+  board_refuses why boards sent c w h = (w, grind (arith, cause_is w h), stays old new same w h boards sent)
+
+  pub board_admits_not : (why : WorldRefusal) → new.boards.items ≡ old.boards.items → new.sent.items ≡ old.sent.items → WhyNot may_send n old event why → RefusesTo event old why new
+  board_admits_not why boards sent c = board_refuses why boards sent (grind (arith, sending_grows event))
+
+  -- the board begins empty, or is as it was where it is out of memory
+  pub wipes : (m : ℕ) (k l : MatchBoard) (result : Result Seen WorldRefusal) → event ≡ Event.Wipe m → IsThere n old event k
+      → new.boards.items ≡ slice_set old.boards.items (n - 1) l → new.sent.items ≡ old.sent.items → IfOk result (λ seen. (n : ℕ) (sent : List Datagram) → BoardSteps (Event.Wipe n) k sent seen l sent)
+      → OnOk result (IsBoardOf old.game old.innings_a_side l) → IfErr result (λ why. (why ≡ WorldRefusal.NoMemory) × (l ≡ k))
+      → IfOk result (λ seen. StepsTo event old seen new) × IfErr result (λ why. RefusesTo event old why new)
+  wipes m k l (Ok seen) q t put_there items steps owner refused = (board_steps k l seen t put_there (λ of. owner) (rw (q, items) (steps m old.sent.items)), tt)
+  wipes m k l (Err why) q t put_there items steps owner (want, is) =
+      let boards : new.boards.items ≡ old.boards.items = grind (arith, put_there, get_or_from_slice_get old.boards.items (n - 1) k k t.here, set-get_or old.boards.items (n - 1) k) in
+      (tt, board_refuses why boards items (inr (t.none, want, ap may_grow q)))
 
 -- a desk that was just created
 site_begins : (version : FileVersion) (name : DeskId) (game innings : ℕ) (site : Site) → BeginsSite version name game innings site
@@ -213,9 +188,7 @@ begins world version boards a b fresh sent =
       bytes = (All-nil IsMessage, ap (map (λ (d : Datagram). d.bytes)) sent);
     } in
     let begin : Begins (match_of world.game world.innings_a_side) version boards w = record { a = x.2; b = y.2; boards_are_fresh = refl; nothing_sent = refl } in
-    let own : Begins (match_of world.game world.innings_a_side) (match_version world) (boards_of world) w =
-    subst (λ (v : FileVersion). Begins (match_of world.game world.innings_a_side) v (boards_of world) w) (sym a.same_version)
-    (subst (λ (n : ℕ). Begins (match_of world.game world.innings_a_side) version n w) (sym many) begin) in
+    let own = subst (λ (v : FileVersion). Begins (match_of world.game world.innings_a_side) v (boards_of world) w) (sym a.same_version) (rw many begin) in
     record { is_new = (w, is, own); same_game = refl; same_innings = refl; same_version = a.same_version; same_boards = many }
 
 -- one board more

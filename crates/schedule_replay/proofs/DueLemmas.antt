@@ -9,9 +9,9 @@ use Rattle.headline.specs.declared.fault.Fault.{Fault}
 use Rattle.schedule_replay.specs.declared.{seen.Cause.Cause, seen.Seen.Seen, seen.WorldRefusal.WorldRefusal, site.Site.Site}
 use Rattle.world_desks.specs.declared.world_desk.WorldDesk.{WorldDesk}
 use Rattle.schedule_replay.specs.Answers.{is_failing}
-use Rattle.schedule_replay.specs.Plans.{due_on}
-use Rattle.schedule_replay.specs.inner.Sites.{AfterRefusal, BreaksDown, KeepsDue, NotFoundBy, disk_at}
+use Rattle.schedule_replay.specs.inner.Sites.{AfterRefusal, BreaksDown, KeepsDue, NotFoundBy, SameSite, disk_at}
 use Rattle.world_desks.specs.WorldDesks.{disk_of}
+use Rattle.schedule_replay.proofs.SiteLemmas.{broken_same}
 
 -- from one disk to another, on which the same is due
 pub keeps_from : (old new : Site) (before after : MemDisk) → disk_at old.desk old.disk ≡ Some before → disk_at new.desk new.disk ≡ Some after
@@ -43,12 +43,14 @@ keeps_refused why old new k l seen here same r = grind (
   breaks_none old.due (Cause.Desk why) (record old { desk = Some l }) seen new,
 )
 
--- the votes of a desk that is down aren't found
-pub keeps_not_found : (memory failing : Bool) (cause : Cause) (old mid new : Site) (result : Result Seen WorldRefusal)
-    → (failing ≡ false → KeepsDue old mid) → NotFoundBy memory failing cause mid result new → OnOk result (KeepsDue old new)
-keeps_not_found memory failing cause old mid new result f n =
-    let none = λ (seen : Seen). breaks_none mid.due cause mid seen new in
-    grind (arith, f, keeps_none old new, none)
+-- the votes of a desk that is down aren't found: so it is then, at a site of the same match
+pub keeps_not_found : (memory failing : Bool) (cause : Cause) (old new : Site) (disk : Option MemDisk) (result : Result Seen WorldRefusal)
+    → (failing ≡ false → KeepsDue old (record old { disk = disk })) → NotFoundBy memory failing cause (record old { disk = disk }) result new
+    → OnOk result (KeepsDue old new) × SameSite old new
+keeps_not_found memory failing cause old new disk result f n =
+    let none = λ (seen : Seen). breaks_none old.due cause (record old { disk = disk }) seen new in
+    let same = λ (seen : Seen). broken_same old.due cause old new old.desk disk seen in
+    (grind (arith, f, keeps_none old new, none), grind (arith, same))
 
 pub no_failure : (why : VotesRefusal) → is_failing why ≡ false → why ≡ VotesRefusal.File Refusal.Device → ⊥
 no_failure why n e = true≢false (sym (ap is_failing e) ∙ n)

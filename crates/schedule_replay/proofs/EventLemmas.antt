@@ -1,8 +1,8 @@
 -- A tick, an end, a fault and an opening at a site are steps of the definitions there.
-use Rattle.std.proofs.Common.{arith, ◌≡◌, ℕ, Option, Some, None, List, [], ◌++◌, length, map, refl, sym, ap, ◌∙◌, subst}
+use Rattle.std.proofs.Common.{arith, ◌≡◌, ℕ, Some, None, List, [], ◌++◌, length, map, refl, sym, ap, ◌∙◌, subst}
 use Rattle.std.specs.Prelude.{option_map}
-use Rattle.std.specs.Option.{is_none, is_some}
 use Rattle.entry_log.specs.Disk.{Images, IsImage, only}
+use Rattle.entry_log.proofs.Running.{each_image}
 use Rattle.entry_log.specs.Format.{contents}
 use Rattle.entry_log.specs.MemDisk.{SetsPlan, call_count, cap_of, faults_of, file_of, images_of, plan_of}
 use Rattle.entry_log.specs.Plan.{due_of}
@@ -23,16 +23,16 @@ use Rattle.headline.specs.Match.{format_of, match_of}
 use Rattle.schedule_replay.proofs.OpenLemmas.{down_at, stays_down}
 use Rattle.schedule_replay.specs.inner.Sites.{HasNode, IsDue, PutsDown, SiteSteps, disk_at}
 use Rattle.world_desks.specs.WorldDesks.{SameOwner, disk_of, game_of, state_of}
-use Rattle.schedule_replay.proofs.SiteLemmas.{HasDisk, no_bytes, only_one, put_down_is, running_is, runs_again, sets_plan_stays, site_disk, ticked}
+use Rattle.schedule_replay.proofs.SiteLemmas.{HasDisk, no_bytes, put_down_is, running_is, runs_again, sets_plan_stays, site_disk, ticked}
 
 -- what a tick hands out
-pub ticks : (site : Site) (k : WorldDesk) (t : Station) (n : ℕ) (out before after : List Datagram) → site.desk ≡ Some k
-    → AreSent (game_of k) (map (λ (d : Datagram). d.bytes) out) (Ticks (state_of k)) → n ≡ length out → after ≡ before ++ out → SiteSteps (Event.Tick t) site before (Seen.Ticked n) site after
-ticks site k t n out before after here sent long added x messages h b =
+pub ticks : (site : Site) (k : WorldDesk) (t : Station) (said out before after : List Datagram) → site.desk ≡ Some k → AreSent (game_of k) (map (λ (d : Datagram). d.bytes) out) (Ticks (state_of k))
+    → said ≡ out → after ≡ before ++ said → SiteSteps (Event.Tick t) site before (Seen.Ticked (length said)) site after
+ticks site k t said out before after here sent is added x messages h b =
     let r = running_is site k x here h in
     let s = rw r.owner.same_game at sent in
-    let z = ticked site.game (Ticks (state_of k)) n out before after messages s long added b in
-    (x, s.0, Answer.Ticked n, refl, (state_of k, r.process, s.3, ap Answer.Ticked z.0, refl), h, z.1)
+    let z = ticked site.game (Ticks (state_of k)) said out before after messages s is added b in
+    (x, s.0, Answer.Ticked (length said), refl, (state_of k, r.process, s.3, ap Answer.Ticked z.0, refl), h, z.1)
 
 calm_disk : (site : Site) (x : Node MemDisk) → HasNode site x → HasDisk (record site { due = None }) x.process
 calm_disk site x h = grind (arith, site_disk site x h)
@@ -68,7 +68,7 @@ powers old mid new choice there left sent put at image images cap calm is x mess
     let shows = Rattle.vote_store.specs.View.votes_shown (contents (format_of x.version)) old.name old.game in
     let loses : LosesPower ((match_of old.game old.innings_a_side).view old.name x.version) (process_disk x.process) left = (
       (file_of left, subst (λ (z : Images). IsImage z (file_of left)) plan.images image, refl),
-      λ shown i. sym i.2 ∙ ap shows (only_one (file_of left) i.0 (subst (λ (z : Images). IsImage z i.0) images i.1)),
+      λ shown i. sym i.2 ∙ ap shows (each_image (images_of left) (file_of left) i.0 images i.1),
     ) in
     (y, [], Answer.Done, refl, (left, loses, refl, refl, refl), site, no_bytes old.game sent messages b)
 
@@ -99,7 +99,3 @@ module _ (old : Site) (fault : Fault) (plan : Plan) (event : Event) (step : Faul
       let y : Node MemDisk = record x { process = Down d.votes left; due = Some fault } in
       let falls = step x y messages (left, rw d.process (sets_plan_stays old.name x.version old.game plan disk left sets), grind (arith, d.process)) in
       (y, [], Answer.Done, refl, falls, stays_down old disk left (Some fault) x down h d sets.cap (is_due left sets.plan), no_bytes old.game sent messages b)
-
--- of a whole site that is neither running nor down there is none
-pub nowhere : (desk : Option WorldDesk) (disk : Option MemDisk) → is_some disk ≡ is_none desk → desk ≡ None → disk ≡ None → ⊥
-nowhere desk disk w d l = absurd (cc)

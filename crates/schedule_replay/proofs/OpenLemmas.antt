@@ -1,5 +1,5 @@
 -- Opening the file of a site whose desk is down is a step of the definitions there.
-use Rattle.std.proofs.Common.{arith, ◌≡◌, ℕ, Bool, Option, Some, None, List, [], length, refl, sym, ap, subst, inl, Result, Ok, Err}
+use Rattle.std.proofs.Common.{arith, ◌≡◌, ℕ, Option, Some, None, List, [], length, refl, sym, ap, subst, inl, Result, Ok, Err}
 use Rattle.std.specs.Option.{is_none, is_some}
 use Rattle.std.specs.Bool.{⊤}
 use Rattle.std.specs.Prelude.{IfOk, OnErr}
@@ -23,16 +23,16 @@ use Rattle.desk.specs.declared.refusal.OpenRefusal.TheVariants.{BadVotes, Votes}
 use Rattle.headline.specs.declared.{event.Event.Event, fault.Fault.Fault, version.FileVersion.FileVersion}
 use Rattle.schedule_replay.specs.declared.{seen.Cause.Cause, seen.Seen.Seen, seen.WorldRefusal.WorldRefusal, site.Site.Site}
 use Rattle.world_desks.specs.declared.world_desk.WorldDesk.{WorldDesk}
-use Rattle.headline.specs.Configurations.{Process, Running, Down, Node, process_disk, with_disk}
+use Rattle.headline.specs.Configurations.{Running, Down, Node, process_disk}
 use Rattle.headline.specs.Answers.{Answer}
 use Rattle.headline.specs.DeskFaults.{StaysDown, StaysDownBy}
 use Rattle.headline.specs.DeskAnswers.{AfterOpen}
 use Rattle.headline.specs.Match.{match_of}
 use Rattle.headline.specs.Setting.{Setting}
 use Rattle.schedule_replay.specs.Answers.{answer_of, is_failing, wants_memory}
-use Rattle.schedule_replay.specs.inner.Sites.{BreaksDown, IsDue, HasNode, IsWorldDisk, NotFoundBy, SameSite, SiteSteps, SyncsSite}
+use Rattle.schedule_replay.specs.inner.Sites.{BreaksDown, IsDue, HasNode, IsWorldDisk, NotFoundBy, SiteSteps, SyncsSite}
 use Rattle.world_desks.specs.WorldDesks.{IsWorldDeskOf, disk_of, state_of}
-use Rattle.schedule_replay.proofs.SiteLemmas.{HasDisk, broken, broken_same, no_bytes}
+use Rattle.schedule_replay.proofs.SiteLemmas.{HasDisk, broken, no_bytes}
 
 -- a site whose desk is down
 pub record IsDown (site : Site) (disk : MemDisk) (x : Node MemDisk) : Type 0 where
@@ -42,8 +42,7 @@ pub record IsDown (site : Site) (disk : MemDisk) (x : Node MemDisk) : Type 0 whe
   pub on_disk : IsWorldDisk site.version site.due disk
 
 pub down_at : (site : Site) (disk : MemDisk) (x : Node MemDisk) → site.desk ≡ None → site.disk ≡ Some disk → HasNode site x → IsDown site disk x
-down_at site disk x down there h =
-    let p = rw (down, there) at h.process in record { votes = p.1.0; many = p.1.1; process = p.1.2; on_disk = p.0 }
+down_at site disk x down there h = grind arith
 
 -- it stays down on this disk
 pub stays_down : (site : Site) (disk left : MemDisk) (due : Option Fault) (x : Node MemDisk) → site.desk ≡ None → HasNode site x → (d : IsDown site disk x) → cap_of left ≡ cap_of disk
@@ -61,13 +60,10 @@ broken_down old new disk left x v cause seen down h d cap calm spent told b =
     d.on_disk.faults calm (λ once. stays_down old disk left None x down h d cap (spent once)) has (refl, refl) (λ lowered s. (lowered, refl, s, refl)) told b
 
 -- what comes of opening or migrating: a step of the definitions, or out of memory
-abbrev pub Outcome : (List Datagram → Site → Seen → Site → Type 0) → Site → Result Seen WorldRefusal → Site → Type 0
-Outcome Steps old result new =
-    IfOk result (λ seen. (sent : List Datagram) → Steps sent old seen new)
+abbrev pub Outcome : Event → Site → Result Seen WorldRefusal → Site → Type 0
+Outcome event old result new =
+    IfOk result (λ seen. (sent : List Datagram) → SiteSteps event old sent seen new sent)
     × OnErr result ((result ≡ Err WorldRefusal.NoMemory) × SyncsSite old new)
-
-abbrev pub OpenSteps : List Datagram → Site → Seen → Site → Type 0
-OpenSteps sent old seen new = SiteSteps (Event.Open old.name) old sent seen new sent
 
 abbrev pub ViewAt : Site → FileVersion → FileView MemDisk
 ViewAt site version = (λ (s : Setting MemDisk Refusal). s.view site.name version) (match_of site.game site.innings_a_side)
@@ -91,10 +87,7 @@ OpenBlame disk why left = BlamesDisk {T = WorldDesk} device ⊤ (Err why) (fault
 
 -- a site that stays
 pub stays_so : (old : Site) → SyncsSite old old
-stays_so old x h = (process_disk x.process, inl (refl, λ image. (λ i. i, λ i. i)), rw (same_disk x.process) h)
-  where
-    same_disk : (p : Process MemDisk) → with_disk p (process_disk p) ≡ p
-    same_disk p = grind arith
+stays_so old x h = (process_disk x.process, inl (refl, λ image. (λ i. i, λ i. i)), grind arith)
 
 module _ (old new : Site) (disk left : MemDisk) (down : old.desk ≡ None) (there : old.disk ≡ Some disk) (cap : cap_of left ≡ cap_of disk) where
   -- it stays down, with what is due
@@ -111,7 +104,7 @@ module _ (old new : Site) (disk left : MemDisk) (down : old.desk ≡ None) (ther
     not_sound : (why : OpenRefusal) (told : openings.OpenRefusal) (answer : Answer Refusal) → Opens (ViewAt old old.version) (RulesAt old) old.name disk (NotOpened told left)
         → ((x : Node MemDisk) (votes : List Ballot) → AfterOpen (ViewAt old x.version) x votes (NotOpened told left) answer (record x { process = Down votes left }))
         → faults_of left ≡ faults_of disk → answer_of (Seen.Refused (Cause.Open why)) ≡ Some answer
-        → (result ≡ Ok (Seen.Refused (Cause.Open why))) × (new ≡ record old { disk = Some left }) → Outcome OpenSteps old result new
+        → (result ≡ Ok (Seen.Refused (Cause.Open why))) × (new ≡ record old { disk = Some left }) → Outcome (Event.Open old.name) old result new
     not_sound why told answer opens after faults says (r, e) = rw r (
       λ sent x messages h b.
           let d = down_at old disk x down there h in
@@ -121,7 +114,7 @@ module _ (old new : Site) (disk left : MemDisk) (down : old.desk ≡ None) (ther
     )
 
     failing : MaySync (ViewAt old old.version) disk left → OpenBlame disk device left
-        → (seen : Seen) × (result ≡ Ok seen) × BreaksDown old.due (Cause.Open device) (record old { disk = Some left }) seen new → Outcome OpenSteps old result new
+        → (seen : Seen) × (result ≡ Ok seen) × BreaksDown old.due (Cause.Open device) (record old { disk = Some left }) seen new → Outcome (Event.Open old.name) old result new
     failing may blame (seen, r, broke) = rw r (
       λ sent x messages h b.
           let d = down_at old disk x down there h in
@@ -132,21 +125,16 @@ module _ (old new : Site) (disk left : MemDisk) (down : old.desk ≡ None) (ther
 
     -- the votes file refused
     pub not_found : (why : VotesRefusal) → Opens (ViewAt old old.version) (RulesAt old) old.name disk (NotOpened (open_cause (Votes why)) left) → OpenBlame disk (Votes why) left
-        → NotFoundBy (wants_memory why) (is_failing why) (Cause.Open (Votes why)) (record old { disk = Some left }) result new → Outcome OpenSteps old result new
+        → NotFoundBy (wants_memory why) (is_failing why) (Cause.Open (Votes why)) (record old { disk = Some left }) result new → Outcome (Event.Open old.name) old result new
     not_found VotesRefusal.NoMemory o blame n = rw n.0 (tt, (refl, syncs o (blame.same (λ q. (cc))) n.1))
     not_found (VotesRefusal.File files.Device) o blame n = failing o blame n
     not_found why o blame n = not_sound (Votes why) openings.OpenRefusal.Unsound Answer.Unsound o (λ x v. (refl, refl)) (blame.same (λ q. (cc))) refl n
 
     -- the votes are no book
     pub bad_votes : (place : ℕ) → Opens (ViewAt old old.version) (RulesAt old) old.name disk (NotOpened (openings.OpenRefusal.BadVotes place) left) → OpenBlame disk (BadVotes place) left
-        → (result ≡ Ok (Seen.Refused (Cause.Open (BadVotes place)))) × (new ≡ record old { disk = Some left }) → Outcome OpenSteps old result new
+        → (result ≡ Ok (Seen.Refused (Cause.Open (BadVotes place)))) × (new ≡ record old { disk = Some left }) → Outcome (Event.Open old.name) old result new
     bad_votes place o blame n =
         not_sound (BadVotes place) (openings.OpenRefusal.BadVotes place) Answer.NoBook o (λ x v. (refl, refl)) (blame.same (λ q. (cc))) refl n
-
--- the site after that is of the same match
-pub not_found_same : (memory fails : Bool) (cause : Cause) (old new : Site) (disk : Option MemDisk) (result : Result Seen WorldRefusal)
-    → NotFoundBy memory fails cause (record old { disk = disk }) result new → SameSite old new
-not_found_same memory fails cause old new disk result n = let broken = λ (seen : Seen). broken_same old.due cause old new old.desk disk seen in grind (arith, broken)
 
 -- a whole site whose desk is down has a disk
 pub some_disk : (desk : Option WorldDesk) (disk : Option MemDisk) → is_some disk ≡ is_none desk → desk ≡ None → (d : MemDisk) × (disk ≡ Some d)

@@ -16,21 +16,15 @@ use Rattle.schedule_replay.specs.declared.{seen.Cause.Cause, seen.Seen.Seen, sit
 use Rattle.world_desks.specs.declared.world_desk.WorldDesk.{WorldDesk}
 use Rattle.headline.specs.Configurations.{Running, Node}
 use Rattle.headline.specs.DeskAnswers.{AfterPen}
-use Rattle.headline.specs.Match.{match_of}
+use Rattle.headline.specs.Match.{match_of, most_bytes}
 use Rattle.schedule_replay.specs.Answers.{answer_of, told_to_pen}
 use Rattle.schedule_replay.specs.inner.Sites.{AfterRefusal, RefusedBy, SameSite, SiteSteps}
-use Rattle.world_desks.specs.WorldDesks.{FitsOneMore, SameOwner, disk_of, game_of, rules_of, state_of, view_of}
-use Rattle.schedule_replay.proofs.SiteLemmas.{Runs, broken_same, broken_site, has_room, more_bytes, no_bytes, of_match, running_is, runs_on, own_votes}
+use Rattle.world_desks.specs.WorldDesks.{FitsOneMore, SameOwner, disk_of, game_of, rules_of, state_of, version_of, view_of}
+use Rattle.schedule_replay.proofs.SiteLemmas.{broken_same, broken_site, has_room, more_bytes, no_bytes, running_is, runs_on, own_votes}
 
 abbrev pub PenSteps : WorldDesk → Entry → Result Penned DeskRefusal → WorldDesk → Type 0
 PenSteps k e told l =
     AreSent (game_of k) (sent told) (λ out. Pens (view_of k) (rules_of k) (state_of k) e (pen_answer told) (state_of l) out)
-
--- the same by the match's names
-penned_as : (old : Site) (k l : WorldDesk) (e : Entry) (told : Result Penned DeskRefusal) (x : Node MemDisk) → Runs old k x → PenSteps k e told l
-    → AreSent old.game (sent told) (λ out. Pens ((match_of old.game old.innings_a_side).view old.name x.version) (match_of old.game old.innings_a_side).rules (state_of k) e (pen_answer told) (state_of l) out)
-penned_as old k l e told x runs step =
-    of_match old k x runs (λ view rules game. AreSent game (sent told) (λ out. Pens view rules (state_of k) e (pen_answer told) (state_of l) out)) step
 
 abbrev pub PenBlame : WorldDesk → Result Penned DeskRefusal → WorldDesk → Type 0
 PenBlame k told l = BlamesDisk DeskRefusal.Device (FitsOneMore k) told (faults_of (disk_of k)) (faults_of (disk_of l))
@@ -40,41 +34,39 @@ after_pen : (view : FileView MemDisk) (x : Node MemDisk) (told : PenAnswer Refus
     → AfterPen view x told l (told_to_pen told) (record x { process = Running l })
 after_pen view x told l n = grind arith
 
--- the desk of a site has penned, or refused to
-pub pen_runs_on : (old : Site) (k l : WorldDesk) (e : Entry) (told : Result Penned DeskRefusal) (seen : Seen) (before after : List Datagram) → old.desk ≡ Some k → PenSteps k e told l → SameOwner k l
-    → faults_of (disk_of l) ≡ faults_of (disk_of k) → pen_answer told ≢ PenAnswer.DeviceFailed → answer_of seen ≡ Some (told_to_pen (pen_answer told))
-    → map (λ (d : Datagram). d.bytes) after ≡ map (λ (d : Datagram). d.bytes) before ++ sent told → SiteSteps (Event.Pen old.name e) old before seen (record old { desk = Some l }) after
-pen_runs_on old k l e told seen before after here step owner faults n a bytes x messages h b =
-    let r = running_is old k x here h in
-    let penned = penned_as old k l e told x r step in (
-      record x { process = Running (state_of l) },
-      penned.0,
-      told_to_pen (pen_answer told),
-      a,
-      (state_of k, state_of l, pen_answer told, r.process, penned.3, after_pen ((match_of old.game old.innings_a_side).view old.name x.version) x (pen_answer told) (state_of l) n),
-      runs_on old k l x here h owner faults,
-      more_bytes old.game before after messages penned.0 (sent told) b penned.1 penned.2 bytes,
-    )
+module _ (old : Site) (k l : WorldDesk) (e : Entry) (before : List Datagram) (here : old.desk ≡ Some k) (owner : SameOwner k l) where
+  -- the desk of a site has penned, or refused to
+  pub pen_runs_on : (told : Result Penned DeskRefusal) (seen : Seen) (after : List Datagram) → PenSteps k e told l → PenBlame k told l
+      → pen_answer told ≢ PenAnswer.DeviceFailed → answer_of seen ≡ Some (told_to_pen (pen_answer told))
+      → map (λ (d : Datagram). d.bytes) after ≡ map (λ (d : Datagram). d.bytes) before ++ sent told
+      → SiteSteps (Event.Pen old.name e) old before seen (record old { desk = Some l }) after
+  pen_runs_on told seen after step blame n a bytes x messages h b =
+      let r = running_is old k x here h in
+      let o = r.owner in
+      let penned = rw (o.same_name, o.same_version, o.same_game, o.same_innings) at step in (
+        record x { process = Running (state_of l) },
+        penned.0,
+        told_to_pen (pen_answer told),
+        a,
+        (state_of k, state_of l, pen_answer told, r.process, penned.3, after_pen ((match_of old.game old.innings_a_side).view old.name x.version) x (pen_answer told) (state_of l) n),
+        runs_on old k l x here h owner (blame.same (λ q. n (ap pen_answer q))),
+        more_bytes old.game before after messages penned.0 (sent told) b penned.1 penned.2 bytes,
+      )
 
--- a device call of the desk failed as it penned
-pen_breaks : (old new : Site) (k l : WorldDesk) (e : Entry) (seen : Seen) (before : List Datagram) → old.desk ≡ Some k → PenSteps k e (Err DeskRefusal.Device) l → SameOwner k l
-    → PenBlame k (Err DeskRefusal.Device) l → AfterRefusal DeskRefusal.Device (record old { desk = Some l }) seen new → SiteSteps (Event.Pen old.name e) old before seen new before
-pen_breaks old new k l e seen before here step owner blame broke x messages h b =
-    let r = running_is old k x here h in
-    let penned = penned_as old k l e (Err DeskRefusal.Device) x r step in
-    let own = r.owner in
-    let disk = r.on_disk in
-    let cap : cap_of (disk_of k) ≡ _ = disk.cap ∙ ap Rattle.headline.specs.Match.most_bytes (sym (own.same_version ∙ h.version)) in
-    let within : FitsOneMore k = has_room (Rattle.world_desks.specs.WorldDesks.version_of k) (length (own_votes k)) (cap_of (disk_of k)) penned.3.0.1.1 cap in
-    let broken = broken_site old new k l x (Cause.Desk DeskRefusal.Device) seen here h owner (λ n. blame.calm n within refl) (λ o. blame.spent o within refl) refl broke in
-    (broken.0, penned.0, broken.1, broken.2, (state_of k, state_of l, PenAnswer.DeviceFailed, r.process, penned.3, broken.3), broken.4, rw penned.3.3 (no_bytes old.game before messages b))
-
-pub pen_refused : (old new : Site) (k l : WorldDesk) (e : Entry) (why : DeskRefusal) (seen : Seen) (before : List Datagram) → old.desk ≡ Some k → PenSteps k e (Err why) l → SameOwner k l
-    → PenBlame k (Err why) l → AfterRefusal why (record old { desk = Some l }) seen new → SiteSteps (Event.Pen old.name e) old before seen new before
-pen_refused old new k l e DeskRefusal.Device seen before here step owner blame a = pen_breaks old new k l e seen before here step owner blame a
-pen_refused old new k l e why seen before here step owner blame a =
-    rw (a.0, a.1) (pen_runs_on old k l e (Err why) (Seen.Refused (Cause.Desk why)) before before here step owner (blame.same (λ q. (cc))) (λ q. (cc)) refl
-    (sym (append-nil (map (λ (d : Datagram). d.bytes) before))))
+  -- a refusal, or that a device call of the desk failed as it penned
+  pub pen_refused : (new : Site) (why : DeskRefusal) (seen : Seen) → PenSteps k e (Err why) l → PenBlame k (Err why) l
+      → AfterRefusal why (record old { desk = Some l }) seen new → SiteSteps (Event.Pen old.name e) old before seen new before
+  pen_refused new DeskRefusal.Device seen step blame broke = λ x messages h b.
+      let r = running_is old k x here h in
+      let o = r.owner in
+      let penned = rw (o.same_name, o.same_version, o.same_game, o.same_innings) at step in
+      let disk = r.on_disk in
+      let cap : cap_of (disk_of k) ≡ _ = disk.cap ∙ ap most_bytes (sym (o.same_version ∙ h.version)) in
+      let within : FitsOneMore k = has_room (version_of k) (length (own_votes k)) (cap_of (disk_of k)) penned.3.0.1.1 cap in
+      let broken = broken_site old new k l x (Cause.Desk DeskRefusal.Device) seen here h owner (λ n. blame.calm n within refl) (λ o. blame.spent o within refl) refl broke in
+      (broken.0, penned.0, broken.1, broken.2, (state_of k, state_of l, PenAnswer.DeviceFailed, r.process, penned.3, broken.3), broken.4, rw penned.3.3 (no_bytes old.game before messages b))
+  pen_refused new why seen step blame a =
+      rw (a.0, a.1) (pen_runs_on (Err why) (Seen.Refused (Cause.Desk why)) before step blame (λ q. (cc)) refl (sym (append-nil _)))
 
 -- the site after a refusal is of the same match
 pub refused_same : (device : Bool) (why : DeskRefusal) (old new : Site) (l : WorldDesk) (seen : Seen) → RefusedBy device why (record old { desk = Some l }) seen new → SameSite old new

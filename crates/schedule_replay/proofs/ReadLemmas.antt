@@ -19,9 +19,7 @@ use Rattle.headline.proofs.Keeping.{Fine, fine_disk, node_fine}
 use Rattle.schedule_replay.proofs.SiteLemmas.{site_disk}
 
 first_are : (later votes found : List Ballot) (n : ℕ) → found ≡ later ++ votes → n ≡ length votes → (n ≤ length found) × (oldest n found ≡ votes)
-first_are later votes found n e size =
-    let many : length (later ++ votes) - n ≡ length later = omega (arith, size, length-append later votes) in
-    rw e (omega (arith, size, length-append later votes), rw many (drop-append_seam later votes))
+first_are later votes found n e size = grind (arith, length-append later votes, drop-append_seam later votes)
 
 -- a desk that is put down still reads so
 pub put_down_reads : (old new : Site) (disk : MemDisk) (x : Node MemDisk) → HasNode old x → SiteReads old.game old.innings_a_side old.name x

@@ -50,28 +50,33 @@ module _ (game innings : ℕ) where
   run_many version boards w (m ∷ ms) b r =
       step_many (last_of w ms) m.event (station_of m.event) m.answer m.after r.1 ∙ run_many version boards w ms b r.0
 
--- a run over the first events ends with what the code's world shows, and all that was shown is noted
-pub record IsAfter
+module _
     (game innings : ℕ) (version : FileVersion) (boards : ℕ) (events : List Event) (number : ℕ) (world : World) (outcomes : List Seen)
-    (seen : List Shown) : Type 0 where
-  pub at : (w : Configuration MemDisk) × (ms : MatchRun) × IsAt game innings version boards events number world outcomes w ms
-      × AreSeen innings w ms seen × AtEachMoment w ms (AllHaveScores innings)
+    (seen : List Shown)
+  where
+    -- a run over the first events ends with what the code's world shows, and all that was shown is noted
+    pub record IsAfter : Type 0 where
+      pub at : (w : Configuration MemDisk) × (ms : MatchRun) × IsAt game innings version boards events number world outcomes w ms
+          × AreSeen innings w ms seen × AtEachMoment w ms (AllHaveScores innings)
 
--- such a run, of which all is noted but what the world shows now
-pub record IsNext
-    (game innings : ℕ) (version : FileVersion) (boards : ℕ) (events : List Event) (number : ℕ) (world : World) (outcomes : List Seen)
-    (seen : List Shown) : Type 0 where
-  pub at : (w : Configuration MemDisk) × (ms : MatchRun) × IsAt game innings version boards events number world outcomes w ms
-      × ((t : Station) (n : ℕ) (score : Standing)
-      → AtSomeMoment w ms (λ v. ShowsScore innings v t n score) ↔ (Contains seen (t, n, score) ⊎ ShowsScore innings (last_of w ms) t n score))
-      × (AllHaveScores innings (last_of w ms) → AtEachMoment w ms (AllHaveScores innings))
+    -- such a run, of which all is noted but what the world shows now
+    pub record IsNext : Type 0 where
+      pub at : (w : Configuration MemDisk) × (ms : MatchRun) × IsAt game innings version boards events number world outcomes w ms
+          × ((t : Station) (n : ℕ) (score : Standing)
+          → AtSomeMoment w ms (λ v. ShowsScore innings v t n score) ↔ (Contains seen (t, n, score) ⊎ ShowsScore innings (last_of w ms) t n score))
+          × (AllHaveScores innings (last_of w ms) → AtEachMoment w ms (AllHaveScores innings))
 
--- a new world begins the match that it is of
-pub own_match : (world : World) → IsNew world → BeginsWorld world.game world.innings_a_side (match_version world) (boards_of world) world
-own_match world h = record { is_new = h; same_game = refl; same_innings = refl; same_version = refl; same_boards = refl }
+-- a book of so many entries that a list begins with is that front of it
+front : (innings n : ℕ) (score : Standing) (agreed book : List Entry) → BeginsWith agreed book → n ≡ length book → IsScoreOf score innings book
+    → (n ≤ length agreed) × IsScoreOf score innings (take n agreed)
+front innings n score agreed book p e is = grind (arith, take-append_seam book p.0, length-append book p.0)
 
-all_taken : (events : List Event) (number : ℕ) → number ≡ length events → take number events ≡ events
-all_taken events number e = rw e (take-length events)
+-- a score that is shown at some moment is that of a book that is shown then
+some_book : (innings : ℕ) (w : Configuration MemDisk) (ms : MatchRun) (t : Station) (n : ℕ) (score : Standing) → AtSomeMoment w ms (λ v. ShowsScore innings v t n score)
+    → (book : List Entry) × AtSomeMoment w ms (λ v. Shows v t book) × (n ≡ length book) × IsScoreOf score innings book
+some_book innings w [] t n score h = h
+some_book innings w (m ∷ ms) t n score (inl h) = (h.0, inl h.1, h.2, h.3)
+some_book innings w (m ∷ ms) t n score (inr h) = let b = some_book innings w ms t n score h in (b.0, inr b.1, b.2, b.3)
 
 -- what holds in every run holds in it
 holds : {game innings : ℕ} {version : FileVersion} {boards : ℕ} {over : List Event} {outcomes : List Seen} {w : Configuration MemDisk} {ms : MatchRun}
@@ -82,13 +87,6 @@ holds {game = game} {innings = innings} {version = version} {boards = boards} {w
 module _ {game innings : ℕ} {version : FileVersion} {boards : ℕ} {events : List Event} where
   pub begins_at : (world : World) → BeginsWorld game innings version boards world → (w : Configuration MemDisk) × IsAt game innings version boards events 0 world [] w []
   begins_at world h = (h.is_new.0, grind (arith, h.is_new.1, h.is_new.2))
-
-  -- at the start nothing is noted
-  pub starts : {world : World} {outcomes : List Seen} {seen : List Shown} → BeginsWorld game innings version boards world → outcomes ≡ [] → seen ≡ []
-      → IsNext game innings version boards events 0 world outcomes seen
-  starts {world = world} h none no_scores =
-      let b = begins_at world h in
-      rw (none, no_scores) (record { at = (b.0, [], b.1, λ t n score. (inr, λ c. elim c [ inl o ↦ absurd (omega (arith, o.1)) | inr s ↦ s ]), λ s. s) })
 
   module _ {number : ℕ} {world : World} {outcomes : List Seen} {seen : List Shown} (h : IsNext game innings version boards events number world outcomes seen) where
     -- a station and a length that are noted have the score that the world shows
@@ -169,9 +167,6 @@ module _ {game innings : ℕ} {version : FileVersion} {boards : ℕ} {events : L
       }
 
   -- some run ends so
-  pub begins_taken : (world : World) → BeginsWorld game innings version boards world → HasTaken game innings version boards events 0 world
-  begins_taken world h = let b = begins_at world h in ([], b.0, [], b.1)
-
   pub has_taken : {number : ℕ} {world : World} {outcomes : List Seen} {shown : List Shown}
       → IsAfter game innings version boards events number world outcomes shown → HasTaken game innings version boards events number world
   has_taken {outcomes = outcomes} h = (outcomes, h.at.0, h.at.1, h.at.2)
@@ -203,62 +198,64 @@ module _ {game innings : ℕ} {version : FileVersion} {boards : ℕ} {events : L
   pub ends_unreported : {number : ℕ} {world : World} → number ≡ length events → HasTaken game innings version boards events number world
       → EndsAt game innings version boards events (0, NoMemory)
   ends_unreported {number = number} e p =
-      inl (refl, refl, (p.0, p.1, p.2, rw (all_taken events number e) at p.3.run, holds p.3.run))
+      inl (refl, refl, (p.0, p.1, p.2, rw (e, take-length events) at p.3.run, holds p.3.run))
 
   -- a read of each file gives its desk's votes, and perhaps later ones
-  read_at : (number : ℕ) (world : World) (outcomes : List Seen) (w : Configuration MemDisk) (ms : MatchRun) → IsAt game innings version boards events number world outcomes w ms
-      → FilesRead world.game world.innings_a_side (last_of w ms)
-  read_at number world outcomes w ms at =
-      let run = at.run in
-      let s = match_of game innings in
-      let r = files_read game innings (last_of w ms) (run_keeps s w ms (begins_fine s version boards w run.begins) run.run) in
-      subst (λ (n : ℕ). FilesRead n world.innings_a_side (last_of w ms)) (sym at.same_game)
-      (subst (λ (n : ℕ). FilesRead game n (last_of w ms)) (sym at.same_innings) r)
-
   pub all_read : {number : ℕ} {world : World} {outcomes : List Seen} {shown : List Shown}
       → IsAfter game innings version boards events number world outcomes shown
       → (w : Configuration MemDisk) × HasConfiguration world w × FilesRead world.game world.innings_a_side w
-  all_read {number = number} {world = world} {outcomes = outcomes} h =
-      let p = h.at in
-      let at = p.2 in
-      (last_of p.0 p.1, at.has_configuration, read_at number world outcomes p.0 p.1 at)
+  all_read h =
+      let w = h.at.0 in
+      let ms = h.at.1 in
+      let at = h.at.2 in
+      let run = at.run in
+      let s = match_of game innings in
+      let read = files_read game innings (last_of w ms) (run_keeps s w ms (begins_fine s version boards w run.begins) run.run) in
+      (last_of w ms, at.has_configuration, rw at.same_game read)
 
   -- what is reported of the whole run
   pub reported : {number : ℕ} {world : World} (report : Report) → number ≡ length events
       → IsAfter game innings version boards events number world report.outcomes.items report.seen.items → StandOnce report.seen.items
       → ((w : Configuration MemDisk) → HasConfiguration world w → FilesRead world.game world.innings_a_side w
       → IsAgreedByFiles (all_votes w).a (all_votes w).b report.agreed.items) → IsReplay game innings version boards events report
+  unfolding all_read
   reported {number = number} {world = world} report e h once files =
       let w = h.at.0 in
       let ms = h.at.1 in
       let run = h.at.2.run in
       let at = h.at.2 in
-      let agreed : IsAgreedList (all_votes (last_of w ms)) report.agreed.items = (holds run).by_files report.agreed.items (files (last_of w ms) at.has_configuration (read_at number world report.outcomes.items w ms at)) in (
+      let read = all_read h in
+      let agreed : IsAgreedList (all_votes (last_of w ms)) report.agreed.items = (holds run).by_files report.agreed.items (files read.0 read.1 read.2) in (
         w,
         ms,
         record {
-          run = rw (all_taken events number e) at run;
+          run = rw (e, take-length events) at run;
           holds = holds run;
           agreed = agreed;
           scored = h.at.4;
           seen = h.at.3;
           once = once;
           scores = λ t n score c.
-              score_at w ms t n score ((h.at.3 t n score).0 c) (λ book shown. (holds run).within_agreed t book report.agreed.items shown agreed);
+              let b = some_book innings w ms t n score ((h.at.3 t n score).0 c) in
+              let p = (holds run).within_agreed t b.0 report.agreed.items b.1 agreed in
+              front innings n score report.agreed.items b.0 p b.2 b.3;
         },
       )
-    where
-      -- a book of so many entries that the list begins with is that front of it
-      front : (t : Station) (n : ℕ) (score : Standing) (v : Configuration MemDisk) (b : ShowsScore innings v t n score) → BeginsWith report.agreed.items b.0
-          → (n ≤ length report.agreed.items) × IsScoreOf score innings (take n report.agreed.items)
-      front t n score v b p = grind (arith, take-append_seam b.0 p.0, length-append b.0 p.0)
 
-      score_at : (w : Configuration MemDisk) (ms : MatchRun) (t : Station) (n : ℕ) (score : Standing) → AtSomeMoment w ms (λ v. ShowsScore innings v t n score)
-          → ((book : List Entry) → AtSomeMoment w ms (λ v. Shows v t book) → BeginsWith report.agreed.items book)
-          → (n ≤ length report.agreed.items) × IsScoreOf score innings (take n report.agreed.items)
-      score_at w [] t n score h prefixes = front t n score w h (prefixes h.0 h.1)
-      score_at w (m ∷ ms) t n score (inl h) prefixes = front t n score m.after h (prefixes h.0 (inl h.1))
-      score_at w (m ∷ ms) t n score (inr h) prefixes = score_at w ms t n score h (λ book shown. prefixes book (inr shown))
+-- a new world begins the match that it is of
+own_match : (world : World) → IsNew world → BeginsWorld world.game world.innings_a_side (match_version world) (boards_of world) world
+own_match world h = record { is_new = h; same_game = refl; same_innings = refl; same_version = refl; same_boards = refl }
+
+module _ {events : List Event} {world : World} (new : IsNew world) where
+  -- at the start nothing is noted
+  pub starts : {outcomes : List Seen} {seen : List Shown} → outcomes ≡ [] → seen ≡ []
+      → IsNext world.game world.innings_a_side (match_version world) (boards_of world) events 0 world outcomes seen
+  starts none no_scores =
+      let b = begins_at world (own_match world new) in
+      rw (none, no_scores) (record { at = (b.0, [], b.1, λ t n score. (inr, λ c. elim c [ inl o ↦ absurd (omega (arith, o.1)) | inr s ↦ s ]), λ s. s) })
+
+  pub begins_taken : HasTaken world.game world.innings_a_side (match_version world) (boards_of world) events 0 world
+  begins_taken = let b = begins_at world (own_match world new) in ([], b.0, [], b.1)
 
 -- a world of a match ends a replay as a replay of the match ends
 pub ends_of_match : {game innings : ℕ} {version : FileVersion} {boards : ℕ} (events : List Event) {world : World}

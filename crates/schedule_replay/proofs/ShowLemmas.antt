@@ -46,14 +46,11 @@ book_shows ShownBy innings o n score h = grind (arith, h)
 
 book_scored : (ShownBy : List Entry → Type 0) (innings : ℕ) (o : Option (ℕ × List Entry)) (book : List Entry) → OneBook ShownBy innings o
     → BookHasScore o → ShownBy book → (score : Standing) × IsScoreOf score innings book
-book_scored ShownBy innings None book h d s = absurd (h book s)
-book_scored ShownBy innings (Some own) book h d s = (d.0, rw (h.0, (h.1 book).0 s) at d.1)
+book_scored ShownBy innings o book h d s = grind (arith, h, d, s)
 
 desk_shows : (site : Site) (innings : ℕ) (desk : Option WorldDesk) (disk : Option MemDisk) (p : Process MemDisk)
     → site.innings_a_side ≡ innings → IsProcess site desk disk p → OneBook (process_shows p) innings (desk_book desk)
-desk_shows site innings (Some k) disk p e h = let own = h.0.owner in (own.same_innings ∙ e, λ b. rw h.2 (λ s. s, λ s. s))
-desk_shows site innings None (Some disk) p e h = λ b s. rw h.1.2 at s
-desk_shows site innings None None p e h = absurd h
+desk_shows site innings desk disk p e h = grind arith
 
 board_shows : (innings : ℕ) (o : Option MatchBoard) → ((k : MatchBoard) → o ≡ Some k → board_innings k ≡ innings)
     → OneBook (λ b. (s : BoardState) × (option_map board_state o ≡ Some s) × (s.book ≡ b)) innings (board_book o)
@@ -65,8 +62,7 @@ board_shows innings (Some k) h = (
 
 board_there : (code : World) (w : Configuration MemDisk) (i : ℕ) → HasConfiguration code w
     → slice_get w.boards i ≡ option_map board_state (slice_get code.boards.items i)
-board_there code w i h =
-    ap (λ (bs : List BoardState). slice_get bs i) h.board_states ∙ slice_get-map board_state code.boards.items i
+board_there code w i h = grind (arith, h.board_states, slice_get-map board_state code.boards.items)
 
 -- a station of a world shows the book that it has
 shows_one : (code : World) (w : Configuration MemDisk) (t : Station) → HasConfiguration code w

@@ -1,10 +1,10 @@
 -- A site and its desk, as the definitions of a run see them.
-use Rattle.std.proofs.Common.{◌≡◌, ℕ, ◌+◌, ◌≤◌, ◌<◌, Option, Some, None, List, [], ◌∷◌, ◌++◌, length, map, refl, sym, ap, ◌∙◌, subst, arith, append-nil}
+use Rattle.std.proofs.Common.{◌≡◌, ℕ, ◌+◌, ◌≤◌, ◌<◌, Option, Some, None, List, [], ◌∷◌, ◌++◌, length, map, refl, sym, ap, ◌∙◌, arith, append-nil}
 use Rattle.std.proofs.lemmas.List.{length-map, map-append}
 use Rattle.std.proofs.lemmas.List.Elements.{All-append}
 use Rattle.std.specs.Prelude.{All, IsSome}
 use Rattle.corrections.specs.declared.refusal.Refusal.{Refusal}
-use Rattle.entry_log.specs.Disk.{IsImage, IsOnce, Never, only}
+use Rattle.entry_log.specs.Disk.{IsOnce, Never}
 use Rattle.entry_log.specs.Format.{contents, room}
 use Rattle.entry_log.specs.MemDisk.{SetsPlan, call_count, cap_of, faults_of, file_of, images_of}
 use Rattle.entry_log.specs.Plan.{due_of}
@@ -12,10 +12,10 @@ use Rattle.entry_log.specs.declared.mem_disk.{MemDisk.MemDisk, plan.Plan.Plan}
 use Rattle.entry_log.specs.declared.mem_disk.plan.Plan.TheVariants.{Calm}
 use Rattle.agree_core.specs.declared.messages.{DeskId.DeskId, Message.Message}
 use Rattle.agree_core.specs.Ballots.{Ballot}
-use Rattle.agree_core.specs.Books.{Rules}
 use Rattle.agree_core.specs.Desks.{DeskState, most_votes}
-use Rattle.agree_core.specs.FileView.{FileView, Stays}
-use Rattle.vote_store.specs.View.{file_view, votes_shown}
+use Rattle.agree_core.specs.FileView.{Stays}
+use Rattle.vote_store.specs.View.{file_view}
+use Rattle.desk.proofs.ViewLemmas.{stays}
 use Rattle.wire.specs.declared.datagram.Datagram.{Datagram}
 use Rattle.wire.specs.Layout.{IsMessage, written}
 use Rattle.wire.specs.Sent.{AreSent}
@@ -29,7 +29,7 @@ use Rattle.headline.specs.DeskFaults.{Breaks, BreaksBy}
 use Rattle.headline.specs.Match.{format_of, match_of, most_bytes}
 use Rattle.schedule_replay.specs.Answers.{AreBytesOf, answer_of}
 use Rattle.schedule_replay.specs.inner.Sites.{BreaksDown, IsDue, IsProcess, HasNode, IsWorldDisk, PutsDown, SameSite, disk_at, votes_at}
-use Rattle.world_desks.specs.WorldDesks.{IsWorldDeskOf, SameOwner, disk_of, game_of, rules_of, state_of, view_of}
+use Rattle.world_desks.specs.WorldDesks.{IsWorldDeskOf, SameOwner, disk_of, state_of}
 
 abbrev pub own_votes : WorldDesk → List Ballot
 own_votes k = (λ (s : DeskState MemDisk). s.votes) (state_of k)
@@ -43,11 +43,6 @@ pub record Runs (site : Site) (k : WorldDesk) (x : Node MemDisk) : Type 0 where
 
 pub running_is : (site : Site) (k : WorldDesk) (x : Node MemDisk) → site.desk ≡ Some k → HasNode site x → Runs site k x
 running_is site k x here h = grind arith
-
--- what is said of its own view, rules and game is said of the match's
-pub of_match : (site : Site) (k : WorldDesk) (x : Node MemDisk) → Runs site k x → (P : FileView MemDisk → Rules Refusal → ℕ → Type 0) → P (view_of k) (rules_of k) (game_of k)
-    → P ((match_of site.game site.innings_a_side).view site.name x.version) (match_of site.game site.innings_a_side).rules site.game
-of_match site k x r P p = let o = r.owner in rw (← o.same_name, ← o.same_version, ← o.same_game, ← o.same_innings) p
 
 -- the site with its desk after a call, whatever is due now
 pub runs_again : (site : Site) (k l : WorldDesk) (due : Option Fault) (x : Node MemDisk) → site.desk ≡ Some k → HasNode site x → SameOwner k l → IsDue due (faults_of (disk_of l)).due
@@ -69,12 +64,12 @@ pub no_bytes : (game : ℕ) (sent : List Datagram) (messages : List Message) →
 no_bytes game sent messages b = rw append-nil b
 
 -- what a tick hands out
-pub ticked : (game : ℕ) (Step : List Message → Type 0) (n : ℕ) (out before after : List Datagram) (messages : List Message) → (sent : AreSent game (map (λ (d : Datagram). d.bytes) out) Step)
-    → n ≡ length out → after ≡ before ++ out → AreBytesOf game before messages → (n ≡ length sent.0) × AreBytesOf game after (messages ++ sent.0)
-ticked game Step n out before after messages sent long added b =
+pub ticked : (game : ℕ) (Step : List Message → Type 0) (said out before after : List Datagram) (messages : List Message) → (sent : AreSent game (map (λ (d : Datagram). d.bytes) out) Step)
+    → said ≡ out → after ≡ before ++ said → AreBytesOf game before messages → (length said ≡ length sent.0) × AreBytesOf game after (messages ++ sent.0)
+ticked game Step said out before after messages sent is added b =
     let bytes = λ (d : Datagram). d.bytes in (
       grind (arith, length-map out bytes, length-map sent.0 (written game), ap length sent.2),
-      more_bytes game before after messages sent.0 (map bytes out) b sent.1 sent.2 (rw added (map-append bytes before out)),
+      more_bytes game before after messages sent.0 (map bytes out) b sent.1 sent.2 (rw (added, is) (map-append bytes before out)),
     )
 
 -- one datagram more
@@ -84,17 +79,7 @@ pushed old new d e = rw e (map-append (λ (d : Datagram). d.bytes) old (d ∷ []
 -- a disk that shows the same, with other calls to fail
 pub sets_plan_stays : (name : DeskId) (version : FileVersion) (game : ℕ) (plan : Plan) (old new : MemDisk) → SetsPlan plan old new
     → Stays (file_view (contents (format_of version)) file_of images_of name game) old new
-sets_plan_stays name version game plan old new h = (
-  ap (λ (file : List ℕ). votes_shown (contents (format_of version)) name game file) h.file,
-  λ image. ((λ i. (i.0, subst (λ z. IsImage z i.0) h.images i.1, i.2)), (λ i. (i.0, subst (λ z. IsImage z i.0) (sym h.images) i.1, i.2))),
-)
-
--- a disk whose every image is its file
-pub only_one : (file image : List ℕ) → IsImage (only file) image → image ≡ file
-only_one [] [] h = refl
-only_one [] (b ∷ bs) h = absurd (cc)
-only_one (f ∷ fs) [] h = absurd h
-only_one (f ∷ fs) (b ∷ bs) h = λ i. h.0 i ∷ only_one fs bs h.1 i
+sets_plan_stays name version game plan old new h = stays (contents (format_of version)) file_of images_of name game old new h.file h.images
 
 -- a site whose desk is down
 pub down_is : (site : Site) (disk : MemDisk) (votes : List Ballot) → site.desk ≡ None → site.disk ≡ Some disk → site.votes ≡ length votes → IsWorldDisk site.version site.due disk
@@ -115,10 +100,8 @@ pub put_down_is : (old new : Site) (p : Process MemDisk) → HasDisk old p → o
     → (after : MemDisk) × (new.disk ≡ Some after) × SetsPlan Calm (process_disk p) after × IsProcess new new.desk new.disk (Down (process_votes p) after)
 put_down_is old new p h due put =
     let d = put.disk in
-    let there : d.0 ≡ process_disk p = let z = sym h.disk ∙ d.2 in cc in
-    let plan : SetsPlan Calm (process_disk p) d.1 = rw there at d.4 in
-    let on : IsWorldDisk new.version new.due d.1 = grind (arith, ap (due_of (call_count d.1)) plan.plan) in
-    (d.1, d.3, plan, down_is new d.1 (process_votes p) put.desk d.3 (put.counted ∙ h.votes) on)
+    let same : d.0 ≡ process_disk p = grind (arith, h.disk, d.2) in
+    (d.1, d.3, rw same at d.4, grind (arith, h, put, ap (due_of (call_count d.1)) (d.4).plan))
 
 -- a device call has failed, by the fault that was due: the site goes on with this process, or its desk is down
 pub broken : (old new : Site) (desk : Option WorldDesk) (disk : Option MemDisk) (before : MemDisk) (x : Node MemDisk) (p : Process MemDisk) (version : FileVersion)

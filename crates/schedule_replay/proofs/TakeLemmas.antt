@@ -1,5 +1,5 @@
 -- An event at a site is taken, or not.
-use Rattle.std.proofs.Common.{arith, ◌≡◌, ◌⊎◌, Bool, true, Option, Some, None, List, ap, ◌∙◌, inr, Result, Ok, Err}
+use Rattle.std.proofs.Common.{arith, ◌≡◌, ◌⊎◌, Bool, true, Option, Some, None, List, Result, Err}
 use Rattle.std.specs.Prelude.{IfOk, OnErr}
 use Rattle.std.proofs.Math.Bool.{not}
 use Rattle.std.specs.Option.{is_none, is_some}
@@ -19,8 +19,7 @@ none_of desk r e = grind arith
 pub wants_so : (event same : Event) (old new : Site) (sent roomy : List Datagram) (result : Result Seen WorldRefusal) → event ≡ same → site_cause old sent event ≡ None → roomy ≡ sent
     → IfOk result (λ seen. (z : List Datagram) → SiteSteps same old z seen new z) → OnErr result ((result ≡ Err WorldRefusal.NoMemory) × SiteLeft same old new) → may_grow same ≡ true
     → SiteTakes event old sent result new roomy
-wants_so event same old new sent roomy (Ok seen) q cause e h k g = (cause, rw (q, e) (h sent))
-wants_so event same old new sent roomy (Err why) q cause e h k g = (e, inr (cause, let z = k.0 in cc, ap may_grow q ∙ g, rw q k.1))
+wants_so event same old new sent roomy result q cause e h k g = rw (q, e) (grind (arith, h, k, g, cause))
 
 -- what may send may take memory
 pub sending_grows : (event : Event) → may_send event ≡ true → may_grow event ≡ true

@@ -108,17 +108,17 @@ pub fn replay_in(
     let Ok(mut outcomes) = Vec::with_capacity(alloc, events.len()) else {
         return Err(end_unreported(world, events, 0));
     };
-    if world.note(&mut shown).is_err() {
+    let Ok(()) = world.note(&mut shown) else {
         return Err(end_unreported(world, events, 0));
-    }
+    };
     for (number, event) in events.iter().enumerate() {
         match world.step(event) {
             Ok(seen) => outcomes.push(seen).unwrap(),
             Err(why) => return Err((number as u64 + 1, why)),
         }
-        if world.note(&mut shown).is_err() {
+        let Ok(()) = world.note(&mut shown) else {
             return Err(end_unreported(world, events, number + 1));
-        }
+        };
     }
     let Ok(agreed) = world.agreed() else {
         return Err(NO_MEMORY);

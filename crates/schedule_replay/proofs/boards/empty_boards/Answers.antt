@@ -1,10 +1,7 @@
-use Rattle.std.proofs.Common.{◌+◌, List, subst, sym}
-use Rattle.schedule_replay.specs.CodeWorlds.{MatchBoard}
-use Rattle.schedule_replay.specs.inner.WorldBoards.{AreFresh}
 use Rattle.schedule_replay.proofs.BoardLemmas.{one_more}
 use Rattle.schedule_replay.proofs.boards.empty_boards.Goals as goal
 
 pub loop-preserved : goal.loop-preserved
 loop-preserved c =
-    subst (λ (bs : List MatchBoard). AreFresh c.args.game c.args.innings_a_side (c.loop.counter + 1) bs) (sym c.in_ok-push.ensures.items)
-    (one_more c.args.game c.args.innings_a_side c.loop.counter c.loop.boards.items _ c.loop.invariant c.in_ok-empty_board.ensures.fresh c.in_ok-empty_board.ensures.owner)
+    rw c.in_ok-push.ensures.items (one_more c.args.game c.args.innings_a_side c.loop.counter c.loop.boards.items _ c.loop.invariant
+    c.in_ok-empty_board.ensures.fresh c.in_ok-empty_board.ensures.owner)

@@ -1,38 +1,29 @@
-use Rattle.std.proofs.Common.{◌≡◌, ◌∙◌, Result, Ok, Err, OnOk, [], false, refl, sym, arith}
-use Rattle.std.specs.Prelude.{is_err}
+use Rattle.std.proofs.Common.{[], refl, arith}
 use Rattle.schedule_replay.specs.declared.report.Report.{Report}
-use Rattle.schedule_replay.proofs.ReplayLemmas.{all_read, begins_taken, ends_at, ends_unreported, goes_on, has_taken, notable, noted, own_match, reported, starts, takes_on}
+use Rattle.schedule_replay.proofs.ReplayLemmas.{all_read, begins_taken, ends_at, ends_unreported, goes_on, has_taken, notable, noted, reported, starts, takes_on}
 use Rattle.schedule_replay.proofs.report.replay_in.Goals as goal
 
-noted_ok : {T E P : Type 0} (r : Result T E) → is_err r ≡ false → OnOk r P → P
-noted_ok (Ok value) e h = h
-noted_ok (Err fault) e h = absurd (cc)
-
 pub note-requires-clause-notable : goal.note-requires-clause-notable
-note-requires-clause-notable c =
-    notable (starts {events = []} {outcomes = []} (own_match c.args.world c.requires.new) refl c.in-Ok.ensures.empty) c.requires.boards
+note-requires-clause-notable c = notable (starts {events = []} c.requires.new {outcomes = []} refl c.in-Ok.ensures.empty) c.requires.boards
 
 pub returns-in_default-clause-ends : goal.returns-in_default-clause-ends
-returns-in_default-clause-ends c = c.end_unreported.ensures _ _ _ _ (begins_taken c.args.world (own_match c.args.world c.requires.new))
+returns-in_default-clause-ends c = c.end_unreported.ensures _ _ _ _ (begins_taken c.requires.new)
 
 pub returns-in_default-with_capacity-clause-ends : goal.returns-in_default-with_capacity-clause-ends
-returns-in_default-with_capacity-clause-ends c =
-    c.end_unreported-in_default-with_capacity.ensures _ _ _ _ (begins_taken c.args.world (own_match c.args.world c.requires.new))
+returns-in_default-with_capacity-clause-ends c = c.end_unreported-in_default-with_capacity.ensures _ _ _ _ (begins_taken c.requires.new)
 
-pub returns-then-is_err-clause-ends : goal.returns-then-is_err-clause-ends
-returns-then-is_err-clause-ends c =
-    c.end_unreported-then-is_err.ensures _ _ _ _ (begins_taken c.args.world (own_match c.args.world c.requires.new))
+pub returns-in_default-note-clause-ends : goal.returns-in_default-note-clause-ends
+returns-in_default-note-clause-ends c = c.end_unreported-in_default-note.ensures _ _ _ _ (begins_taken c.requires.new)
 
 pub loop-number-init : goal.loop-number-init
-loop-number-init c =
-    let ok = sym c.is_err.ensures.value ∙ c.if-is_err.false in (
-      noted (starts (own_match c.args.world c.requires.new) c.in-Ok-with_capacity.ensures.items c.in-Ok.ensures.empty)
-          (noted_ok c.note.result ok c.note.ensures.noted) (noted_ok c.note.result ok c.note.ensures.scored),
-      c.note.ensures.kept,
-      c.in-Ok-with_capacity.ensures.capacity,
-      c.in-Ok-with_capacity.ensures.len,
-      omega arith,
-    )
+loop-number-init c = (
+  noted (starts c.requires.new c.in-Ok-with_capacity.ensures.items c.in-Ok.ensures.empty)
+      c.in-Ok-note.ensures.noted c.in-Ok-note.ensures.scored,
+  c.in-Ok-note.ensures.kept,
+  c.in-Ok-with_capacity.ensures.capacity,
+  c.in-Ok-with_capacity.ensures.len,
+  omega arith,
+)
 
 pub unwrap-requires : goal.unwrap-requires
 unwrap-requires c = let m = c.loop-number.invariant in c.push.ensures.succeeds (omega (arith, m.2, m.3, c.loop-number-test.true))
@@ -51,18 +42,17 @@ loop-number-preserved c =
     let less = c.loop-number-test.true in
     let m = c.loop-number.invariant in
     let step = c.in-Ok-step.ensures in
-    let note = c.note-in-loop-number in
-    let ok = sym c.is_err-in-loop-number.ensures.value ∙ c.if-is_err-2.false in (
-      rw (rw c.unwrap.ensures at c.push.ensures.items) (noted (goes_on c.in-Ok-step.seen less c.index-events-number.is m.0 step.step step.same)
-          (noted_ok note.result ok note.ensures.noted) (noted_ok note.result ok note.ensures.scored)),
-      note.ensures.kept,
+    let note = c.in-Ok-note-2.ensures in (
+      rw (rw c.unwrap.ensures at c.push.ensures.items)
+          (noted (goes_on c.in-Ok-step.seen less c.index-events-number.is m.0 step.step step.same) note.noted note.scored),
+      note.kept,
       omega (arith, m.2, c.push.ensures.capacity),
       omega (arith, m.3, rw c.unwrap.ensures at c.push.ensures.len),
       omega (arith, less),
     )
 
-pub returns-then-is_err-2-clause-ends : goal.returns-then-is_err-2-clause-ends
-returns-then-is_err-2-clause-ends c = c.end_unreported-then-is_err-2.ensures _ _ _ _
+pub returns-in_default-note-2-clause-ends : goal.returns-in_default-note-2-clause-ends
+returns-in_default-note-2-clause-ends c = c.end_unreported-in_default-note-2.ensures _ _ _ _
     (takes_on c.in-Ok-step.seen c.loop-number-test.true c.index-events-number.is (has_taken c.loop-number.invariant.0) c.in-Ok-step.ensures.step
     c.in-Ok-step.ensures.same)
 

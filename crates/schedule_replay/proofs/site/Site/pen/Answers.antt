@@ -8,15 +8,14 @@ use Rattle.schedule_replay.proofs.DueLemmas.{keeps_refused, keeps_running}
 
 pub returns-in-Ok-clause-step : goal.returns-in-Ok-clause-step
 returns-in-Ok-clause-step c =
-    pen_runs_on c.args.self.now c.in-Some.desk c.pen.new.self c.args.entry.now (Ok c.in-Ok.penned) (Seen.Penned c.in-Ok.penned.settled)
-    c.args.sent.now.items c.push.new.self.items c.in-Some.is
-    c.in-Ok.ensures.step c.in-Ok.ensures.owner (c.in-Ok.ensures.blame.same (λ e. (cc))) (λ e. (cc)) refl
+    pen_runs_on c.args.self.now c.in-Some.desk c.pen.new.self c.args.entry.now c.args.sent.now.items c.in-Some.is c.in-Ok.ensures.owner
+    (Ok c.in-Ok.penned) (Seen.Penned c.in-Ok.penned.settled) c.push.new.self.items c.in-Ok.ensures.step c.in-Ok.ensures.blame (λ e. (cc)) refl
     (pushed c.args.sent.now.items c.push.new.self.items _ (rw c.unwrap.ensures at c.push.ensures.items))
 
 pub returns-in-Err-clause-step : goal.returns-in-Err-clause-step
 returns-in-Err-clause-step c =
-    pen_refused c.args.self.now c.refuse.new.self c.in-Some.desk c.pen.new.self c.args.entry.now c.in-Err.why c.refuse.result c.args.sent.now.items
-    c.in-Some.is c.in-Err.ensures.step c.in-Err.ensures.owner c.in-Err.ensures.blame c.refuse.ensures.refused
+    pen_refused c.args.self.now c.in-Some.desk c.pen.new.self c.args.entry.now c.args.sent.now.items c.in-Some.is c.in-Err.ensures.owner
+    c.refuse.new.self c.in-Err.why c.refuse.result c.in-Err.ensures.step c.in-Err.ensures.blame c.refuse.ensures.refused
 
 pub returns-in-Err-clause-same : goal.returns-in-Err-clause-same
 returns-in-Err-clause-same c = refused_same (is_device c.in-Err.why) c.in-Err.why c.args.self.now c.refuse.new.self c.pen.new.self c.refuse.result c.refuse.ensures.refused

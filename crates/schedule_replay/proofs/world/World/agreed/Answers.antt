@@ -1,10 +1,5 @@
-use Rattle.std.proofs.Common.{List, subst}
 use Rattle.std.proofs.lemmas.Result.{IfOk-weaker}
 use Rattle.agree_core.specs.declared.messages.DeskId.TheVariants.{A, B}
-use Rattle.agree_core.specs.Ballots.{Ballot, oldest}
-use Rattle.agree_core.specs.Books.{IsAgreedByFiles}
-use Rattle.world_desks.specs.VotesFiles.{read_votes}
-use Rattle.headline.specs.Configurations.{process_votes}
 use Rattle.schedule_replay.proofs.ReadLemmas.{of_names}
 use Rattle.schedule_replay.proofs.world.World.agreed.Goals as goal
 
@@ -20,6 +15,5 @@ returns c =
     (λ list h. λ w is reads.
     let a = c.in_ok-a.ensures.votes w.a (let s = is in s.sites A) (of_names c.args.self A w is reads) in
     let b = c.in_ok-b.ensures.votes w.b (let s = is in s.sites B) (of_names c.args.self B w is reads) in
-    subst (λ (v : List Ballot). IsAgreedByFiles v (process_votes w.b.process) list.items) a
-    (subst (λ (v : List Ballot). IsAgreedByFiles (oldest c.in_ok-a.a_count (read_votes c.in_ok-a.a)) v list.items) b h))
+    rw (← a, ← b) h)
     c.agreed_list.ensures

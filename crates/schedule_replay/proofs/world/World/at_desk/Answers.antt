@@ -17,11 +17,9 @@ returns-in-A-clause-refused c =
 pub returns-in-B-clause-step : goal.returns-in-B-clause-step
 returns-in-B-clause-step c =
     (at_desk DeskId.B c.args.self.now _ c.take-in-B.new.self c.args.event.now c.take-in-B.result (c.requires.here ∙ ap Station.Desk c.in-B.is)
-    (record { here = refl; there = refl; same_game = refl; same_innings = refl; boards = refl; same = c.take-in-B.ensures.same })
-    c.take-in-B.ensures.takes c.take-in-B.ensures.planned c.take-in-B.ensures.counted).0
+    (record { here = refl; there = refl; same_game = refl; same_innings = refl; boards = refl; same = c.take-in-B.ensures.same }) c.take-in-B.ensures.takes c.take-in-B.ensures.planned c.take-in-B.ensures.counted).0
 
 pub returns-in-B-clause-refused : goal.returns-in-B-clause-refused
 returns-in-B-clause-refused c =
     (at_desk DeskId.B c.args.self.now _ c.take-in-B.new.self c.args.event.now c.take-in-B.result (c.requires.here ∙ ap Station.Desk c.in-B.is)
-    (record { here = refl; there = refl; same_game = refl; same_innings = refl; boards = refl; same = c.take-in-B.ensures.same })
-    c.take-in-B.ensures.takes c.take-in-B.ensures.planned c.take-in-B.ensures.counted).1
+    (record { here = refl; there = refl; same_game = refl; same_innings = refl; boards = refl; same = c.take-in-B.ensures.same }) c.take-in-B.ensures.takes c.take-in-B.ensures.planned c.take-in-B.ensures.counted).1

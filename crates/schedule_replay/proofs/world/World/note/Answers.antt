@@ -1,4 +1,4 @@
-use Rattle.std.proofs.Common.{◌≡◌, ◌<◌, ◌∙◌, ℕ, List, Some, length, ap, arith, refl, subst}
+use Rattle.std.proofs.Common.{◌≡◌, ◌<◌, ◌∙◌, ℕ, List, Some, length, ap, arith, refl}
 use Rattle.std.proofs.lemmas.Option.{slice_get_read}
 use Rattle.std.specs.Prelude.{slice_get, slice_index_or}
 use Rattle.corrections.specs.Book.{Contents}
@@ -25,8 +25,7 @@ loop-number-init c = let w = c.requires.notable in (
 
 board_there : (items boards : List MatchBoard) (i : ℕ) (k : MatchBoard) → boards ≡ items → i < length boards
     → k ≡ slice_index_or boards i k → slice_get items i ≡ Some k
-board_there items boards i k same less e =
-    subst (λ (xs : List MatchBoard). slice_get xs i ≡ Some k) same (slice_get_read boards (length boards) i k refl less e)
+board_there items boards i k same less e = rw (← same) (slice_get_read boards _ i k refl less e)
 
 pub note-requires-in-loop-number-clause-one : goal.note-requires-in-loop-number-clause-one
 note-requires-in-loop-number-clause-one c = λ other stands.
@@ -46,19 +45,17 @@ loop-number-preserved c =
     let shows : BookShows (board_book (slice_get c.args.self.now.boards.items i)) c.len.result c.shown.result.now = rw there (long, c.shown.ensures) in (
       noted_next (omega arith) (omega arith) (omega arith) (board_name i) c.loop-number.invariant.0 (adds_book _ _ _ _ _ _ shows c.in_ok-note-3.ensures.noted),
       c.in_ok-note-3.ensures.kept,
-      (let less = c.loop-number-test.true in let same = ap (λ (xs : List MatchBoard). length xs) items.ensures.value in omega (arith, less, same)),
+      (let less = c.loop-number-test.true in omega (arith, less, ap length items.ensures.value)),
       scored_next c.args.self.now i c.board-item.result c.loop-number.invariant.3 there (c.shown.result.now, c.shown.ensures),
     )
 
-pub returns-clause-noted : goal.returns-clause-noted
-returns-clause-noted c =
+pub returns : goal.returns
+returns c =
+    let m = c.loop-number.invariant in
     let past = c.loop-number-test.false in
-    let same = ap (λ (xs : List MatchBoard). length xs) c.deref-board-items.ensures.value in
-    all_noted (omega (arith, past, same)) c.loop-number.invariant.0
-
-pub returns-clause-scored : goal.returns-clause-scored
-returns-clause-scored c =
-    let past = c.loop-number-test.false in
-    let same = ap (λ (xs : List MatchBoard). length xs) c.deref-board-items.ensures.value in
-    all_scored c.args.self.now c.loop-number.number (omega (arith, past, same)) c.in_ok-note.ensures.scored c.in_ok-note-2.ensures.scored
-    c.loop-number.invariant.3
+    let same = ap length c.deref-board-items.ensures.value in
+    record {
+      noted = all_noted (omega (arith, past, same)) m.0;
+      scored = all_scored c.args.self.now c.loop-number.number (omega (arith, past, same)) c.in_ok-note.ensures.scored c.in_ok-note-2.ensures.scored m.3;
+      kept = m.1;
+    }
