@@ -9,18 +9,13 @@ use Rattle.headline.specs.declared.fault.Fault.{Fault}
 use Rattle.schedule_replay.specs.declared.{seen.Cause.Cause, seen.Seen.Seen, seen.WorldRefusal.WorldRefusal, site.Site.Site}
 use Rattle.world_desks.specs.declared.world_desk.WorldDesk.{WorldDesk}
 use Rattle.schedule_replay.specs.Answers.{is_failing}
-use Rattle.schedule_replay.specs.inner.Sites.{AfterRefusal, BreaksDown, KeepsDue, NotFoundBy, SameSite, disk_at}
+use Rattle.schedule_replay.specs.inner.Sites.{AfterRefusal, BreaksDown, KeepsDue, NotFoundBy, SameSite}
 use Rattle.world_desks.specs.WorldDesks.{disk_of}
 use Rattle.schedule_replay.proofs.SiteLemmas.{broken_same}
 
--- from one disk to another, on which the same is due
-pub keeps_from : (old new : Site) (before after : MemDisk) → disk_at old.desk old.disk ≡ Some before → disk_at new.desk new.disk ≡ Some after
-    → (faults_of after).due ≡ (faults_of before).due → KeepsDue old new
-keeps_from old new before after p q e fault due = rw (p, q, e) refl
-
 -- the desk runs on
 pub keeps_running : (old : Site) (k l : WorldDesk) → old.desk ≡ Some k → faults_of (disk_of l) ≡ faults_of (disk_of k) → KeepsDue old (record old { desk = Some l })
-keeps_running old k l here e = keeps_from old (record old { desk = Some l }) (disk_of k) (disk_of l) (ap (λ (o : Option WorldDesk). disk_at o old.disk) here) refl (ap (λ z. z.due) e)
+keeps_running old k l here e fault due = rw (here, ap (λ z. z.due) e) refl
 
 -- or it stays down
 pub keeps_down : (old : Site) (disk left : MemDisk) → old.desk ≡ None → old.disk ≡ Some disk → (faults_of left).due ≡ (faults_of disk).due → KeepsDue old (record old { disk = Some left })
@@ -35,13 +30,7 @@ breaks_none due cause mid seen new b = grind arith
 
 pub keeps_refused : (why : DeskRefusal) (old new : Site) (k l : WorldDesk) (seen : Seen) → old.desk ≡ Some k
     → ((why ≡ DeskRefusal.Device → ⊥) → faults_of (disk_of l) ≡ faults_of (disk_of k)) → AfterRefusal why (record old { desk = Some l }) seen new → KeepsDue old new
-keeps_refused why old new k l seen here same r = grind (
-  arith,
-  same,
-  keeps_running old k l here,
-  keeps_none old new,
-  breaks_none old.due (Cause.Desk why) (record old { desk = Some l }) seen new,
-)
+keeps_refused why old new k l seen here same r = grind (arith, here, same)
 
 -- the votes of a desk that is down aren't found: so it is then, at a site of the same match
 pub keeps_not_found : (memory failing : Bool) (cause : Cause) (old new : Site) (disk : Option MemDisk) (result : Result Seen WorldRefusal)

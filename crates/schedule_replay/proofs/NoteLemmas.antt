@@ -22,16 +22,13 @@ abbrev pub FromOne : Station → Type 0
 FromOne (Station.Desk d) = Unit {0}
 FromOne (Station.Board n) = 1 ≤ n
 
-from_one : (t : Station) → IsStation t → FromOne t
-from_one t p = grind arith
-
 -- stations have numbers of their own
 pub same_station : (t u : Station) → FromOne t → FromOne u → station_number t ≡ station_number u → t ≡ u
 same_station t u p q e = grind arith
 
 -- and so have a station and a length
 same_mark : (t u : Station) (n m : ℕ) → IsStation t → IsStation u → n ≤ PLACES → m ≤ PLACES → mark_of t n ≡ mark_of u m → (t ≡ u) × (n ≡ m)
-same_mark t u n m p q k l e = let h = apart (station_number t) (station_number u) n m k l e in (same_station t u (from_one t p) (from_one u q) h.0, h.1)
+same_mark t u n m p q k l e = let h = apart (station_number t) (station_number u) n m k l e in (grind (arith, same_station t u, h.0, p, q), h.1)
   where
     apart : (a b n m : ℕ) → n ≤ PLACES → m ≤ PLACES → a * (PLACES + 1) + n ≡ b * (PLACES + 1) + m → (a ≡ b) × (n ≡ m)
     apart a b n m k l e = (omega (arith, k, l, e), omega (arith, k, l, e))

@@ -1,11 +1,8 @@
 -- A pen at a site's desk is a step of the definitions there.
-use Rattle.std.proofs.Common.{arith, ◌≡◌, ◌≢◌, Bool, Some, List, ◌++◌, length, map, refl, sym, ap, append-nil, ◌∙◌, Result, Err}
+use Rattle.std.proofs.Common.{arith, ◌≡◌, ◌≢◌, Bool, Some, List, ◌++◌, map, refl, sym, ap, append-nil, ◌∙◌, Result, Err}
 use Rattle.notation.specs.declared.entry.Entry.{Entry}
-use Rattle.corrections.specs.declared.refusal.Refusal.{Refusal}
 use Rattle.entry_log.specs.MemDisk.{cap_of, faults_of}
-use Rattle.entry_log.specs.declared.mem_disk.MemDisk.{MemDisk}
-use Rattle.agree_core.specs.Desks.{DeskState, PenAnswer, Pens}
-use Rattle.agree_core.specs.FileView.{FileView}
+use Rattle.agree_core.specs.Desks.{PenAnswer, Pens}
 use Rattle.entry_log.specs.Blame.{BlamesDisk}
 use Rattle.wire.specs.declared.datagram.Datagram.{Datagram}
 use Rattle.wire.specs.Sent.{AreSent}
@@ -14,13 +11,12 @@ use Rattle.desk.specs.Answers.{pen_answer, sent}
 use Rattle.headline.specs.declared.event.Event.{Event}
 use Rattle.schedule_replay.specs.declared.{seen.Cause.Cause, seen.Seen.Seen, site.Site.Site}
 use Rattle.world_desks.specs.declared.world_desk.WorldDesk.{WorldDesk}
-use Rattle.headline.specs.Configurations.{Running, Node}
-use Rattle.headline.specs.DeskAnswers.{AfterPen}
-use Rattle.headline.specs.Match.{match_of, most_bytes}
+use Rattle.headline.specs.Configurations.{Running}
+use Rattle.headline.specs.Match.{most_bytes}
 use Rattle.schedule_replay.specs.Answers.{answer_of, told_to_pen}
 use Rattle.schedule_replay.specs.inner.Sites.{AfterRefusal, RefusedBy, SameSite, SiteSteps}
 use Rattle.world_desks.specs.WorldDesks.{FitsOneMore, SameOwner, disk_of, game_of, rules_of, state_of, version_of, view_of}
-use Rattle.schedule_replay.proofs.SiteLemmas.{broken_same, broken_site, has_room, more_bytes, no_bytes, running_is, runs_on, own_votes}
+use Rattle.schedule_replay.proofs.SiteLemmas.{broken_same, broken_site, has_room, more_bytes, no_bytes, running_is, runs_on}
 
 abbrev pub PenSteps : WorldDesk → Entry → Result Penned DeskRefusal → WorldDesk → Type 0
 PenSteps k e told l =
@@ -28,11 +24,6 @@ PenSteps k e told l =
 
 abbrev pub PenBlame : WorldDesk → Result Penned DeskRefusal → WorldDesk → Type 0
 PenBlame k told l = BlamesDisk DeskRefusal.Device (FitsOneMore k) told (faults_of (disk_of k)) (faults_of (disk_of l))
-
--- after a pen that didn't fail at the device
-after_pen : (view : FileView MemDisk) (x : Node MemDisk) (told : PenAnswer Refusal) (l : DeskState MemDisk) → told ≢ PenAnswer.DeviceFailed
-    → AfterPen view x told l (told_to_pen told) (record x { process = Running l })
-after_pen view x told l n = grind arith
 
 module _ (old : Site) (k l : WorldDesk) (e : Entry) (before : List Datagram) (here : old.desk ≡ Some k) (owner : SameOwner k l) where
   -- the desk of a site has penned, or refused to
@@ -48,7 +39,7 @@ module _ (old : Site) (k l : WorldDesk) (e : Entry) (before : List Datagram) (he
         penned.0,
         told_to_pen (pen_answer told),
         a,
-        (state_of k, state_of l, pen_answer told, r.process, penned.3, after_pen ((match_of old.game old.innings_a_side).view old.name x.version) x (pen_answer told) (state_of l) n),
+        (state_of k, state_of l, pen_answer told, r.process, penned.3, grind (arith, n)),
         runs_on old k l x here h owner (blame.same (λ q. n (ap pen_answer q))),
         more_bytes old.game before after messages penned.0 (sent told) b penned.1 penned.2 bytes,
       )
@@ -62,7 +53,7 @@ module _ (old : Site) (k l : WorldDesk) (e : Entry) (before : List Datagram) (he
       let penned = rw (o.same_name, o.same_version, o.same_game, o.same_innings) at step in
       let disk = r.on_disk in
       let cap : cap_of (disk_of k) ≡ _ = disk.cap ∙ ap most_bytes (sym (o.same_version ∙ h.version)) in
-      let within : FitsOneMore k = has_room (version_of k) (length (own_votes k)) (cap_of (disk_of k)) penned.3.0.1.1 cap in
+      let within : FitsOneMore k = has_room (version_of k) _ _ penned.3.0.1.1 cap in
       let broken = broken_site old new k l x (Cause.Desk DeskRefusal.Device) seen here h owner (λ n. blame.calm n within refl) (λ o. blame.spent o within refl) refl broke in
       (broken.0, penned.0, broken.1, broken.2, (state_of k, state_of l, PenAnswer.DeviceFailed, r.process, penned.3, broken.3), broken.4, rw penned.3.3 (no_bytes old.game before messages b))
   pen_refused new why seen step blame a =

@@ -12,7 +12,7 @@ use Rattle.entry_log.specs.declared.mem_disk.{MemDisk.MemDisk, plan.Plan.Plan}
 use Rattle.entry_log.specs.declared.mem_disk.plan.Plan.TheVariants.{Calm}
 use Rattle.agree_core.specs.declared.messages.{DeskId.DeskId, Message.Message}
 use Rattle.agree_core.specs.Ballots.{Ballot}
-use Rattle.agree_core.specs.Desks.{DeskState, most_votes}
+use Rattle.agree_core.specs.Desks.{most_votes}
 use Rattle.agree_core.specs.FileView.{Stays}
 use Rattle.vote_store.specs.View.{file_view}
 use Rattle.desk.proofs.ViewLemmas.{stays}
@@ -31,14 +31,10 @@ use Rattle.schedule_replay.specs.Answers.{AreBytesOf, answer_of}
 use Rattle.schedule_replay.specs.inner.Sites.{BreaksDown, IsDue, IsProcess, HasNode, IsWorldDisk, PutsDown, SameSite, disk_at, votes_at}
 use Rattle.world_desks.specs.WorldDesks.{IsWorldDeskOf, SameOwner, disk_of, state_of}
 
-abbrev pub own_votes : WorldDesk → List Ballot
-own_votes k = (λ (s : DeskState MemDisk). s.votes) (state_of k)
-
 -- a site whose desk runs
 pub record Runs (site : Site) (k : WorldDesk) (x : Node MemDisk) : Type 0 where
   pub owner : IsWorldDeskOf site.name x.version site.game site.innings_a_side k
   pub on_disk : IsWorldDisk site.version site.due (disk_of k)
-  pub no_disk : site.disk ≡ None
   pub process : x.process ≡ Running (state_of k)
 
 pub running_is : (site : Site) (k : WorldDesk) (x : Node MemDisk) → site.desk ≡ Some k → HasNode site x → Runs site k x

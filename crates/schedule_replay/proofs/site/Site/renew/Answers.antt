@@ -1,11 +1,8 @@
-use Rattle.std.proofs.Common.{◌∙◌, Option, Some, ap, refl, sym}
+use Rattle.std.proofs.Common.{◌∙◌, Some, ap, arith, refl, sym}
 use Rattle.std.proofs.lemmas.Result.{err_from_is_err_and}
-use Rattle.headline.specs.declared.version.FileVersion.TheVariants.{New}
-use Rattle.world_desks.specs.declared.world_desk.WorldDesk.{WorldDesk}
 use Rattle.schedule_replay.specs.declared.seen.Cause.{Cause}
 use Rattle.schedule_replay.specs.Answers.{is_failing, wants_memory}
-use Rattle.schedule_replay.specs.inner.Sites.{disk_at}
-use Rattle.schedule_replay.proofs.DueLemmas.{keeps_down, keeps_from, keeps_not_found, no_failure}
+use Rattle.schedule_replay.proofs.DueLemmas.{keeps_down, keeps_not_found, no_failure}
 use Rattle.schedule_replay.proofs.MigrateLemmas.{IsMoved, IsReturned, migrated, not_migrated}
 use Rattle.schedule_replay.proofs.OpenLemmas.{stays_so}
 use Rattle.schedule_replay.proofs.site.Site.renew.Goals as goal
@@ -24,10 +21,8 @@ returns-in-Ok-clause-step c = λ sent.
 
 pub returns-in-Ok-clause-counted : goal.returns-in-Ok-clause-counted
 returns-in-Ok-clause-counted c =
-    let there = sym c.take.ensures.value ∙ c.unwrap-old.ensures in
     let same = c.in-Ok.ensures.blame.same (λ q. (cc)) in
-    keeps_from c.args.self.now (record c.args.self.now { version = New; disk = Some c.in-Ok.migrated.new }) c.unwrap-old.result c.in-Ok.migrated.new (λ i. disk_at (c.requires.down i) (there i))
-    (ap (λ (o : Option WorldDesk). disk_at o (Some c.in-Ok.migrated.new)) c.requires.down) (ap (λ z. z.due) same.1 ∙ c.move_fault.ensures.due)
+    grind (arith, c.requires.down, c.take.ensures.value, c.unwrap-old.ensures, same.1, c.move_fault.ensures.due)
 
 pub returns-in-Err : goal.returns-in-Err
 returns-in-Err c =

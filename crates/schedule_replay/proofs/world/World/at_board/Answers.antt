@@ -21,17 +21,13 @@ returns-in-Tick-clause-step c =
     (there (goal.at.returns-in-Tick-clause-step c).After-index_mut-board) refl (λ of. of)
     (rw (c.in-Tick.is, ← c.in-Ok.ensures.items) (c.tick_board.ensures.step c.in-Tick.field-0))
 
-pub returns-in-Wipe-clause-step : goal.returns-in-Wipe-clause-step
-returns-in-Wipe-clause-step c =
-    (wipes c.args.number c.args.self.now _ c.args.event.now c.requires.here (record { a = refl; b = refl; same_game = refl; same_innings = refl }) c.in-Wipe.field-0 c.index_mut-board.result.now c.wipe_board.new.board c.wipe_board.result
-    c.in-Wipe.is (there (goal.at.returns-in-Wipe-clause-step c).After-index_mut-board) refl c.in-Ok.ensures.items
-    c.wipe_board.ensures.step c.wipe_board.ensures.owner c.wipe_board.ensures.refused).0
-
-pub returns-in-Wipe-clause-refused : goal.returns-in-Wipe-clause-refused
-returns-in-Wipe-clause-refused c =
-    (wipes c.args.number c.args.self.now _ c.args.event.now c.requires.here (record { a = refl; b = refl; same_game = refl; same_innings = refl }) c.in-Wipe.field-0 c.index_mut-board.result.now c.wipe_board.new.board c.wipe_board.result
-    c.in-Wipe.is (there (goal.at.returns-in-Wipe-clause-refused c).After-index_mut-board) refl c.in-Ok.ensures.items
-    c.wipe_board.ensures.step c.wipe_board.ensures.owner c.wipe_board.ensures.refused).1
+pub returns-in-Wipe : goal.returns-in-Wipe
+returns-in-Wipe c =
+    let p = wipes c.args.number c.args.self.now _ c.args.event.now c.requires.here (record { a = refl; b = refl; same_game = refl; same_innings = refl })
+    c.in-Wipe.field-0 c.index_mut-board.result.now c.wipe_board.new.board c.wipe_board.result
+    c.in-Wipe.is (there (goal.at.returns-in-Wipe c).After-index_mut-board) refl c.in-Ok.ensures.items
+    c.wipe_board.ensures.step c.wipe_board.ensures.owner c.wipe_board.ensures.refused in
+    record { step = p.0; refused = p.1; same = record { same_game = refl; same_innings = refl } }
 
 pub returns-in-Err-clause-refused : goal.returns-in-Err-clause-refused
 returns-in-Err-clause-refused c =

@@ -7,6 +7,7 @@ use Rattle.schedule_replay.specs.CodeWorlds.{MatchBoard}
 use Rattle.schedule_replay.specs.inner.ShownScores.{BookShows, board_book}
 use Rattle.schedule_replay.proofs.ShowLemmas.{adds_book, all_noted, all_scored, board_name, desk_name, desk_noted, none_noted, noted_next, one_noted, scored_next}
 use Rattle.schedule_replay.proofs.world.World.note.Goals as goal
+use Rattle.schedule_replay.proofs.world.World.note.Goals.{After-shown}
 
 pub note-requires-clause-one : goal.note-requires-clause-one
 note-requires-clause-one c = let w = c.requires.notable in one_noted (desk_name A w.1) w.1 (none_noted c.args.self.now _)
@@ -27,26 +28,28 @@ board_there : (items boards : List MatchBoard) (i : ℕ) (k : MatchBoard) → bo
     → k ≡ slice_index_or boards i k → slice_get items i ≡ Some k
 board_there items boards i k same less e = rw (← same) (slice_get_read boards _ i k refl less e)
 
+there : (c : After-shown) → slice_get c.args.self.now.boards.items c.loop-number.number ≡ Some c.board-item.result
+there c =
+    let items = c.deref-board-items in
+    board_there c.args.self.now.boards.items items.result.now c.loop-number.number _ items.ensures.value c.loop-number-test.true c.board-item.is
+
+shows : (c : After-shown) → BookShows (board_book (slice_get c.args.self.now.boards.items c.loop-number.number)) c.len.result c.shown.result.now
+shows c = rw (there c) (c.len.ensures.entries ∙ ap (λ (b : Contents). length b.entries) c.book.ensures, c.shown.ensures)
+
 pub note-requires-in-loop-number-clause-one : goal.note-requires-in-loop-number-clause-one
 note-requires-in-loop-number-clause-one c = λ other stands.
-    let i = c.loop-number.number in
-    let items = c.deref-board-items in
-    let there = board_there c.args.self.now.boards.items items.result.now i _ items.ensures.value c.loop-number-test.true c.board-item.is in
-    let long = c.len.ensures.entries ∙ ap (λ (b : Contents). length b.entries) c.book.ensures in
     let w = c.requires.notable in
-    one_noted (board_name i) w.1 c.loop-number.invariant.0 c.len.result c.shown.result.now other stands (rw there (long, c.shown.ensures))
+    let own = shows (goal.at.note-requires-in-loop-number-clause-one c).After-shown in
+    one_noted (board_name c.loop-number.number) w.1 c.loop-number.invariant.0 c.len.result c.shown.result.now other stands own
 
 pub loop-number-preserved : goal.loop-number-preserved
 loop-number-preserved c =
-    let i = c.loop-number.number in
-    let items = c.deref-board-items in
-    let there = board_there c.args.self.now.boards.items items.result.now i _ items.ensures.value c.loop-number-test.true c.board-item.is in
-    let long = c.len.ensures.entries ∙ ap (λ (b : Contents). length b.entries) c.book.ensures in
-    let shows : BookShows (board_book (slice_get c.args.self.now.boards.items i)) c.len.result c.shown.result.now = rw there (long, c.shown.ensures) in (
-      noted_next (omega arith) (omega arith) (omega arith) (board_name i) c.loop-number.invariant.0 (adds_book _ _ _ _ _ _ shows c.in_ok-note-3.ensures.noted),
+    let at = (goal.at.loop-number-preserved c).After-shown in (
+      noted_next (omega arith) (omega arith) (omega arith) (board_name c.loop-number.number) c.loop-number.invariant.0
+          (adds_book _ _ _ _ _ _ (shows at) c.in_ok-note-3.ensures.noted),
       c.in_ok-note-3.ensures.kept,
-      (let less = c.loop-number-test.true in omega (arith, less, ap length items.ensures.value)),
-      scored_next c.args.self.now i c.board-item.result c.loop-number.invariant.3 there (c.shown.result.now, c.shown.ensures),
+      (let less = c.loop-number-test.true in omega (arith, less, ap length c.deref-board-items.ensures.value)),
+      scored_next c.args.self.now c.loop-number.number c.board-item.result c.loop-number.invariant.3 (there at) (c.shown.result.now, c.shown.ensures),
     )
 
 pub returns : goal.returns
