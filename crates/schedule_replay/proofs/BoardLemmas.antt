@@ -34,14 +34,14 @@ use Rattle.schedule_replay.specs.CodeWorlds.{BeginsWorld, boards_of, IsBoardOf, 
 use Rattle.schedule_replay.specs.CodeWorlds.{RefusesTo, StepsTo, board_game, board_innings, board_seen, board_state, code_site}
 use Rattle.schedule_replay.specs.inner.WorldBoards.{AreFresh, BoardSteps, SameBoard}
 use Rattle.schedule_replay.proofs.TakeLemmas.{sending_grows}
-use Rattle.schedule_replay.proofs.GiveLemmas.{all_at, message_at, not_both}
+use Rattle.schedule_replay.proofs.GiveLemmas.{all_at, message_at}
 use Rattle.schedule_replay.proofs.SiteLemmas.{no_bytes, ticked}
 use Rattle.schedule_replay.proofs.WorldLemmas.{sent_length}
 
 -- what a board receives of bytes that say a message
 takes_as : (rules : Rules Refusal) (game : ℕ) (k l : BoardState) (bytes : List ℕ) (answer : Result What BoardRefusal) (m : Message)
     → Says game bytes m → Takes rules game k bytes answer l → (received : BoardAnswer) × (answer_of (board_seen answer) ≡ Some (board_told received)) × BoardReceives rules k m received l
-takes_as rules game k l bytes (Ok (What.Bad fault)) m s t = absurd (not_both m fault (reads_once game bytes (Ok m) (Err fault) s t.0))
+takes_as rules game k l bytes (Ok (What.Bad fault)) m s t = let both = reads_once game bytes (Ok m) (Err fault) s t.0 in absurd (cc)
 takes_as rules game k l bytes (Ok (What.Heard h)) m s t = (BoardAnswer.Told h, refl, rw (says_once game bytes t.0 m t.1 s) at t.2)
 takes_as rules game k l bytes (Ok What.Asked) m s t = (BoardAnswer.Asked, refl, rw (says_once game bytes t.0 m t.1 s) at t.2)
 takes_as rules game k l bytes (Err (BoardRefusal.BadVotes place)) m s t =
@@ -76,15 +76,15 @@ pub record IsThere (n : ℕ) (old : World) (event : Event) (k : MatchBoard) : Ty
   pub here : slice_get old.boards.items (n - 1) ≡ Some k
   pub none : first_cause (no_board (length old.boards.items) n) false (length old.sent.items) event ≡ None
 
-site_stays : (old new : World) (d : DeskId) → new.a ≡ old.a → new.b ≡ old.b → code_site new d ≡ code_site old d
-site_stays old new d a b = grind arith
-
 -- where no cause stands there is the board of this number
 pub is_there : {n many : ℕ} {old : World} (event : Event) {k : MatchBoard} {missing : Bool} → missing ≡ no_board many n
     → many ≡ length old.boards.items → first_cause missing false (length old.sent.items) event ≡ None → k ≡ get_or old.boards.items (n - 1) k
     → IsThere n old event k
 is_there {n = n} {old = old} event {k = k} m many none e =
     grind (arith, nat_tests, slice_get-get_or old.boards.items (n - 1) k)
+
+site_stays : (old new : World) (d : DeskId) → new.a ≡ old.a → new.b ≡ old.b → code_site new d ≡ code_site old d
+site_stays old new d a b = grind arith
 
 pub same_owner : (game innings : ℕ) (k l : MatchBoard) → SameBoard k l → IsBoardOf game innings k → IsBoardOf game innings l
 same_owner game innings k l s of = record { same_game = s.same_game ∙ of.same_game; same_innings = s.same_innings ∙ of.same_innings }

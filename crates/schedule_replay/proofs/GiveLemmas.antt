@@ -11,7 +11,7 @@ use Rattle.entry_log.specs.declared.mem_disk.MemDisk.{MemDisk}
 use Rattle.agree_core.specs.declared.messages.Message.{Message}
 use Rattle.agree_core.specs.Desks.{DeskState, ReceiveAnswer, Receives}
 use Rattle.agree_core.specs.FileView.{FileView}
-use Rattle.wire.specs.declared.{datagram.Datagram.Datagram, fault.WireFault.WireFault, what.What.What}
+use Rattle.wire.specs.declared.{datagram.Datagram.Datagram, what.What.What}
 use Rattle.wire.specs.Layout.{IsMessage, Says, written}
 use Rattle.wire.specs.Sent.{AreSent}
 use Rattle.wire.proofs.FaultLemmas.{reads_once}
@@ -32,9 +32,6 @@ use Rattle.schedule_replay.specs.inner.Sites.{BreaksDown, SiteSteps}
 use Rattle.world_desks.specs.WorldDesks.{SameOwner, disk_of, game_of, state_of, view_of}
 use Rattle.schedule_replay.proofs.SiteLemmas.{broken_site, more_bytes, no_bytes, running_is, runs_on}
 
-pub not_both : (m : Message) (fault : WireFault) → Ok m ≡ Err fault → ⊥
-not_both m fault e = cc
-
 any_reply : (game : ℕ) (reply : Option (List ℕ)) (out : List Message) → replied reply ≡ map (written game) out → is_some reply ≡ has_any out
 any_reply game reply out e = grind arith
 
@@ -43,7 +40,7 @@ takes_as : (view : FileView MemDisk) (game : ℕ) (x : Node MemDisk) (k l : Desk
     (m : Message) → Says game bytes m → Takes view game k bytes what l out → is_fault what ≡ false → replied reply ≡ map (written game) out
     → (received : ReceiveAnswer) × (answer : Answer Refusal) × (answer_of (given_seen what reply) ≡ Some answer)
     × Receives view k m received l out × AfterReceive view x received l out answer (record x { process = Running l })
-takes_as view game x k l bytes (What.Bad fault) reply out m s t n e = absurd (not_both m fault (reads_once game bytes (Ok m) (Err fault) s t.1))
+takes_as view game x k l bytes (What.Bad fault) reply out m s t n e = let both = reads_once game bytes (Ok m) (Err fault) s t.1 in absurd (cc)
 takes_as view game x k l bytes What.Failed reply out m s t n e =
     (ReceiveAnswer.Failed, Answer.HasFailed, refl, (t.0, rw t.1 ((refl, λ image. (λ shown. shown, λ shown. shown)), refl), t.2), (refl, refl))
 takes_as view game x k l bytes (What.Heard h) reply out m s t n e =

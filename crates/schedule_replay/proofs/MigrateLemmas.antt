@@ -28,7 +28,7 @@ use Rattle.headline.specs.Migrations.{Failed, MigratesAt, NotSound, ToNew}
 use Rattle.headline.specs.Match.{format_of, most_bytes}
 use Rattle.schedule_replay.specs.Answers.{answer_of, is_failing, wants_memory}
 use Rattle.schedule_replay.specs.inner.Sites.{BreaksDown, HasNode, IsWorldDisk, NotFoundBy, SiteSteps}
-use Rattle.schedule_replay.proofs.SiteLemmas.{down_is, no_bytes}
+use Rattle.schedule_replay.proofs.SiteLemmas.{no_bytes}
 use Rattle.schedule_replay.proofs.OpenLemmas.{IsDown, Outcome, ViewAt, broken_down, down_at, still_down, syncs}
 
 -- what the definitions say of a file of this version is a step at a site whose desk is down, and whose file has it
@@ -68,7 +68,7 @@ migrated old disk moved fresh begun made n sent version down there m is holds ca
     migrates old new disk FileVersion.Old (Seen.Migrated n) sent version down there (λ x h d.
     let on = d.on_disk in
     let on_made : IsWorldDisk FileVersion.New old.due made = grind (arith, m.due, begins.cap, empty.cap, on) in
-    let site : HasNode new (record x { version = FileVersion.New; process = Down d.votes made }) = record { version = refl; process = down_is new made d.votes down refl (sym d.many) on_made; due = h.due } in
+    let site : HasNode new (record x { version = FileVersion.New; process = Down d.votes made }) = grind (arith, on_made, d.many, h.due) in
     (record x { version = FileVersion.New; process = Down d.votes made }, Answer.Migrated n, refl, (ToNew is.votes made, (found, held), (ap Answer.Migrated is.many, refl)), site))
 
 -- the old disk after a migration that failed

@@ -33,9 +33,8 @@ pub put_down_votes : (old new : Site) (disk : MemDisk) (x : Node MemDisk) (found
     → votes_shown (contents (format_of new.version)) new.name new.game (file_of disk) ≡ Some found
     → (new.votes ≤ length found) × (oldest new.votes found ≡ process_votes x.process)
 put_down_votes old new disk x found h reads put there shows =
-    let has = site_disk old x h in
     let read = put_down_reads old new disk x h reads put there in
-    first_are read.0 (process_votes x.process) found new.votes (grind (arith, shows, read.1)) (put.counted ∙ has.votes)
+    first_are read.0 (process_votes x.process) found new.votes (grind (arith, shows, read.1)) (put.counted ∙ (site_disk old x h).votes)
 
 -- what the match's file of a desk shows, its site reads by its own names
 pub of_names : (code : World) (d : DeskId) (w : Configuration MemDisk) → HasConfiguration code w → FilesRead code.game code.innings_a_side w

@@ -109,9 +109,6 @@ pub record NotedBelow (code : World) (k : ℕ) (old new : List Shown) : Type 0 w
 pub none_noted : (code : World) (old : List Shown) → NotedBelow code 0 old old
 none_noted code old = record { noted = λ t n score. grind arith }
 
-split : (i n : ℕ) → i < n + 1 → (i < n) ⊎ (i ≡ n)
-split i n l = grind (arith, l)
-
 -- what is added to what was added before
 added_more : {Old Mid New Shows Below Here Next : Type 0} → Mid ↔ (Old ⊎ (Shows × Below)) → New ↔ (Mid ⊎ Here) → (Here → Shows × Next)
     → (Below → Next) → (Shows → Next → Below ⊎ Here) → New ↔ (Old ⊎ (Shows × Next))
@@ -124,10 +121,7 @@ noted_next {code = code} {k = k} {u = u} f number next is h a = record {
   noted = λ t n score. added_more (h.noted t n score) (a t n score)
       (λ e. (rw (e.0 ∙ is) e.1, let same = ap station_number (e.0 ∙ is) in omega arith))
       (λ less. omega arith)
-      (λ c less. elim (split (station_number t) k (omega arith)) [
-        | inl below ↦ inl below
-        | inr same ↦ let e = same_station t u (shows_from_one code t n score c) f (same ∙ sym number) in inr (e ∙ sym is, rw e at c)
-      ]);
+      (λ c less. let same = same_station t u (shows_from_one code t n score c) f in grind (arith, same, c, less, number, is, next));
 }
 
 -- what stands there of a station that is to be noted has the score that it shows

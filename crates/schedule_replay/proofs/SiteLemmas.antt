@@ -11,7 +11,6 @@ use Rattle.entry_log.specs.Plan.{due_of}
 use Rattle.entry_log.specs.declared.mem_disk.{MemDisk.MemDisk, plan.Plan.Plan}
 use Rattle.entry_log.specs.declared.mem_disk.plan.Plan.TheVariants.{Calm}
 use Rattle.agree_core.specs.declared.messages.{DeskId.DeskId, Message.Message}
-use Rattle.agree_core.specs.Ballots.{Ballot}
 use Rattle.agree_core.specs.Desks.{most_votes}
 use Rattle.agree_core.specs.FileView.{Stays}
 use Rattle.vote_store.specs.View.{file_view}
@@ -76,11 +75,6 @@ pushed old new d e = rw e (map-append (λ (d : Datagram). d.bytes) old (d ∷ []
 pub sets_plan_stays : (name : DeskId) (version : FileVersion) (game : ℕ) (plan : Plan) (old new : MemDisk) → SetsPlan plan old new
     → Stays (file_view (contents (format_of version)) file_of images_of name game) old new
 sets_plan_stays name version game plan old new h = stays (contents (format_of version)) file_of images_of name game old new h.file h.images
-
--- a site whose desk is down
-pub down_is : (site : Site) (disk : MemDisk) (votes : List Ballot) → site.desk ≡ None → site.disk ≡ Some disk → site.votes ≡ length votes → IsWorldDisk site.version site.due disk
-    → IsProcess site site.desk site.disk (Down votes disk)
-down_is site disk votes d l v on = rw (d, l) (on, (votes, sym v, refl))
 
 -- the disk and the votes of a site, whether its desk runs or is down
 pub record HasDisk (site : Site) (p : Process MemDisk) : Type 0 where
