@@ -1,8 +1,10 @@
 -- The lines of a book, read again.
-use Rattle.std.proofs.Common.{◌≡◌, ◌∙◌, ℕ, zero, suc, ◌+◌, ◌<◌, ◌≤◌, ◌==◌, List, [], ◌∷◌, ◌++◌, Bool, true, not, arith, refl, sym, map, take, Some, None, Result, Ok, Err, length, length-append, add-one, append-nil, append_assoc}
+use Rattle.std.proofs.Common.{◌≡◌, ℕ, ◌+◌, ◌<◌, ◌≤◌, ◌==◌, List, [], ◌∷◌, ◌++◌, Bool, true, not, arith, refl, sym, map, take, Some, None, Result, Ok, Err, length, length-append, append-nil, append_assoc}
 use Rattle.std.specs.Prelude.{codes, slice_get}
-use Rattle.std.specs.List.{list_all}
+use Rattle.std.specs.List.{All, list_all}
 use Rattle.std.proofs.lemmas.List.{take_all}
+use Rattle.std.proofs.lemmas.List.Elements.{All-head, All-more, All-tail}
+use Rattle.std.proofs.lemmas.Option.{get_or_from_slice_get, slice_get_within}
 use Rattle.notation.specs.declared.{entry.Entry.Entry, entry.TheConstants.PLACES}
 use Rattle.notation.specs.Lines.{lines_of}
 use Rattle.notation.specs.Reading.{line_answer}
@@ -23,16 +25,9 @@ use Rattle.books.specs.declared.source.Source.{Source}
 use Rattle.books.specs.declared.source.Source.TheVariants.{Lines}
 use Rattle.commands.specs.Lines.{AreReadAgain, full_line, lines_text}
 
--- each of these entries has its numbers in their ranges
-abbrev pub AllEntries : List Entry → Type 0
-AllEntries [] = Unit {0}
-AllEntries (e ∷ es) = IsEntry e × AllEntries es
-
 -- one entry more of a book
-pub one_more : (book : List Entry) (k : ℕ) (e : Entry) → AllEntries (take k book) → slice_get book k ≡ Some e → IsEntry e → AllEntries (take (k + 1) book)
-one_more [] k e h is in_range = absurd (cc)
-one_more (x ∷ xs) zero e h is in_range = let same : x ≡ e = cc in (rw same in_range, tt)
-one_more (x ∷ xs) (suc k) e h is in_range = rw (add-one) (h.0, rw (add-one) at (one_more xs k e h.1 is in_range))
+pub one_more : (book : List Entry) (k : ℕ) (e : Entry) → All IsEntry (take k book) → slice_get book k ≡ Some e → IsEntry e → All IsEntry (take (k + 1) book)
+one_more book k e h is in_range = All-more IsEntry book k e (slice_get_within book k e is) h (rw (get_or_from_slice_get book k e e is) in_range)
 
 -- no byte of a line is a newline
 abbrev pub is_one_line : List ℕ → Bool
@@ -52,33 +47,33 @@ spaced : (pieces : List (List ℕ)) → list_all is_token pieces ≡ true → li
 spaced [] h = refl
 spaced (w ∷ ws) h = grind (arith, spaced ws)
 
-one_line : (line : List ℕ) → is_spaced line ≡ true → is_one_line line ≡ true
-one_line line h = visible_line line (spaced (tokens line) h)
-
 -- what is read as an entry is spaced
 read_is_spaced : (line : List ℕ) (e : Entry) → line_answer line ≡ Ok e → is_spaced line ≡ true
 unfolding line_answer
 read_is_spaced line e h = grind arith
 
 text_is_one_line : (e : Entry) → IsEntry e → is_one_line (text_of e) ≡ true
-text_is_one_line e h = one_line (text_of e) (read_is_spaced (text_of e) e (line_again e h))
+text_is_one_line e h = visible_line (text_of e) (spaced (tokens (text_of e)) (read_is_spaced (text_of e) e (line_again e h)))
 
 -- the lines of the lines of these entries are their texts
-pub lines_of-lines_from : (n : ℕ) (book : List Entry) → AllEntries book → lines_of (lines_from full_line n book) ≡ map text_of book
+lines_of-lines_from : (n : ℕ) (book : List Entry) → All IsEntry book → lines_of (lines_from full_line n book) ≡ map text_of book
 lines_of-lines_from n [] h = refl
 lines_of-lines_from n (e ∷ es) h =
-    rw (append_assoc (text_of e) (codes "\n"), cut (text_of e) (lines_from full_line (n + 1) es) (text_is_one_line e h.0), lines_of-lines_from (n + 1) es h.1) refl
+    rw (
+      append_assoc (text_of e) (codes "\n"),
+      cut (text_of e) (lines_from full_line (n + 1) es) (text_is_one_line e (All-head IsEntry e es h)),
+      lines_of-lines_from (n + 1) es (All-tail IsEntry e es h),
+    ) refl
 
-pub texts_again : (book : List Entry) → AllEntries book → map line_answer (map text_of book) ≡ map Ok book
+texts_again : (book : List Entry) → All IsEntry book → map line_answer (map text_of book) ≡ map Ok book
 texts_again [] h = refl
-texts_again (e ∷ es) h = rw (line_again e h.0, texts_again es h.1) refl
-
-pub are_read_again : (book : List Entry) → AllEntries book → length book ≤ PLACES → AreReadAgain book
-are_read_again book h few = record { said = rw (lines_of-lines_from 0 book h) (texts_again book h); places = few }
+texts_again (e ∷ es) h = rw (line_again e (All-head IsEntry e es h), texts_again es (All-tail IsEntry e es h)) refl
 
 -- all entries of a book, so many
-pub all_read : (book : List Entry) (k n : ℕ) → n ≤ k → n ≡ length book → n ≤ PLACES → AllEntries (take k book) → AreReadAgain book
-all_read book k n end long few h = are_read_again book (rw (take_all k book (omega (arith, end, long))) at h) (omega (arith, long, few))
+pub all_read : (book : List Entry) (k n : ℕ) → n ≤ k → n ≡ length book → n ≤ PLACES → All IsEntry (take k book) → AreReadAgain book
+all_read book k n end long few h =
+    let all = rw (take_all k book (omega (arith, end, long))) at h in
+    record { said = rw (lines_of-lines_from 0 book all) (texts_again book all); places = omega (arith, long, few) }
 
 -- ---- as a book
 
@@ -86,10 +81,6 @@ module _ (innings : ℕ) where
   -- a line that says an entry which may come next is taken
   taken_next : (book : List Entry) (line : List ℕ) (e : Entry) → line_answer line ≡ Ok e → length book < PLACES → book_refusal innings book e ≡ None → answer_to innings book line ≡ Ok e
   taken_next book line e says few may = grind (arith, says, few, may)
-
-  rejected_later : (n : ℕ) (book : List Entry) (line : List ℕ) (lines : List (List ℕ)) (e : Entry) → answer_to innings book line ≡ Ok e →
-      first_rejected innings n book (line ∷ lines) ≡ first_rejected innings (n + 1) (book ++ e ∷ []) lines
-  rejected_later n book line lines e taken = rw (first_rejected, taken) refl
 
   -- lines that say entries of which each may come next are taken, all of them
   all_taken : (n : ℕ) (book : List Entry) (lines : List (List ℕ)) (es : List Entry) → map line_answer lines ≡ map Ok es →
@@ -103,7 +94,7 @@ module _ (innings : ℕ) where
       let rest : map line_answer lines ≡ map Ok es = cc in
       let next = taken_next book line e says (omega (arith, few)) may.0 in
       let later = all_taken (n + 1) (book ++ e ∷ []) lines es rest may.1 (omega (arith, few, length-append book (e ∷ []))) in
-      (rejected_later n book line lines e next ∙ later.0, rw (next) (rw (append_assoc book (e ∷ [])) at later.1))
+      (rw (first_rejected, next) later.0, rw next (rw (append_assoc book (e ∷ [])) at later.1))
 
   again : (book : List Entry) → AreReadAgain book → AllTaken (book_refusal innings) [] book → IsBookOfLines innings (lines_text book) book
   again book m may = let all = all_taken 1 [] (lines_of (lines_text book)) book m.said may (omega (arith, m.places)) in record { taken = all.0; entries = sym all.1 }

@@ -3,7 +3,7 @@
 use Rattle.std.specs.Prelude.{◌≡◌, is_some, ℕ, Bool, true, false, List, ◌++◌, Option, codes}
 use Rattle.notation.specs.declared.entry.Entry.{Entry}
 use Rattle.agree_core.specs.declared.messages.DeskId.{DeskId}
-use Rattle.agree_core.specs.declared.messages.DeskId.TheVariants.{A, B}
+use Rattle.agree_core.specs.declared.messages.DeskId.TheVariants.{B}
 use Rattle.cards.specs.Sheet.{Sheet}
 use Rattle.toml.specs.Data.{Members}
 use Rattle.streams.specs.declared.{input.InputFault.InputFault, watched.Watched.Watched}

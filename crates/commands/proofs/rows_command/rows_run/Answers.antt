@@ -1,32 +1,10 @@
-use Rattle.std.proofs.Common.{◌≡◌, ◌∙◌, ℕ, List, Option, Some, None}
-use Rattle.std.specs.Prelude.{IfSome}
-use Rattle.notation.specs.declared.entry.Entry.{Entry}
-use Rattle.streams.specs.declared.watched.Watched.{Watched}
-use Rattle.streams.specs.Watched.{Prints, stream_of}
-use Rattle.cards.specs.Sheet.{Sheet}
-use Rattle.toml.specs.Data.{Members}
-use Rattle.toml.specs.View.{table_view}
-use Rattle.books.specs.CardBook.{IsBookFrom}
-use Rattle.books.specs.declared.source.Source.{Source}
-use Rattle.archive_deliveries.specs.Names.{told_apart}
-use Rattle.delivery_rows.specs.declared.table.Table.{Table}
-use Rattle.delivery_rows.specs.Table.{table_text}
-use Rattle.commands.specs.Rows.{PrintsRows}
+use Rattle.std.proofs.lemmas.Option.{IfSome_then}
+use Rattle.streams.specs.Watched.{stream_of}
 use Rattle.commands.proofs.rows_command.rows_run.Goals as goal
 
--- the table of the book of what was read is that of the input's
-module _
-    {S : Type 0} (contents : S → Option (List ℕ)) (old new : Watched S) (table : Table) (s : Sheet) (document : Members) (source : Source) (book : List Entry)
-    {xs text : List ℕ} (made : IsBookFrom source s xs book)
-    (told : text ≡ table_text table (told_apart s) document book) (written : Prints contents old new text)
-  where
-    prints : (o : Option (List ℕ)) {us : List ℕ} → xs ≡ us → IfSome o (λ input. us ≡ input)
-        → IfSome o (λ input. PrintsRows contents old new table s document source input)
-    prints (Some x) a e = let from = rw (a ∙ e) at made in record { book = book; made = from; written = rw told at written }
-    prints None a e = tt
-
 pub returns-in-Ok-clause-written : goal.returns-in-Ok-clause-written
-returns-in-Ok-clause-written g c =
-    prints g.W.Sink.contents c.args.writer.now c.print_rows.new.out c.args.table c.args.sheet.now (table_view c.args.document.now) c.args.source _
-    c.in_ok-book.ensures.book c.in_ok-text.ensures (rw c.as_str.ensures.value at c.in-Ok.ensures.text)
-    (g.R.Feed.remaining (stream_of c.args.reader.now)) c.as_slice.ensures.value c.in_ok-input.ensures.whole
+returns-in-Ok-clause-written g c = IfSome_then (g.R.Feed.remaining (stream_of c.args.reader.now)) c.in_ok-input.ensures.whole (λ input whole. record {
+  book = c.in_ok-book.book.entries;
+  made = rw (c.as_slice.ensures.value, whole) at c.in_ok-book.ensures.book;
+  written = rw (c.as_str.ensures.value, c.in_ok-text.ensures) at c.in-Ok.ensures.text;
+})

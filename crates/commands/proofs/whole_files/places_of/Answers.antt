@@ -1,4 +1,4 @@
-use Rattle.std.proofs.Common.{◌≡◌, ℕ, ◌+◌, ◌-◌, length, sym, ap, ◌∙◌, arith}
+use Rattle.std.proofs.Common.{◌≡◌, ◌+◌, ◌-◌, length, sym, ap, ◌∙◌, arith}
 use Rattle.vote_store.proofs.FileLemmas.{oldest-all}
 use Rattle.books.specs.DeskVotes.{read_votes}
 use Rattle.commands.specs.Ends.{places_of}
