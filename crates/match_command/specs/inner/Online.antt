@@ -1,10 +1,9 @@
 -- What the datagrams of a match tell, and what a board makes of them.
-use Rattle.std.specs.Prelude.{◌≡◌, ℕ, List, ◌++◌, All, Some, length, slice_get}
+use Rattle.std.specs.Prelude.{◌≡◌, ℕ, List, ◌++◌, All, IfSome, Some, length, slice_get, take}
 use Rattle.notation.specs.declared.entry.Entry.{Entry}
-use Rattle.agree_core.specs.declared.messages.{DeskId.DeskId, Message.Message}
+use Rattle.agree_core.specs.declared.messages.Message.{Message}
 use Rattle.agree_core.specs.declared.messages.Message.TheVariants.{Vote, Ask}
 use Rattle.agree_core.specs.Boards.{BoardState}
-use Rattle.agree_core.specs.Readers.{noted_of}
 use Rattle.wire.specs.Layout.{Says}
 use Rattle.links.specs.Passed.{Passed, Sent, Came}
 use Rattle.match_command.specs.MatchRun.{GivesOnlySent}
@@ -21,10 +20,10 @@ IsSaid game entries (Came bytes) = Unit {0}
 
 -- a board's book is the first of these entries, and the votes that it has noted are for the next one
 pub record Follows (entries : List Entry) (k : BoardState) : Type 0 where
-  pub rest : List Entry
-  pub book : entries ≡ k.book ++ rest
+  pub book : k.book ≡ take (length k.book) entries
   pub position : k.reader.position ≡ record { place = length k.book; round = 0 }
-  pub noted : (d : DeskId) (e : Entry) → noted_of k.reader d ≡ Some e → slice_get entries (length k.book) ≡ Some e
+  pub a : IfSome k.reader.a (λ e. slice_get entries (length k.book) ≡ Some e)
+  pub b : IfSome k.reader.b (λ e. slice_get entries (length k.book) ≡ Some e)
 
 -- since the start the stations have sent such messages alone, and the board follows, where the link gave nothing else
 pub record IsOnline

@@ -1,5 +1,5 @@
 -- The desks and the board of a match between their turns.
-use Rattle.std.specs.Prelude.{◌≡◌, ◌+◌, ◌<◌, ◌≤◌, ◌⊎◌, ℕ, false, None, Some, List, [], ◌∷◌, ◌++◌, length, Result, Ok, Err}
+use Rattle.std.specs.Prelude.{◌≡◌, ◌+◌, ◌<◌, ◌≤◌, ◌⊎◌, ℕ, false, Option, None, Some, List, [], ◌∷◌, ◌++◌, length, Result, Ok, Err}
 use Rattle.notation.specs.declared.entry.Entry.{Entry}
 use Rattle.notation.specs.Lines.{lines_of}
 use Rattle.corrections.specs.declared.book_of.BookOf.{Ghosts as Books}
@@ -25,14 +25,17 @@ use Rattle.match_command.specs.declared.match_run.fault.MatchFault.TheVariants.{
 use Rattle.match_command.specs.inner.Online.{IsOnline}
 use Rattle.match_command.specs.MatchRun.{HoldsEither, Stays, entries_of_first, votes_for}
 
+-- a book with the entry of a vote that waits
+abbrev pub with_own : List Entry → Option Entry → List Entry
+with_own book None = book
+with_own book (Some e) = book ++ e ∷ []
+
 -- A seat and a book go with the votes for these entries, each of which was voted for in the first round of its place:
--- the book has them, or those before the desk's own vote that waits, or those before a vote from which the other's
--- differed.
+-- they are the book's with the own vote that waits, or the other's differed from one of them.
 pub record GoesWith (entries : List Entry) (seat : SeatState) (agreed : List Entry) : Type 0 where
   pub place : length agreed ≡ seat.position.place
-  pub book : (agreed ≡ entries) ⊎ (length agreed < length entries)
-  pub own : (e : Entry) → seat.mine ≡ Some e → entries ≡ agreed ++ e ∷ []
-  pub round : (seat.position.round ≡ 0) ⊎ ((seat.mine ≡ None) × (length agreed < length entries))
+  pub voted : ((seat.position.round ≡ 0) × (entries ≡ with_own agreed seat.mine))
+      ⊎ ((seat.mine ≡ None) × (length agreed < length entries))
 
 -- a desk that runs: its file holds the votes for these entries, and its seat and book go with them
 pub record IsInTurn {Disk : Type 0} (view : FileView Disk) (entries : List Entry) (k : DeskState Disk) : Type 0 where
@@ -47,6 +50,12 @@ WhyNotAgreed answer book n (Line number why) = (number ≡ n) × (answer ≡ Err
 WhyNotAgreed answer book n (NotAgreed place) = place ≡ length book
 WhyNotAgreed answer book n Device = Unit {0}
 WhyNotAgreed answer book n _ = ⊥
+
+-- a fault that ends a run after so many lines
+abbrev pub EndsAfter : ℕ → MatchFault → Type 0
+EndsAfter n (Line number why) = number ≡ n + 1
+EndsAfter n (NotAgreed place) = place ≡ n
+EndsAfter n fault = Unit {0}
 
 -- the fault of a run where a desk refuses to pen the entry of a line, at this place
 abbrev pub pen_fault : ℕ → ℕ → PenRefusal → MatchFault
@@ -125,20 +134,12 @@ module _ {S B D : Type 0} {g : Files S D} {h : Disks D} {b : Books B} where
 
   -- what both disks hold where the lines of an input aren't agreed, in a match of so many innings
   abbrev pub LinesLeave : ℕ → List ℕ → MatchFault → Desk S B D g h b → Desk S B D g h b → Type 0
-  LinesLeave innings input (Line number why) a b' =
-      (n : ℕ) × (number ≡ n + 1)
-      × DiskHolds a (entries_of_first n innings input) × DiskHolds b' (entries_of_first n innings input)
-  LinesLeave innings input (NotAgreed place) a b' =
-      DiskHolds a (entries_of_first (place + 1) innings input)
-      × DiskHolds b' (entries_of_first (place + 1) innings input)
-  LinesLeave innings input Device a b' =
-      (n : ℕ)
-      × DiskHoldsEither a (entries_of_first n innings input) (entries_of_first (n + 1) innings input)
-      × DiskHoldsEither b' (entries_of_first n innings input) (entries_of_first (n + 1) innings input)
   LinesLeave innings input Write a b' =
       DiskHolds a (entries_of_first (length (lines_of input)) innings input)
       × DiskHolds b' (entries_of_first (length (lines_of input)) innings input)
-  LinesLeave innings input fault a b' = ⊥
+  LinesLeave innings input fault a b' =
+      (n : ℕ) × EndsAfter n fault
+      × LineLeaves (entries_of_first n innings input) (entries_of_first (n + 1) innings input) fault a b'
 
   -- both run on calm disks
   pub record AreCalm (a b' : Desk S B D g h b) : Type 0 where

@@ -1,5 +1,3 @@
-use Rattle.std.proofs.Common.{subst, sym}
-use Rattle.match_command.specs.inner.Turns.{PenLeaves}
 use Rattle.match_command.proofs.TurnLemmas.{refused, voted}
 use Rattle.match_command.proofs.match_run.turns.pen.Goals as goal
 
@@ -8,5 +6,4 @@ returns-in-Ok-clause-voted g c = λ level. voted c.args.desk.now c.pen.new.self 
 
 pub returns-in-Err-clause-left : goal.returns-in-Err-clause-left
 returns-in-Err-clause-left g c = λ level.
-    subst (λ fault. PenLeaves c.args.entry.now fault c.args.desk.now c.pen.new.self) (sym c.pen_fault.ensures)
-    (refused c.args.desk.now c.pen.new.self c.args.entry.now c.args.number c.len-place.result c.in-Err.why level c.in-Err.ensures.owner c.in-Err.ensures.step)
+    rw c.pen_fault.ensures (refused c.args.desk.now c.pen.new.self c.args.entry.now c.args.number c.len-place.result c.in-Err.why level c.in-Err.ensures.owner c.in-Err.ensures.step)

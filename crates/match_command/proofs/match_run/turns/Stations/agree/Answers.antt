@@ -1,4 +1,4 @@
-use Rattle.std.proofs.Common.{◌∙◌}
+use Rattle.std.proofs.Common.{arith}
 use Rattle.match_command.proofs.TurnLemmas.{both_disks, both_turns, one_round}
 use Rattle.match_command.proofs.match_run.turns.Stations.agree.Goals as goal
 
@@ -10,11 +10,10 @@ returns-then-have_more-clause-online g c =
 
 pub loop-preserved : goal.loop-preserved
 loop-preserved g c =
-    let m = c.loop.invariant in
-    let same = c.board_turn.ensures.same in (
+    let m = c.loop.invariant in (
       both_turns c.args.self.now.a c.loop.self.a c.desk_turn.new.desk m.0 c.in_ok-desk_turn.ensures.kept,
       both_turns c.args.self.now.b c.loop.self.b c.desk_turn-in-loop.new.desk m.1 c.in_ok-desk_turn-2.ensures.kept,
-      record { game = same.game ∙ m.2.game; innings_a_side = same.innings_a_side ∙ m.2.innings_a_side },
+      grind (arith, m.2, c.board_turn.ensures.same),
       both_disks c.args.self.now.a c.loop.self.a c.desk_turn.new.desk m.3 c.desk_turn.ensures.disk,
       both_disks c.args.self.now.b c.loop.self.b c.desk_turn-in-loop.new.desk m.4 c.desk_turn-in-loop.ensures.disk,
       one_round c.args.self.now.board c.loop.self.board c.board_turn.new.board m.0 m.1 m.3 m.4 m.2.game m.5 c.in_ok-desk_turn.ensures.online

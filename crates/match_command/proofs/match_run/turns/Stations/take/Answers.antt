@@ -1,10 +1,10 @@
-use Rattle.std.proofs.Common.{sym, ap, ◌∙◌, subst, ◌≡◌, ◌++◌, ◌∷◌, [], List, ℕ, Ok, length}
+use Rattle.std.proofs.Common.{sym, ap, ◌∙◌, ◌≡◌, ◌++◌, ◌∷◌, [], length, refl, List, ℕ}
 use Rattle.std.specs.Prelude.{OnOk}
 use Rattle.std.proofs.lemmas.Result.{on_ok_weaker}
 use Rattle.notation.specs.declared.entry.Entry.{Entry}
 use Rattle.desk.proofs.RestoreLemmas.{error_of}
-use Rattle.books.specs.Taking.{answer, answer_to, taking, with_taken}
-use Rattle.match_command.specs.inner.Turns.{AreCalm, AreLevel, DiskHolds, VotesFor, book_at, innings_at}
+use Rattle.books.specs.Taking.{answer_to, taking, with_taken}
+use Rattle.match_command.specs.inner.Turns.{AreCalm, AreLevel, VotesFor, book_at, innings_at}
 use Rattle.match_command.proofs.TurnLemmas.{agreed, agreed_online, first_left, second_left, third_left}
 use Rattle.match_command.proofs.match_run.turns.Stations.take.Given.{Over}
 use Rattle.match_command.proofs.match_run.turns.Stations.take.Goals as goal
@@ -16,10 +16,7 @@ voted g c = let level = c.requires.level in c.in_ok-pen.ensures.voted level.leve
 
 more : (g : Over) (c : In_ok-pen g)
     → with_taken (answer_to (innings_at c.args.self.now.a) (book_at c.args.self.now.a) c.args.line.now) (book_at c.args.self.now.a) ≡ book_at c.args.self.now.a ++ c.in-Ok.entry ∷ []
-more g c =
-    let v = voted g c in
-    let a = c.args.self.now.a in
-    ap (λ r. with_taken r (book_at a)) (ap (λ r. answer (innings_at a) (book_at a) r) (sym c.in-Ok.ensures.exact) ∙ v.taken)
+more g c = let v = voted g c in rw (← c.in-Ok.ensures.exact, v.taken) refl
 
 -- both have penned it, and all three stations have agreed it
 all_agreed : (g : Over) (c : After-agree g) → OnOk c.agree.result (AreLevel c.agree.new.self.a c.agree.new.self.b c.agree.new.self.board
@@ -29,48 +26,43 @@ all_agreed g c =
     let level = c.requires.level in
     let old = c.args.self.now in
     let new = c.agree.new.self in
+    let a = c.agree.ensures in
     let place = c.len-place.ensures.entries ∙ ap (λ book. length book.entries) c.book.ensures in
     agreed c.agree.result old.a c.pen.new.desk new.a old.b c.pen-2.new.desk new.b old.board new.board c.in-Ok.entry c.len-place.result level
     (c.in_ok-pen.ensures.voted level.level_a) (c.in_ok-pen-2.ensures.voted level.level_b) c.pen.ensures.owner c.pen-2.ensures.owner place
-    c.agree.ensures.disk_a c.agree.ensures.disk_b c.agree.ensures.kept_a c.agree.ensures.kept_b c.agree.ensures.board c.agree.ensures.at_a c.agree.ensures.at_b c.agree.ensures.at_board
+    a.disk_a a.disk_b a.kept_a a.kept_b a.board a.at_a a.at_b a.at_board
 
 pub returns-in-Err-clause-left : goal.returns-in-Err-clause-left
-returns-in-Err-clause-left g c =
-    let level = c.requires.level in
-    (level.level_a.held, subst (DiskHolds c.args.self.now.b) level.book level.level_b.held)
+returns-in-Err-clause-left g c = let level = c.requires.level in (level.level_a.held, rw level.book at level.level_b.held)
 
 pub returns-in_err-pen-clause-left : goal.returns-in_err-pen-clause-left
 returns-in_err-pen-clause-left g c =
     let level = c.requires.level in
     let old = c.args.self.now in
-    let is = ap (λ r. answer (innings_at old.a) (book_at old.a) r) (sym c.in-Ok.ensures.exact) in
     error_of c.from_residual.result c.in_err-pen.field-0.0 _ c.from_residual.ensures.1
-    (first_left old.a c.pen.new.desk old.b c.args.line.now c.in-Ok.entry c.in_err-pen.field-0.0 is (c.in_err-pen.ensures.left level.level_a) (subst (DiskHolds old.b) level.book level.level_b.held))
+    (first_left old.a c.pen.new.desk old.b c.args.line.now c.in-Ok.entry c.in_err-pen.field-0.0 (rw (← c.in-Ok.ensures.exact) refl)
+    (c.in_err-pen.ensures.left level.level_a) (rw level.book at level.level_b.held))
 
 pub returns-in_err-pen-2-clause-left : goal.returns-in_err-pen-2-clause-left
 returns-in_err-pen-2-clause-left g c =
     let level = c.requires.level in
     let a = c.args.self.now.a in
-    let b = c.args.self.now.b in
-    let e = c.in-Ok.entry in
     let at = (goal.at.returns-in_err-pen-2-clause-left g c).In_ok-pen in
     let v = voted g at in
-    let taken : taking (innings_at b) (book_at b) e ≡ Ok e = ap (λ (n : ℕ). taking n (book_at b) e) level.innings ∙ (ap (λ (es : List Entry). taking (innings_at a) es e) level.book ∙ v.taken) in
+    let taken = ap (λ (n : ℕ). taking n (book_at c.args.self.now.b) c.in-Ok.entry) level.innings ∙ (ap (λ (es : List Entry). taking (innings_at a) es c.in-Ok.entry) level.book ∙ v.taken) in
     error_of c.from_residual-in_err-pen-2.result c.in_err-pen-2.field-0.0 _ c.from_residual-in_err-pen-2.ensures.1
-    (second_left c.pen.new.desk b c.pen-2.new.desk (book_at a) (with_taken (answer_to (innings_at a) (book_at a) c.args.line.now) (book_at a)) c.args.number e c.in_err-pen-2.field-0.0
-    (more g at) level.book taken (c.in_err-pen-2.ensures.why level.level_b) (c.in_err-pen-2.ensures.left level.level_b) v.turn.held)
+    (second_left c.pen.new.desk c.args.self.now.b c.pen-2.new.desk (book_at a) (with_taken (answer_to (innings_at a) (book_at a) c.args.line.now) (book_at a)) c.args.number c.in-Ok.entry
+    c.in_err-pen-2.field-0.0 (more g at) level.book taken (c.in_err-pen-2.ensures.why level.level_b) (c.in_err-pen-2.ensures.left level.level_b) v.turn.held)
 
 pub returns-clause-left : goal.returns-clause-left
 returns-clause-left g c =
     let level = c.requires.level in
-    let a = c.args.self.now.a in
     let vb = c.in_ok-pen-2.ensures.voted level.level_b in
     let at = (goal.at.returns-clause-left g c).In_ok-pen in
     let va = voted g at in
-    let is = sym (more g at) in
-    let held_b = subst (λ (es : List Entry). DiskHolds c.pen-2.new.desk (es ++ c.in-Ok.entry ∷ [])) level.book vb.turn.held in
-    third_left c.agree.result c.pen.new.desk c.agree.new.self.a c.pen-2.new.desk c.agree.new.self.b (book_at a) (with_taken (answer_to (innings_at a) (book_at a) c.args.line.now) (book_at a))
-    c.len-place.result c.agree.ensures.only c.agree.ensures.disk_a c.agree.ensures.disk_b (subst (DiskHolds c.pen.new.desk) is va.turn.held) (subst (DiskHolds c.pen-2.new.desk) is held_b)
+    let a = c.agree.ensures in
+    rw (more g at) (third_left c.agree.result c.pen.new.desk c.agree.new.self.a c.pen-2.new.desk c.agree.new.self.b (book_at c.args.self.now.a) (book_at c.args.self.now.a ++ c.in-Ok.entry ∷ [])
+    c.len-place.result a.only a.disk_a a.disk_b va.turn.held (rw level.book at vb.turn.held))
 
 pub returns-clause-level : goal.returns-clause-level
 returns-clause-level g c = on_ok_weaker c.agree.result (λ both. both.0) (all_agreed g (goal.at.returns-clause-level g c).After-agree)
@@ -86,7 +78,8 @@ returns-clause-book g c =
 pub returns-clause-online : goal.returns-clause-online
 returns-clause-online g c =
     let old = c.args.self.now in
+    let level = c.requires.level in
     let at = goal.at.returns-clause-online g c in
-    let book = on_ok_weaker c.agree.result (λ both. both.1) (all_agreed g at.After-agree) in
-    agreed_online c.agree.result old.a c.pen.new.desk c.agree.new.self.a old.b c.pen-2.new.desk old.board c.agree.new.self.board c.in-Ok.entry _ _ c.requires.level
-    (voted g at.In_ok-pen) (c.in_ok-pen-2.ensures.voted (let level = c.requires.level in level.level_b)) c.pen.ensures.owner c.pen-2.ensures.owner c.agree.ensures.online book
+    agreed_online c.agree.result old.a c.pen.new.desk c.agree.new.self.a old.b c.pen-2.new.desk old.board c.agree.new.self.board c.in-Ok.entry _ _ level
+    (voted g at.In_ok-pen) (c.in_ok-pen-2.ensures.voted level.level_b) c.pen.ensures.owner c.pen-2.ensures.owner c.agree.ensures.online
+    (on_ok_weaker c.agree.result (λ both. both.1) (all_agreed g at.After-agree))
