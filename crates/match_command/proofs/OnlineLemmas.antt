@@ -1,9 +1,9 @@
 -- What passes between the stations, and what a board makes of it.
-use Rattle.std.proofs.Common.{◌≡◌, ◌≤◌, ◌⊎◌, ℕ, ◌+◌, None, Some, List, [], ◌∷◌, ◌++◌, length, map, refl, sym, ap, ◌∙◌, arith, append-nil, append_assoc, Result, Ok}
+use Rattle.std.proofs.Common.{◌≡◌, ◌⊎◌, ℕ, ◌+◌, None, Some, List, [], ◌∷◌, ◌++◌, length, map, refl, sym, ap, arith, append-nil, append_assoc, Result, Ok}
 use Rattle.std.specs.Prelude.{slice_get, take}
 use Rattle.std.specs.List.{All}
 use Rattle.std.proofs.lemmas.Grind.{length_at_push, take_at_read}
-use Rattle.std.proofs.lemmas.List.{length-take, take-append-le, take_all}
+use Rattle.std.proofs.lemmas.List.{length-take, take-append-le}
 use Rattle.std.proofs.lemmas.List.Elements.{All-append, All-cons, All-contains, All-map, All-nil, All-push}
 use Rattle.std.proofs.lemmas.Option.{get_or_from_slice_get, slice_get_past, slice_get_within}
 use Rattle.notation.specs.declared.entry.Entry.{Entry}
@@ -97,10 +97,6 @@ out_said to game entries out fine speak =
 pub came_to_desk : (game : ℕ) (entries : List Entry) (log new : List Passed) (bytes : List ℕ) → new ≡ log ++ Came bytes ∷ [] → StaysOnline game entries log new
 came_to_desk game entries log new bytes is start k o =
     says_more game start entries (Came bytes ∷ []) log new k (All-push (IsSaid game entries) [] (Came bytes) (All-nil (IsSaid game entries)) tt) is o
-
--- a book that follows and isn't shorter is the same
-pub same_book : (entries : List Entry) (k : BoardState) → Follows entries k → length entries ≤ length k.book → k.book ≡ entries
-same_book entries k f long = f.book ∙ take_all (length k.book) entries long
 
 -- a board has asked
 pub asked_online : {B : Type 0} {g : _} (content : B → List Entry) (board : Board B g) (start : List Passed) (entries : List Entry) (log new : List Passed) → Asks content board log new →

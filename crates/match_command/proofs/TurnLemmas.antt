@@ -108,10 +108,6 @@ module _ {S B D : Type 0} {g : Files S D} {h : Disks D} {b : Books B} where
   in_view : (entries : List Entry) (old new : Desk S B D g h b) → SameOwner old new → IsInTurn (view_of old) entries (state_of new) → InTurn entries new
   in_view entries old new o t = subst (λ (v : FileView D). IsInTurn v entries (state_of new)) (same_view old new o) t
 
-  -- a call at which no device call failed leaves the disk as calm
-  calm_still : (old new : Desk S B D g h b) → SameOwner old new → (state_of new).failed ≡ false → h.faults (disk_of new) ≡ h.faults (disk_of old) → IsCalm old → IsCalm new
-  calm_still old new o runs f c = record { running = runs; never = rw f c.never; room = rw o.cap c.room }
-
   -- no fault is met at a calm disk
   pub meets_none : (old new : Desk S B D g h b) (bytes : List ℕ) (what : What) (before after : List Passed) (end : DeskEnd) → ((s : Sheet) → Calls s old new (Given bytes what) before after)
       → end_at what ≡ Err end → IsCalm old → ⊥
@@ -133,7 +129,7 @@ module _ {S B D : Type 0} {g : Files S D} {h : Disks D} {b : Books B} where
       let w = λ (entries : List Entry). went (view_of old) (game_of old) entries (state_of old) (state_of new) bytes what c.out n c.step in (
         record {
           turn = λ entries t. in_view entries old new o (w entries t).0;
-          calm = λ q. calm_still old new o (runs ∙ q.running) ((c.blame q.running).same (λ e. grind (arith, n, e))) q;
+          calm = λ q. record { running = runs ∙ q.running; never = rw ((c.blame q.running).same (λ e. grind (arith, n, e))) q.never; room = rw o.cap q.room };
         },
         λ entries t. called_online (plain_sheet 0 1) old new (Given bytes what) entries before after c (w entries t).1,
       )
@@ -157,7 +153,11 @@ module _ {S B D : Type 0} {g : Files S D} {h : Disks D} {b : Books B} where
       → BlamesDisk PenRefusal.Device (g.room (length (own_votes old) + 1) ≤ h.cap (disk_of old)) (Ok penned) (h.faults (disk_of old)) (h.faults (disk_of new)) → VotesFor e old new
   voted old new e penned l o step blame =
       let t = casts (view_of old) (state_of old) (state_of new) e penned.settled l step.3.1 in
-      record { taken = takes_entry old e l step.3.0; turn = in_view (book_at old ++ e ∷ []) old new o t; calm = calm_still old new o t.running (blame.same (λ q. (cc))) }
+      record {
+        taken = takes_entry old e l step.3.0;
+        turn = in_view (book_at old ++ e ∷ []) old new o t;
+        calm = λ q. record { running = t.running; never = rw (blame.same (λ e. (cc))) q.never; room = rw o.cap q.room };
+      }
 
   refused_holds : (old new : Desk S B D g h b) → IsLevel old → SameOwner old new → desks.Unchanged (view_of old) (state_of old) (state_of new)
       → DiskHolds new (book_at old)
@@ -183,12 +183,6 @@ module _ {S B D : Type 0} {g : Files S D} {h : Disks D} {b : Books B} where
 
   either_more : (desk : Desk S B D g h b) (book longer : List Entry) → DiskHolds desk longer → DiskHoldsEither desk book longer
   either_more desk book longer d = record { read = inr d.0; images = λ image i. inr (d.1 image i) }
-
-  pub both_turns : (k l m : Desk S B D g h b) → KeepsTurn k l → KeepsTurn l m → KeepsTurn k m
-  both_turns k l m x y = record { turn = λ entries t. y.turn entries (x.turn entries t); calm = λ c. y.calm (x.calm c) }
-
-  pub both_disks : (k l m : Desk S B D g h b) → KeepsDisk k l → KeepsDisk l m → KeepsDisk k m
-  both_disks k l m x y = grind (arith, x.owner, y.owner, x.disk, y.disk)
 
   -- a turn of each station
   pub one_round : {a0 a b0 b' : Desk S B D g h b} (k0 k l : Board B b) {log0 log log1 log2 log3 : List Passed} → KeepsTurn a0 a → KeepsTurn b0 b'

@@ -1,10 +1,10 @@
 use Rattle.std.proofs.Common.{refl, arith, ◌≡◌, ◌∙◌}
+use Rattle.std.proofs.lemmas.List.{take_all}
 use Rattle.agree_core.specs.declared.messages.DeskId.{DeskId}
 use Rattle.desk.specs.Desk.{game_of}
 use Rattle.board.specs.Board.{book_of}
-use Rattle.match_command.specs.inner.Turns.{board_at, book_at}
+use Rattle.match_command.specs.inner.Turns.{book_at}
 use Rattle.match_command.proofs.MatchLeft.{keeps_book, leaves_from, lines_left}
-use Rattle.match_command.proofs.OnlineLemmas.{same_book}
 use Rattle.match_command.proofs.match_run.run_match.Goals as goal
 
 pub returns-in-Ok-clause-agreed : goal.returns-in-Ok-clause-agreed
@@ -26,7 +26,7 @@ returns-in-Ok-clause-agreed g c =
       written = rw made.innings at ended.written;
       passed = online.passed;
       since = online.since;
-      same = λ gives. same_book (book_at at.a) (board_at at.board) (online.follows gives) level.long;
+      same = λ gives. (online.follows gives).book ∙ take_all _ (book_at at.a) level.long;
     }
 
 pub returns-in_err-stations-clause-left : goal.returns-in_err-stations-clause-left

@@ -20,9 +20,6 @@ loop-line-init g c = (
   λ start o. rw c.requires.empty o,
 )
 
-pub take-requires : goal.take-requires
-take-requires g c = record { level = c.loop-line.invariant.1 }
-
 pub loop-line-preserved : goal.loop-line-preserved
 loop-line-preserved g c =
     let m = c.loop-line.invariant in

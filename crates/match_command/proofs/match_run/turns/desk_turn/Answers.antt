@@ -1,5 +1,5 @@
 use Rattle.std.proofs.Common.{arith, refl}
-use Rattle.match_command.proofs.TurnLemmas.{both_disks, both_turns, ticked_online}
+use Rattle.match_command.proofs.TurnLemmas.{ticked_online}
 use Rattle.match_command.proofs.match_run.turns.desk_turn.Goals as goal
 
 pub loop-init : goal.loop-init
@@ -12,9 +12,8 @@ loop-init g c = (
 pub loop-preserved : goal.loop-preserved
 loop-preserved g c =
     let m = c.loop.invariant in
-    let old = c.args.desk.now in
     let next = c.in_ok-take_next.ensures in (
-      both_turns old c.loop.desk c.take_next.new.desk m.0 next.kept,
-      both_disks old c.loop.desk c.take_next.new.desk m.1 c.take_next.ensures.disk,
+      record { turn = λ entries t. next.kept.turn entries (m.0.turn entries t); calm = λ calm. next.kept.calm (m.0.calm calm) },
+      grind (arith, m.1, c.take_next.ensures.disk),
       λ entries t start k o. (rw m.1.owner.game at (next.online entries (m.0.turn entries t))) start k (m.2 entries t start k o),
     )
