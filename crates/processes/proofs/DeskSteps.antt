@@ -6,10 +6,9 @@ use Rattle.corrections.specs.declared.refusal.Refusal.{Refusal}
 use Rattle.notation.specs.declared.entry.Entry.{Entry}
 use Rattle.agree_core.specs.declared.messages.{DeskId.DeskId, Message.Message}
 use Rattle.agree_core.specs.declared.messages.DeskId.TheVariants.{A, B}
-use Rattle.agree_core.specs.Desks.{DeskState, PenAnswer, Pens, ReceiveAnswer, Receives}
+use Rattle.agree_core.specs.Desks.{DeskState, PenAnswer, Pens, ReceiveAnswer}
 use Rattle.agree_core.specs.FileView.{FileView, Stays}
 use Rattle.wire.specs.declared.what.What.{What}
-use Rattle.wire.specs.Layout.{Says}
 use Rattle.desk.specs.Answers.{pen_answer}
 use Rattle.station_texts.specs.Saying.{SaysEntry}
 use Rattle.headline.specs.declared.{event.Event.Event, event.Station.Station, fault.Fault.Fault}
@@ -20,13 +19,15 @@ use Rattle.headline.specs.Answers as answers
 use Rattle.headline.specs.Answers.{Answer}
 use Rattle.headline.specs.DeskSteps.{AtDesk}
 use Rattle.headline.specs.Events.{station_of}
-use Rattle.headline.specs.DeskAnswers.{AfterPen, AfterReceive, has_any}
+use Rattle.headline.specs.DeskAnswers.{has_any}
 use Rattle.live.specs.Desks as desks
 use Rattle.live.specs.Desks.{DeskCall, DeskStep}
 use Rattle.station_texts.specs.declared.said.Said.TheVariants.{Refused, Penned}
 use Rattle.station_texts.specs.declared.said.Said.{Said}
-use Rattle.processes.specs.Happenings.{WasSent, DeskCame, Happening, DeskCalled, with_process}
-use Rattle.processes.proofs.Going.{Fits, Leads, TypedAs, none, one, two}
+use Rattle.processes.specs.Happenings.{DeskCame, Happening, DeskCalled, with_process}
+use Rattle.processes.specs.Progress.{IsQuiet, Plays}
+use Rattle.processes.proofs.Given.{as_sent}
+use Rattle.processes.proofs.Going.{Fits, IsPlayed, Leads, none, one, two}
 
 module _ {Disk : Type 0} where
   pub unmoved : (v : Configuration Disk) (d : DeskId) → with_node v d (node v d) [] ≡ v
@@ -52,123 +53,91 @@ module _ {Disk : Type 0} where
   pub stays_refl : (view : FileView Disk) (disk : Disk) → Stays view disk disk
   stays_refl view disk = (refl, λ image. (λ h. h, λ h. h))
 
-module _ {Disk : Type 0} (s : Setting Disk Refusal) (v : Configuration Disk) (d : DeskId) (what : Happening Disk) where
-  abbrev here : Node Disk
-  here = node v d
-
-  abbrev view : FileView Disk
-  view = s.view d (node v d).version
+module _ {Disk : Type 0} (s : Setting Disk Refusal) (game : ℕ) (v : Configuration Disk) (d : DeskId) (what : Happening Disk) where
+  abbrev pub Reaches : Node Disk → List Message → Type 0
+  Reaches y out = Leads s game what v v (with_node v d y out)
 
   pub at_desk : (event : Event) (answer : Answer Refusal) (y : Node Disk) (out : List Message) → station_of event ≡ Station.Desk d → Fits what v v event
-      → AtDesk s v.sent d event (node v d) answer y out → Leads s (Fits what v) v (with_node v d y out)
-  at_desk event answer y out e f h = one s (Fits what v) v event answer (with_node v d y out) f (rw e (y, out, h, refl))
-
-  -- a fault falls due
-  falls : (k : DeskState Disk) → (node v d).process ≡ Running k → AtDesk s v.sent d (Event.FailAt d 1) (node v d) answers.Done (runs_on (node v d) k (Some Fail)) []
-  falls k e = rw e ((k.disk, stays_refl view k.disk, refl), refl, refl)
+      → IsPlayed s game what v (with_node v d y out) event answer → AtDesk s v.sent d event (node v d) answer y out → Reaches y out
+  at_desk event answer y out e f plays h = one s game what v (with_node v d y out) event answer f plays (rw e (y, out, h, refl))
 
   -- no event
-  nothing : (k l : DeskState Disk) (out : List Message) → (node v d).process ≡ Running k → l ≡ k → out ≡ []
-      → Leads s (Fits what v) v (with_node v d (runs_on (node v d) l (node v d).due) out)
-  nothing k l out h0 h1 h2 = grind (arith, itself, none, unmoved)
+  nothing : (k l : DeskState Disk) (out : List Message) → (node v d).process ≡ Running k → l ≡ k → out ≡ [] → (IsQuiet what → Plays game v what [])
+      → Reaches (runs_on (node v d) l (node v d).due) out
+  nothing k l out at same empty plays =
+      none s game what v (with_node v d (runs_on (node v d) l (node v d).due) out)
+      (sym ((λ i. with_node v d (runs_on (node v d) (same i) (node v d).due) (empty i)) ∙ (ap (λ (y : Node Disk). with_node v d y []) (itself (node v d) k at) ∙ unmoved v d)))
+      plays
 
-  -- a fault falls due, and then this happens
-  pub after_fault : (x : Node Disk) (event : Event) (answer : Answer Refusal) (y : Node Disk) (out : List Message)
-      → AtDesk s v.sent d (Event.FailAt d 1) (node v d) answers.Done x [] → station_of event ≡ Station.Desk d → Fits what v (with_node v d x []) event
-      → AtDesk s v.sent d event x answer y out → Leads s (Fits what v) v (with_node v d y out)
-  after_fault x event answer y out fall st f h =
-      let u : Configuration Disk = with_node v d x [] in
-      let new : Configuration Disk = with_node u d y out in
-      let moved : AtDesk s u.sent d event (node u d) answer y out =
-      subst (λ (xs : List Message). AtDesk s xs d event (node u d) answer y out) (sym (sent_put v d x)) (rw (node_put v d x []) h) in
-      subst (Leads s (Fits what v) v) (put_again v d x y out)
-      (two s (Fits what v) v (Event.FailAt d 1) event answers.Done answer u new tt f (x, [], fall, refl) (rw st (y, out, moved, refl)))
+  module _ (loud : IsQuiet what → ⊥) where
+    -- a fault falls due, and then this happens
+    pub after_fault : (x : Node Disk) (event : Event) (answer : Answer Refusal) (y : Node Disk) (out : List Message)
+        → AtDesk s v.sent d (Event.FailAt d 1) (node v d) answers.Done x [] → station_of event ≡ Station.Desk d → Fits what v (with_node v d x []) event
+        → AtDesk s v.sent d event x answer y out → Reaches y out
+    after_fault x event answer y out fall st f h =
+        let u : Configuration Disk = with_node v d x [] in
+        let moved : AtDesk s u.sent d event (node u d) answer y out =
+        subst (λ (xs : List Message). AtDesk s xs d event (node u d) answer y out) (sym (sent_put v d x)) (rw (node_put v d x []) h) in
+        subst (Leads s game what v v) (put_again v d x y out)
+        (two s game what v (with_node u d y out) (Event.FailAt d 1) event answers.Done answer u loud tt f (x, [], fall, refl) (rw st (y, out, moved, refl)))
 
-  broken : (k : DeskState Disk) (event : Event) (answer : Answer Refusal) (y : Node Disk) (out : List Message) → (node v d).process ≡ Running k
-      → station_of event ≡ Station.Desk d → Fits what v (with_node v d (runs_on (node v d) k (Some Fail)) []) event
-      → AtDesk s v.sent d event (runs_on (node v d) k (Some Fail)) answer y out → Leads s (Fits what v) v (with_node v d y out)
-  broken k event answer y out e st f h = after_fault (runs_on (node v d) k (Some Fail)) event answer y out (falls k e) st f h
-
-  abbrev pub Goes : DeskState Disk → List Message → Type 0
-  Goes l out = Leads s (Fits what v) v (with_node v d (runs_on (node v d) l (node v d).due) out)
-
-  -- once the fault is spent, none is due, as before
-  spent : (l : DeskState Disk) (out : List Message) → (node v d).due ≡ None → Leads s (Fits what v) v (with_node v d (runs_on (node v d) l None) out) → Goes l out
-  spent l out calm h = rw calm h
-
-  penned : (k l : DeskState Disk) (e : Entry) (told : PenAnswer Refusal) (answer : Answer Refusal) (out : List Message) → (node v d).process ≡ Running k
-      → ((u : Configuration Disk) → (node u d).process ≡ Running k → TypedAs what v u d e) → Pens view s.rules k e told l out
-      → AfterPen view (node v d) told l answer (runs_on (node v d) l (node v d).due) → Goes l out
-  penned k l e told answer out at typed h after = at_desk (Event.Pen d e) answer (runs_on (node v d) l (node v d).due) out refl (typed v at) (k, l, told, at, h, after)
-
-  pen_failed : (node v d).due ≡ None → (k l : DeskState Disk) (e : Entry) (out : List Message) → (node v d).process ≡ Running k
-      → ((u : Configuration Disk) → (node u d).process ≡ Running k → TypedAs what v u d e) → Pens view s.rules k e PenAnswer.DeviceFailed l out → Goes l out
-  pen_failed calm k l e out at typed h =
-      spent l out calm
-      (broken k (Event.Pen d e) answers.DeviceFailed (runs_on (node v d) l None) out at refl
-      (typed (with_node v d (runs_on (node v d) k (Some Fail)) []) (ap (λ (z : Node Disk). z.process) (node_put v d (runs_on (node v d) k (Some Fail)) [])))
-      (k, l, PenAnswer.DeviceFailed, refl, h, (Fail, refl, (refl, refl))))
-
-  received : (k l : DeskState Disk) (bytes : List ℕ) (m : Message) (told : ReceiveAnswer) (answer : Answer Refusal) (out : List Message) (game : ℕ)
-      → (node v d).process ≡ Running k → WasSent game v.sent bytes → Says game bytes m → Receives view k m told l out
-      → AfterReceive view (node v d) told l out answer (runs_on (node v d) l (node v d).due) → Goes l out
-  received k l bytes m told answer out game at came says h after =
-      let found = came m says in
-      at_desk (Event.Give found.0 (Station.Desk d)) answer (runs_on (node v d) l (node v d).due) out refl tt (k, l, m, told, at, found.1, h, after)
-
-  ask_failed : (node v d).due ≡ None → (k l : DeskState Disk) (bytes : List ℕ) (m : Message) (out : List Message) (game : ℕ) → (node v d).process ≡ Running k
-      → WasSent game v.sent bytes → Says game bytes m → Receives view k m ReceiveAnswer.DeviceFailed l out → Goes l out
-  ask_failed calm k l bytes m out game at came says h =
-      let found = came m says in
-      spent l out calm
-      (broken k (Event.Give found.0 (Station.Desk d)) answers.DeviceFailed (runs_on (node v d) l None) out at refl tt
-      (k, l, m, ReceiveAnswer.DeviceFailed, refl, found.1, h, (Fail, refl, (refl, refl))))
+    -- a fault falls due at a desk, and this event meets it; then none is due, as before
+    fails : (node v d).due ≡ None → (k l : DeskState Disk) (event : Event) (out : List Message) → (node v d).process ≡ Running k → station_of event ≡ Station.Desk d
+        → Fits what v (with_node v d (runs_on (node v d) k (Some Fail)) []) event
+        → AtDesk s v.sent d event (runs_on (node v d) k (Some Fail)) answers.DeviceFailed (runs_on (node v d) l None) out
+        → Reaches (runs_on (node v d) l (node v d).due) out
+    fails calm k l event out at st f h =
+        rw calm (after_fault (runs_on (node v d) k (Some Fail)) event answers.DeviceFailed (runs_on (node v d) l None) out
+        (rw at ((k.disk, stays_refl (s.view d (node v d).version) k.disk, refl), refl, refl)) st f h)
 
 module _
-    {Disk : Type 0} (s : Setting Disk Refusal) (game innings : ℕ) (rules : s.rules ≡ book_refusal innings)
-    (v : Configuration Disk) (d : DeskId) (calm : (node v d).due ≡ None) (text : List ℕ)
+    {Disk : Type 0} (s : Setting Disk Refusal) (game innings : ℕ) (rules : s.rules ≡ book_refusal innings) (v : Configuration Disk) (d : DeskId) (calm : (node v d).due ≡ None)
+    (text : List ℕ) (sheet : Sheet) (k l : DeskState Disk) (out : List Message) (at : (node v d).process ≡ Running k)
   where
-    module _ (sheet : Sheet) (k l : DeskState Disk) (out : List Message) (at : (node v d).process ≡ Running k) where
-      abbrev Moves : DeskCall → Type 0
-      Moves call = Leads s (Fits (DeskCalled d sheet call out l text) v) v (with_process v d (Running l) out)
+    abbrev called : DeskCall → Happening Disk
+    called call = DeskCalled d sheet call out l text
 
-      still : (call : DeskCall) → l ≡ k → out ≡ [] → Moves call
-      still call same empty = nothing s v d (DeskCalled d sheet call out l text) k l out at same empty
+    abbrev new : Node Disk
+    new = runs_on (node v d) l (node v d).due
 
-      abbrev typed : List ℕ → Said → Happening Disk
-      typed line said = DeskCalled d sheet (desks.Typed line said) out l text
+    abbrev Moves : DeskCall → Type 0
+    Moves call = Leads s game (called call) v v (with_process v d (Running l) out)
 
-      -- the desk's scorer types a line that says an entry, and it is penned with this answer
-      says_pens : (line : List ℕ) (said : Said) (e : Entry) (told : PenAnswer Refusal) → SaysEntry sheet k.book k.votes k.seat.position.round line e
-          → Pens (s.view d (node v d).version) s.rules k e told l out → Moves (desks.Typed line said)
-      says_pens line said e (PenAnswer.Penned settled) says h =
-          penned s v d (typed line said) k l e (PenAnswer.Penned settled) (answers.Penned settled) out at (λ u x. (refl, k, at, x, says)) h (refl, refl)
-      says_pens line said e (PenAnswer.Refused why) says h =
-          penned s v d (typed line said) k l e (PenAnswer.Refused why) (answers.NotPenned why) out at (λ u x. (refl, k, at, x, says)) h (refl, refl)
-      says_pens line said e PenAnswer.DeviceFailed says h = pen_failed s v d (typed line said) calm k l e out at (λ u x. (refl, k, at, x, says)) h
+    -- the desk's scorer types a line that says an entry, and it is penned with this answer
+    pens : (line : List ℕ) (said : Said) (e : Entry) (told : PenAnswer Refusal) → SaysEntry sheet k.book k.votes k.seat.position.round line e
+        → Pens (s.view d (node v d).version) (book_refusal innings) k e told l out → Moves (desks.Typed line said)
+    pens line said e (PenAnswer.Penned settled) says h =
+        at_desk s game v d (called (desks.Typed line said)) (Event.Pen d e) (answers.Penned settled) new out refl (refl, k, at, at, says) (λ q. absurd q)
+        (k, l, PenAnswer.Penned settled, at, rw rules h, (refl, refl))
+    pens line said e (PenAnswer.Refused why) says h =
+        at_desk s game v d (called (desks.Typed line said)) (Event.Pen d e) (answers.NotPenned why) new out refl (refl, k, at, at, says) (λ q. absurd q)
+        (k, l, PenAnswer.Refused why, at, rw rules h, (refl, refl))
+    pens line said e PenAnswer.DeviceFailed says h =
+        fails s game v d (called (desks.Typed line said)) (λ q. q) calm k l (Event.Pen d e) out at refl
+        (refl, k, at, ap (λ (z : Node Disk). z.process) (node_put v d (runs_on (node v d) k (Some Fail)) []), says)
+        (k, l, PenAnswer.DeviceFailed, refl, rw rules h, (Fail, refl, (refl, refl)))
 
-      by_rules : (e : Entry) (told : PenAnswer Refusal) → Pens (s.view d (node v d).version) (book_refusal innings) k e told l out
-          → Pens (s.view d (node v d).version) s.rules k e told l out
-      by_rules e told h = rw rules h
-
-    pub desk_moment : (sheet : Sheet) (k l : DeskState Disk) (call : DeskCall) (out : List Message) → (node v d).process ≡ Running k → DeskCame game v.sent call
-        → DeskStep sheet (s.view d (node v d).version) game innings k call out l
-        → Leads s (Fits (DeskCalled d sheet call out l text) v) v (with_process v d (Running l) out)
-    desk_moment sheet k l (desks.Typed line (Penned e settled)) out at came h =
-        says_pens sheet k l out at line (Penned e settled) e (PenAnswer.Penned settled) h.0 (by_rules sheet k l out at e (PenAnswer.Penned settled) h.1)
-    desk_moment sheet k l (desks.Typed line (Refused e why)) out at came h =
-        says_pens sheet k l out at line (Refused e why) e (pen_answer (Err why)) h.0 (by_rules sheet k l out at e (pen_answer (Err why)) h.1)
-    desk_moment sheet k l (desks.Typed line said) out at came h = still sheet k l out at (desks.Typed line said) h.1 h.2
-    desk_moment sheet k l (desks.Given bytes What.Failed) out at came h = still sheet k l out at (desks.Given bytes What.Failed) h.1 h.2
-    desk_moment sheet k l (desks.Given bytes (What.Bad fault)) out at came h = still sheet k l out at (desks.Given bytes (What.Bad fault)) h.2 h.3
-    desk_moment sheet k l (desks.Given bytes (What.Heard x)) out at came h =
-        received s v d (DeskCalled d sheet (desks.Given bytes (What.Heard x)) out l text) k l bytes h.0 (ReceiveAnswer.Told x) (answers.Told x) out game at came h.1 h.2 (refl, refl)
-    desk_moment sheet k l (desks.Given bytes What.Asked) out at came h =
-        received s v d (DeskCalled d sheet (desks.Given bytes What.Asked) out l text) k l bytes h.0 ReceiveAnswer.Asked (answers.Asked (has_any out)) out game at came h.1 h.2 (refl, refl)
-    desk_moment sheet k l (desks.Given bytes What.Device) out at came h =
-        ask_failed s v d (DeskCalled d sheet (desks.Given bytes What.Device) out l text) calm k l bytes h.0 out game at came h.1 h.2
-    desk_moment sheet k l desks.Ticked out at came h =
-        let e : (node v d).process ≡ Running l = at ∙ ap Running (sym h.1) in
-        at_desk s v d (DeskCalled d sheet desks.Ticked out l text) (Event.Tick (Station.Desk d)) (answers.Ticked (length out))
-        (runs_on (node v d) l (node v d).due) out refl tt (k, at, h.0, refl, itself (node v d) l e)
-    desk_moment sheet k l call out at came h = still sheet k l out at call h.0 h.1
+    pub desk_moment : (call : DeskCall) → DeskCame game v.sent call → DeskStep sheet (s.view d (node v d).version) game innings k call out l → Moves call
+    desk_moment (desks.Typed line (Penned e settled)) came h = pens line (Penned e settled) e (PenAnswer.Penned settled) h.0 h.1
+    desk_moment (desks.Typed line (Refused e why)) came h = pens line (Refused e why) e (pen_answer (Err why)) h.0 h.1
+    desk_moment (desks.Typed line said) came h = nothing s game v d (called (desks.Typed line said)) k l out at h.1 h.2 (λ q. absurd q)
+    desk_moment (desks.Given bytes What.Failed) came h = nothing s game v d (called (desks.Given bytes What.Failed)) k l out at h.1 h.2 (λ q. refl)
+    desk_moment (desks.Given bytes (What.Bad fault)) came h = nothing s game v d (called (desks.Given bytes (What.Bad fault))) k l out at h.2 h.3 (λ q. refl)
+    desk_moment (desks.Given bytes (What.Heard x)) came h =
+        let found = as_sent v.sent h.0 (came h.0 h.1) in
+        at_desk s game v d (called (desks.Given bytes (What.Heard x))) (Event.Give found.0 (Station.Desk d)) (answers.Told x) new out refl tt
+        (λ q. (tt, (found.0, h.0, refl, h.1, found.1)))
+        (k, l, h.0, ReceiveAnswer.Told x, at, found.1.0, h.2, (refl, refl))
+    desk_moment (desks.Given bytes What.Asked) came h =
+        let found = as_sent v.sent h.0 (came h.0 h.1) in
+        at_desk s game v d (called (desks.Given bytes What.Asked)) (Event.Give found.0 (Station.Desk d)) (answers.Asked (has_any out)) new out refl tt
+        (λ q. (tt, (found.0, h.0, refl, h.1, found.1)))
+        (k, l, h.0, ReceiveAnswer.Asked, at, found.1.0, h.2, (refl, refl))
+    desk_moment (desks.Given bytes What.Device) came h =
+        let found = came h.0 h.1 in
+        fails s game v d (called (desks.Given bytes What.Device)) (λ q. q) calm k l (Event.Give found.0 (Station.Desk d)) out at refl tt
+        (k, l, h.0, ReceiveAnswer.DeviceFailed, refl, found.1, h.2, (Fail, refl, (refl, refl)))
+    desk_moment desks.Ticked came h =
+        at_desk s game v d (called desks.Ticked) (Event.Tick (Station.Desk d)) (answers.Ticked (length out)) new out refl tt (λ q. (tt, refl))
+        (k, at, h.0, refl, itself (node v d) l (at ∙ ap Running (sym h.1)))
+    desk_moment call came h = nothing s game v d (called call) k l out at h.0 h.1 (λ q. refl)

@@ -1,64 +1,22 @@
 -- Where processes have an exchange, so have the stations in a run that plays what happens to them.
-use Rattle.std.proofs.Common.{arith, ◌≡◌, ◌≢◌, ◌⊎◌, ◌≤◌, ℕ, zero, suc, Ok, Some, List, [], ◌∷◌, ◌++◌, length, refl, sym, ap, ◌∙◌, subst, inl, inr, append-nil, append_assoc}
+use Rattle.std.proofs.Common.{arith, ◌≡◌, ◌≤◌, ℕ, zero, suc, Ok, Some, List, [], ◌∷◌, ◌++◌, length, refl, sym, ap, ◌∙◌, subst, inl, inr, append-nil, append_assoc}
 use Rattle.std.specs.Prelude.{slice_get}
 use Rattle.corrections.specs.declared.refusal.Refusal.{Refusal}
-use Rattle.agree_core.specs.declared.messages.{Ask.Ask, Asker.Asker, DeskId.DeskId, Message.Message}
+use Rattle.agree_core.specs.declared.messages.{DeskId.DeskId, Message.Message}
 use Rattle.wire.specs.declared.what.What.{What}
 use Rattle.wire.specs.Layout.{Says}
 use Rattle.wire.proofs.MessageLemmas.{says_once}
 use Rattle.headline.specs.declared.event.Station.{Station}
 use Rattle.headline.specs.Configurations.{Configuration}
-use Rattle.headline.specs.Given.{IsGiven}
 use Rattle.headline.specs.Runs.{Moment, last_of}
-use Rattle.progress.specs.Exchange.{ComesTo, Exchange, HandsOut, HasExchanges, IsAnswered, Reaches}
-use Rattle.progress.proofs.BoardTrips.{same_or_other}
-use Rattle.progress.proofs.CalmRuns.{get_append, last_split, sent_set}
+use Rattle.progress.specs.Exchange.{Amid, ComesTo, Exchange, HandsOut, HasExchanges, IsAnswered, Reaches}
+use Rattle.progress.proofs.CalmRuns.{get_append, last_split}
 use Rattle.progress.proofs.Possible.{given_more}
 use Rattle.live.specs.Boards as boards
 use Rattle.live.specs.Desks as desks
 use Rattle.processes.specs.Exchanges.{HaveExchanged, IsReplied, IsSaid, IsTaken, ProcessExchange, Takes, Ticks, handed_out}
-use Rattle.processes.specs.Happenings.{BoardBegun, BoardCalled, BoardGreeted, DeskBegun, DeskCalled, DeskEnded, DeskGreeted, FileMigrated, Happening, PowerLost, after, after_one}
-use Rattle.processes.specs.Progress.{ArePlayed, GivesAt, IsGivenAsSent, IsOne, Plays, TicksAt}
-
--- a number that it was sent as, if it was
-same_asker : (a b : Asker) → (a ≡ b) ⊎ (a ≢ b)
-same_asker Asker.A Asker.A = inl refl
-same_asker Asker.B Asker.B = inl refl
-same_asker Asker.Board Asker.Board = inl refl
-same_asker _ _ = inr (λ e. cc)
-
-same_ask : (m : Message) (q : Ask) → (m ≡ Message.Ask q) ⊎ (m ≢ Message.Ask q)
-same_ask (Message.Vote v) q = inr (λ e. cc)
-same_ask (Message.Ask p) q = turn (same_asker p.from q.from) (same_or_other p.place q.place) (same_or_other p.round q.round)
-  where
-    turn : (p.from ≡ q.from) ⊎ (p.from ≢ q.from) → (p.place ≡ q.place) ⊎ (p.place ≢ q.place) → (p.round ≡ q.round) ⊎ (p.round ≢ q.round)
-        → (Message.Ask p ≡ Message.Ask q) ⊎ (Message.Ask p ≢ Message.Ask q)
-    turn (inl a) (inl b) (inl c) = inl (λ i. Message.Ask (record { from = a i; place = b i; round = c i }))
-    turn (inr n) _ _ = inr (λ e. n (cc))
-    turn (inl a) (inr n) _ = inr (λ e. n (cc))
-    turn (inl a) (inl b) (inr n) = inr (λ e. n (cc))
-
-sent_or_not : (sent : List Message) (q : Ask) → ((n : ℕ) × (slice_get sent n ≡ Some (Message.Ask q))) ⊎ ((n : ℕ) → slice_get sent n ≡ Some (Message.Ask q) → ⊥)
-sent_or_not [] q = inr (λ n e. cc)
-sent_or_not (m ∷ ms) q = turn (same_ask m q) (sent_or_not ms q)
-  where
-    turn : (m ≡ Message.Ask q) ⊎ (m ≢ Message.Ask q) → ((n : ℕ) × (slice_get ms n ≡ Some (Message.Ask q))) ⊎ ((n : ℕ) → slice_get ms n ≡ Some (Message.Ask q) → ⊥)
-        → ((n : ℕ) × (slice_get (m ∷ ms) n ≡ Some (Message.Ask q))) ⊎ ((n : ℕ) → slice_get (m ∷ ms) n ≡ Some (Message.Ask q) → ⊥)
-    turn (inl e) h = inl (0, ap Some e)
-    turn (inr d) (inl h) = inl (suc h.0, h.1)
-    turn (inr d) (inr none) = inr never
-      where
-        never : (n : ℕ) → slice_get (m ∷ ms) n ≡ Some (Message.Ask q) → ⊥
-        never zero e = d (cc)
-        never (suc n) e = none n e
-
-pub as_sent : (sent : List Message) (m : Message) → (i : ℕ) × IsGiven sent i m → (n : ℕ) × IsGivenAsSent sent n m
-as_sent sent m (i, inl e) = (i, (inl e, λ j h. e))
-as_sent sent m (i, inr (free, ask)) = turn (sent_or_not sent ask.0)
-  where
-    turn : ((n : ℕ) × (slice_get sent n ≡ Some (Message.Ask ask.0))) ⊎ ((n : ℕ) → slice_get sent n ≡ Some (Message.Ask ask.0) → ⊥) → (n : ℕ) × IsGivenAsSent sent n m
-    turn (inl h) = let e : slice_get sent h.0 ≡ Some m = h.1 ∙ ap Some (sym ask.1) in (h.0, (inl e, λ j k. e))
-    turn (inr none) = (i, (inr (free, ask), λ j k. absurd (none j (k ∙ ap Some ask.1))))
+use Rattle.processes.specs.Happenings.{BoardCalled, DeskCalled, Happening, after, after_one}
+use Rattle.processes.specs.Progress.{ArePlayed, GivesAt, IsOne, Plays, TicksAt}
 
 get_beyond : {X : Type 0} → (xs ys : List X) (n : ℕ) (x : X) → length xs ≤ n → slice_get (xs ++ ys) n ≡ Some x → (i : ℕ) × (slice_get ys i ≡ Some x)
 get_beyond [] ys n x low e = (n, e)
@@ -76,16 +34,8 @@ module _ {Disk : Type 0} where
   after_both w earlier (h ∷ hs) = ap (λ (z : Configuration Disk). after_one z h) (after_both w earlier hs)
 
   -- what was sent stays sent
-  said : (w : Configuration Disk) (what : Happening Disk) → (after_one w what).sent ≡ w.sent ++ handed_out what
-  said w (DeskGreeted d s text) = sym (append-nil w.sent)
-  said w (DeskCalled d s call out l text) = sent_set w d _ out
-  said w (DeskEnded d disk) = sent_set w d _ []
-  said w (PowerLost d disk) = sent_set w d _ []
-  said w (DeskBegun d opening) = sent_set w d _ []
-  said w (FileMigrated d votes new) = sent_set w d _ []
-  said w (BoardGreeted n s text seen) = sym (append-nil w.sent)
-  said w (BoardCalled n s call out l text seen) = refl
-  said w (BoardBegun n) = sym (append-nil w.sent)
+  pub said : (w : Configuration Disk) (what : Happening Disk) → (after_one w what).sent ≡ w.sent ++ handed_out what
+  said w what = grind (arith, append-nil)
 
   abbrev WasSent : Configuration Disk → Message → Type 0
   WasSent w message = (i : ℕ) × (slice_get w.sent i ≡ Some message)
@@ -100,10 +50,9 @@ module _ {Disk : Type 0} where
   handed : (v w : Configuration Disk) (what : Happening Disk) (m : Moment Disk Refusal) (message : Message) → w ≡ v → m.after ≡ after_one v what → HandsOut w m message
       → IsSaid message what × WasSent (after_one v what) message
   handed v w what m message start end (n, low, get) =
-      let there : slice_get (after_one v what).sent n ≡ Some message = subst (λ (z : Configuration Disk). slice_get z.sent n ≡ Some message) end get in
-      let joined : slice_get (v.sent ++ handed_out what) n ≡ Some message = subst (λ (z : List Message). slice_get z n ≡ Some message) (said v what) there in
-      let beyond : length v.sent ≤ n = subst (λ (z : Configuration Disk). length z.sent ≤ n) start low in
-      (get_beyond v.sent (handed_out what) n message beyond joined, (n, there))
+      let there : slice_get (after_one v what).sent n ≡ Some message = rw end at get in
+      let joined : slice_get (v.sent ++ handed_out what) n ≡ Some message = rw (said v what) at there in
+      (get_beyond v.sent (handed_out what) n message (rw start at low) joined, (n, there))
 
 module _ {Disk : Type 0} (game : ℕ) where
   -- a process that ticks or takes a message, in a run
@@ -121,18 +70,24 @@ module _ {Disk : Type 0} (game : ℕ) where
       (bytes, e.1, subst (λ (z : DeskId). IsOne (GivesAt game v (Station.Desk z) bytes) ms) e.0 p)
   taken v (Station.Desk d) message (DeskCalled c s (desks.Given bytes What.Asked) out l text) ms e p =
       (bytes, e.1, subst (λ (z : DeskId). IsOne (GivesAt game v (Station.Desk z) bytes) ms) e.0 p)
-  taken v (Station.Desk d) message (DeskCalled c s call out l text) ms e p = absurd e.1
   taken v (Station.Board n) message (BoardCalled k s (boards.Given bytes (Ok (What.Bad fault))) out l text seen) ms e p = absurd e.1
   taken v (Station.Board n) message (BoardCalled k s (boards.Given bytes answer) out l text seen) ms e p =
       (bytes, e.1, subst (λ (z : ℕ). IsOne (GivesAt game v (Station.Board z) bytes) ms) e.0 p)
-  taken v (Station.Board n) message (BoardCalled k s call out l text seen) ms e p = absurd e.1
-  taken v _ message _ ms e p = absurd e
+  taken v t message what ms e p = grind arith
 
-  comes : (v : Configuration Disk) (m : Moment Disk Refusal) (t : Station) (message : Message) (bytes : List ℕ) → Says game bytes message → WasSent v message
+  gives : (v : Configuration Disk) (m : Moment Disk Refusal) (t : Station) (message : Message) (bytes : List ℕ) → Says game bytes message → WasSent v message
       → GivesAt game v t bytes m → ComesTo v m t message
-  comes v m t message bytes says (i, get) (n, it, event, also, own) =
+  gives v m t message bytes says (i, get) (n, it, event, also, own) =
       let same : it ≡ message = says_once game bytes it message also says in
-      (n, event, subst (λ (z : Message). slice_get v.sent n ≡ Some z) same (own.1 i (subst (λ (z : Message). slice_get v.sent i ≡ Some z) (sym same) get)))
+      (n, event, rw same at (own.1 i (rw same get)))
+
+  -- it is one moment, in which the message comes
+  comes : (v : Configuration Disk) (t : Station) (message : Message) (what : Happening Disk) (ms : List (Moment Disk Refusal)) → WasSent v message → Takes game t message what
+      → Plays game v what ms → (m : Moment Disk Refusal) × (ms ≡ m ∷ []) × ComesTo v m t message
+  comes v t message what ms sent k p =
+      let g = taken v t message what ms k p in
+      let one = one_of (GivesAt game v t g.0) ms g.2 in
+      (one.0, one.1, gives v one.0 t message g.0 g.1 sent one.2)
 
   ends : (v : Configuration Disk) (hs : List (Happening Disk)) (ms : List (Moment Disk Refusal)) → ArePlayed game v hs ms → last_of v ms ≡ after v hs
   ends v [] ms p = ap (last_of v) p
@@ -164,58 +119,68 @@ module _ {Disk : Type 0} (game : ℕ) where
         on = (p.0, q.late, refl, q.on, subst (λ (z : Configuration Disk). Plays game z h p.0) at p.4, last);
       }
 
+  -- what happened at some time, in moments that play it: one moment, of which this is so, with those after it and before it
+  module _ (P : Moment Disk Refusal → Type 0) (v : Configuration Disk) (later earlier : List (Happening Disk)) (at : Happening Disk) where
+    record Found (ms : List (Moment Disk Refusal)) : Type 0 where
+      amid : Amid ms
+      is : P amid.moment
+      start : last_of v amid.earlier ≡ after v earlier
+      end : amid.moment.after ≡ after v (at ∷ earlier)
+      on : ArePlayed game (after v (at ∷ earlier)) later amid.later
+
+    found : (hs : List (Happening Disk)) (ms : List (Moment Disk Refusal)) → hs ≡ later ++ (at ∷ earlier) → ArePlayed game v hs ms
+        → ((more : List (Moment Disk Refusal)) → Plays game (after v earlier) at more → (m : Moment Disk Refusal) × (more ≡ m ∷ []) × P m) → Found ms
+    found hs ms whole p one =
+        let s = split v later (at ∷ earlier) ms (subst (λ (z : List (Happening Disk)). ArePlayed game v z ms) whole p) in
+        let b = s.before in
+        let m = one b.0 b.4 in
+        let soon : s.soon ≡ m.0 ∷ b.1 = b.2 ∙ ap (λ (z : List (Moment Disk Refusal)). z ++ b.1) m.1 in
+        record {
+          amid = record { later = s.late; moment = m.0; earlier = b.1; whole = s.whole ∙ ap (λ (z : List (Moment Disk Refusal)). s.late ++ z) soon };
+          is = m.2;
+          start = ends v earlier b.1 b.3;
+          end = ap (last_of v) (sym soon) ∙ b.5;
+          on = s.on;
+        }
+
   -- what processes take reaches the stations
   reached : (v : Configuration Disk) (hs : List (Happening Disk)) (ms : List (Moment Disk Refusal)) → ArePlayed game v hs ms → (t : Station) (message : Message) → WasSent v message
       → IsTaken game t message hs → Reaches v t message ms
   reached v [] ms p t message sent k = absurd k
   reached v (h ∷ hs) ms p t message sent (inl k) =
-      let c = after v hs in
-      let g = taken c t message h p.0 k p.4 in
-      let one = one_of (GivesAt game c t g.0) p.0 g.2 in
-      let come = comes c one.0 t message g.0 g.1 (still_sent v hs message sent) one.2 in
-      let whole : ms ≡ one.0 ∷ p.1 = p.2 ∙ ap (λ (z : List (Moment Disk Refusal)). z ++ p.1) one.1 in
-      subst (Reaches v t message) (sym whole) (inl (subst (λ (z : Configuration Disk). ComesTo z one.0 t message) (sym (ends v hs p.1 p.3)) come))
+      let m = comes (after v hs) t message h p.0 (still_sent v hs message sent) k p.4 in
+      let whole : ms ≡ m.0 ∷ p.1 = p.2 ∙ ap (λ (z : List (Moment Disk Refusal)). z ++ p.1) m.1 in
+      subst (Reaches v t message) (sym whole) (inl (subst (λ (z : Configuration Disk). ComesTo z m.0 t message) (sym (ends v hs p.1 p.3)) m.2))
   reached v (h ∷ hs) ms p t message sent (inr k) =
       subst (Reaches v t message) (sym p.2) (given_more v t message p.0 p.1 (reached v hs p.1 p.3 t message sent k))
 
   answered : (v : Configuration Disk) (hs : List (Happening Disk)) (ms : List (Moment Disk Refusal)) → ArePlayed game v hs ms → (t : Station) (d : DeskId) (message : Message)
       → WasSent v message → IsReplied game t d message hs → IsAnswered v t d message ms
   answered v hs ms p t d message sent x =
-      let s = split v x.later (x.at ∷ x.earlier) ms (subst (λ (z : List (Happening Disk)). ArePlayed game v z ms) x.whole p) in
-      let b = s.before in
       let c = after v x.earlier in
-      let start : last_of v b.1 ≡ c = ends v x.earlier b.1 b.3 in
-      let g = taken c (Station.Desk d) message x.at b.0 x.taken b.4 in
-      let one = one_of (GivesAt game c (Station.Desk d) g.0) b.0 g.2 in
-      let soon : s.soon ≡ one.0 ∷ b.1 = b.2 ∙ ap (λ (z : List (Moment Disk Refusal)). z ++ b.1) one.1 in
-      let end : one.0.after ≡ after_one c x.at = ap (last_of v) (sym soon) ∙ b.5 in
+      let f = found (λ m. ComesTo c m (Station.Desk d) message) v x.later x.earlier x.at hs ms x.whole p
+      (λ more plays. comes c (Station.Desk d) message x.at more (still_sent v x.earlier message sent) x.taken plays) in
       record {
-        at = record { later = s.late; moment = one.0; earlier = b.1; whole = s.whole ∙ ap (λ (z : List (Moment Disk Refusal)). s.late ++ z) soon };
-        given = subst (λ (z : Configuration Disk). ComesTo z one.0 (Station.Desk d) message) (sym start)
-            (comes c one.0 (Station.Desk d) message g.0 g.1 (still_sent v x.earlier message sent) one.2);
+        at = f.amid;
+        given = subst (λ (z : Configuration Disk). ComesTo z f.amid.moment (Station.Desk d) message) (sym f.start) f.is;
         heard = λ reply h.
-            let it = handed c (last_of v b.1) x.at one.0 reply start end h in
-            subst (λ (z : Configuration Disk). Reaches z t reply s.late) (sym end)
-            (reached (after_one c x.at) x.later s.late s.on t reply it.1 (x.heard reply it.0));
+            let it = handed c (last_of v f.amid.earlier) x.at f.amid.moment reply f.start f.end h in
+            subst (λ (z : Configuration Disk). Reaches z t reply f.amid.later) (sym f.end)
+            (reached (after_one c x.at) x.later f.amid.later f.on t reply it.1 (x.heard reply it.0));
       }
 
   pub exchange : (v : Configuration Disk) (hs : List (Happening Disk)) (ms : List (Moment Disk Refusal)) → ArePlayed game v hs ms → (t : Station) (d : DeskId)
       → ProcessExchange game t d hs → Exchange v t d ms
   exchange v hs ms p t d x =
-      let s = split v x.later (x.at ∷ x.earlier) ms (subst (λ (z : List (Happening Disk)). ArePlayed game v z ms) x.whole p) in
-      let b = s.before in
       let c = after v x.earlier in
-      let start : last_of v b.1 ≡ c = ends v x.earlier b.1 b.3 in
-      let one = one_of (TicksAt t) b.0 (ticked c t x.at b.0 x.ticks b.4) in
-      let soon : s.soon ≡ one.0 ∷ b.1 = b.2 ∙ ap (λ (z : List (Moment Disk Refusal)). z ++ b.1) one.1 in
-      let end : one.0.after ≡ after_one c x.at = ap (last_of v) (sym soon) ∙ b.5 in
+      let f = found (TicksAt t) v x.later x.earlier x.at hs ms x.whole p (λ more plays. one_of (TicksAt t) more (ticked c t x.at more x.ticks plays)) in
       record {
-        at = record { later = s.late; moment = one.0; earlier = b.1; whole = s.whole ∙ ap (λ (z : List (Moment Disk Refusal)). s.late ++ z) soon };
-        ticks = one.2;
+        at = f.amid;
+        ticks = f.is;
         answered = λ message h.
-            let it = handed c (last_of v b.1) x.at one.0 message start end h in
-            subst (λ (z : Configuration Disk). IsAnswered z t d message s.late) (sym end)
-            (answered (after_one c x.at) x.later s.late s.on t d message it.1 (x.answered message it.0));
+            let it = handed c (last_of v f.amid.earlier) x.at f.amid.moment message f.start f.end h in
+            subst (λ (z : Configuration Disk). IsAnswered z t d message f.amid.later) (sym f.end)
+            (answered (after_one c x.at) x.later f.amid.later f.on t d message it.1 (x.answered message it.0));
       }
 
   pub board_exchange : (v : Configuration Disk) (hs : List (Happening Disk)) (ms : List (Moment Disk Refusal)) → ArePlayed game v hs ms → (n m : ℕ)

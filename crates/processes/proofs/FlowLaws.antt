@@ -8,13 +8,15 @@ use Rattle.entry_log.specs.Disk.{Images}
 use Rattle.agree_core.specs.declared.messages.DeskId.{DeskId}
 use Rattle.agree_core.specs.declared.messages.DeskId.TheVariants.{A}
 use Rattle.agree_core.specs.Ballots.{Ballot, In, votes_by}
-use Rattle.headline.proofs.Keeping.{begins_fine}
-use Rattle.headline.proofs.Shown.{each_moment, none_keeps_both}
+use Rattle.headline.proofs.Keeping.{Fine}
+use Rattle.headline.proofs.Shown.{by_both, none_keeps_both}
 use Rattle.headline.proofs.EveryRun.{holds_in_run}
 use Rattle.headline.proofs.LawScores.{shown_scored}
-use Rattle.headline.specs.Headline.{ArePenned, ByBoth, AllHaveScores, ShowsScore}
+use Rattle.headline.proofs.PennedVotes.{all_penned}
+use Rattle.headline.specs.Headline.{AllHaveScores, ByBoth, ShowsScore}
+use Rattle.headline.specs.Laws.{HoldsInRun}
 use Rattle.headline.specs.Match.{setting_of}
-use Rattle.headline.specs.Runs.{Begins, Moment, Shows, AfterEach}
+use Rattle.headline.specs.Runs.{Begins, Shows}
 use Rattle.headline.specs.declared.version.FileVersion.{FileVersion}
 use Rattle.headline.specs.Configurations.{Configuration, all_votes}
 use Rattle.headline.specs.Kept.{NoneKeepsBoth}
@@ -22,15 +24,16 @@ use Rattle.headline.specs.Setting.{Setting}
 use Rattle.corrections.specs.declared.refusal.Refusal.{Refusal}
 use Rattle.station_texts.specs.Saying.{SaysEntry}
 use Rattle.progress.specs.Progress.{AllAreEntries}
-use Rattle.processes.specs.Happenings.{Happening, after}
-use Rattle.processes.specs.Headline.{AtEachTime, TypesBallot, WasTyped}
-use Rattle.processes.specs.Laws.{FlowsAreRuns, FlowsHaveHeadline, IsFlow}
-use Rattle.processes.proofs.FlowSteps.{IsCalm}
-use Rattle.processes.proofs.Flowing.{at_each, at_some, flow_runs}
-use Rattle.processes.proofs.LostLines.{each_lacks_none, each_shows_none}
-use Rattle.processes.proofs.Printing.{each_prints}
-use Rattle.processes.proofs.PublicScores.{each_shows}
-use Rattle.processes.proofs.SecondVotes.{each_takes_second}
+use Rattle.processes.specs.Happenings.{Flow, Happening, after}
+use Rattle.processes.specs.Headline.{AtEachTime, PrintsItsBook, ProcessHeadline, TypesBallot, WasTyped}
+use Rattle.processes.specs.Laws.{FlowsAreRuns, FlowsHaveHeadline}
+use Rattle.processes.specs.LostLines.{LacksNoLines, ShowsNoLoss}
+use Rattle.processes.specs.PublicScores.{ShowsAgreed}
+use Rattle.processes.specs.SecondVotes.{AtEachHappening, TakesSecond}
+use Rattle.processes.proofs.Flowing.{Flows, at_some, fine, runs, stands}
+use Rattle.processes.proofs.LostLines.{lacks, shows_none}
+use Rattle.processes.proofs.PublicScores.{prints, shows}
+use Rattle.processes.proofs.SecondVotes.{takes_second}
 
 -- a ballot that was typed has its numbers in their ranges
 said_entry : (x : Sheet) (book : List Entry) (votes : List Ballot) (round : ℕ) (line : List ℕ) (e : Entry) → SaysEntry x book votes round line e → IsEntry e
@@ -38,10 +41,6 @@ said_entry x book votes round line e (none, inl h) = h.2.0
 said_entry x book votes round line e (none, inr h) = h.3
 
 module _ {Disk : Type 0} where
-  -- at the start no fault is due
-  pub begins_calm : (s : Setting Disk Refusal) (version : FileVersion) (boards : ℕ) (w : Configuration Disk) → Begins s version boards w → IsCalm w
-  begins_calm s version boards w h0 = grind arith
-
   typed_here : (v : Configuration Disk) (what : Happening Disk) (d : DeskId) (b : Ballot) → TypesBallot v what d b → IsEntry b.entry
   typed_here v what d b h0 = grind (arith, said_entry)
 
@@ -50,59 +49,79 @@ module _ {Disk : Type 0} where
   typed_entry w (c ∷ cs) d b (inl h) = typed_here (after w cs) c d b h
   typed_entry w (c ∷ cs) d b (inr h) = typed_entry w cs d b h
 
-  now_penned : (w : Configuration Disk) (ms : List (Moment Disk Refusal)) → AfterEach ms (ArePenned w) → ArePenned w ms
-  now_penned w [] h = h
-  now_penned w (m ∷ ms) h = h.0
+module _ {Disk : Type 0} (seen : Disk → List ℕ) (images : Disk → Images) (contents : FileVersion → FileContents) (game innings : ℕ) where
+  abbrev s : Setting Disk Refusal
+  s = setting_of contents seen images game innings
+
+  module _ (version : FileVersion) (boards : ℕ) (w : Configuration Disk) (begins : Begins s version boards w) where
+    abbrev Happened : List (Happening Disk) → Type 0
+    Happened hs = Flow s.view game innings w hs
+
+    run_of : (hs : List (Happening Disk)) → Happened hs → Flows s game innings refl w hs
+    run_of hs f = runs s game innings refl version boards w begins hs f
+
+    fine_at : (hs : List (Happening Disk)) → Happened hs → Fine s (after w hs)
+    fine_at hs f = fine s game innings refl version boards w begins hs f
+
+    holds : (hs : List (Happening Disk)) (f : Happened hs) → HoldsInRun s innings w ((run_of hs f).moments)
+    holds hs f = holds_in_run s innings (λ book e none. none) (λ book score stands. stands) version boards w ((run_of hs f).moments) begins (run_of hs f).run
+
+    -- each vote was typed, and so it is for an entry that can be written
+    typed : (hs : List (Happening Disk)) → Happened hs → (d : DeskId) (b : Ballot) → In b (votes_by (all_votes (after w hs)) d) → WasTyped w hs d b
+    typed hs f d b i =
+        let p = run_of hs f in
+        p.typed d b (all_penned s version boards w p.moments begins p.run d b (subst (λ (v : Configuration Disk). In b (votes_by (all_votes v) d)) (sym p.ends) i))
+
+    entries : (hs : List (Happening Disk)) → Happened hs → AllAreEntries (all_votes (after w hs))
+    entries hs f d b i = typed_entry w hs d b (typed hs f d b i)
+
+    both : (hs : List (Happening Disk)) → Happened hs → ByBoth (after w hs)
+    both hs f = by_both s (after w hs) (fine_at hs f)
+
+    scored : 1 ≤ innings → innings ≤ 2 → (hs : List (Happening Disk)) → Happened hs → AllHaveScores innings (after w hs)
+    scored one two hs f =
+        let p = run_of hs f in
+        subst (AllHaveScores innings) p.ends
+        (shown_scored s innings (λ book e none. none) one two version boards w p.moments begins p.run (λ b h. typed_entry w hs A b (p.typed A b h)))
+
+    -- what is so after each flow is so at each time of one, and what is so of what may happen then, of all that happens
+    each_time : (P : Configuration Disk → Type 0) → ((hs : List (Happening Disk)) → Happened hs → P (after w hs)) → (hs : List (Happening Disk)) → Happened hs → AtEachTime w hs P
+    each_time P so [] f = so [] f
+    each_time P so (h ∷ hs) f = (so (h ∷ hs) f, each_time P so hs f.0)
+
+    each : (P : Configuration Disk → Happening Disk → Type 0) → ((hs : List (Happening Disk)) (h : Happening Disk) → Happened (h ∷ hs) → P (after w hs) h)
+        → (hs : List (Happening Disk)) → Happened hs → AtEachHappening w hs P
+    each P so [] f = tt
+    each P so (h ∷ hs) f = (each P so hs f.0, so hs h f)
+
+    headline : (hs : List (Happening Disk)) → Happened hs → ProcessHeadline game innings w hs
+    headline hs f =
+        let p = run_of hs f in
+        let h = (holds hs f).headline in
+        let some = λ (P : Configuration Disk → Type 0). at_some P w hs p.moments p.through in
+        record {
+          prefixes = λ t u xs ys x y. h.prefixes t u xs ys (some (λ v. Shows v t xs) x) (some (λ v. Shows v u ys) y);
+          by_both = each_time ByBoth both hs f;
+          typed = typed hs f;
+          scored = λ one two. each_time (AllHaveScores innings) (scored one two) hs f;
+          scores = λ t u n score other x y. h.scores t u n score other (some (λ v. ShowsScore innings v t n score) x) (some (λ v. ShowsScore innings v u n other) y);
+          prints = each (PrintsItsBook innings) (λ gs g flow. prints s.view game innings (after w gs) g flow.1) hs f;
+          shows_agreed = each (ShowsAgreed innings)
+              (λ gs g flow. shows s.view game innings (after w gs) g flow.1 (both gs flow.0) (λ one two. scored one two gs flow.0)
+              (both (g ∷ gs) flow) (λ one two. scored one two (g ∷ gs) flow)) hs f;
+          takes_second = each (TakesSecond game) (takes_second s game innings refl version boards w begins) hs f;
+          none_waits = each_time NoneKeepsBoth (λ gs flow. none_keeps_both s (after w gs) (fine_at gs flow)) hs f;
+          lacks_no_lines = each LacksNoLines
+              (λ gs g flow. lacks s game innings (after w gs) (stands s game innings refl version boards w begins gs flow.0) (fine_at gs flow.0) g flow.1) hs f;
+          shows_no_loss = each (ShowsNoLoss game)
+              (λ gs g flow. shows_none s game innings (after w gs) (stands s game innings refl version boards w begins gs flow.0) (fine_at gs flow.0) (entries gs flow.0) g flow.1) hs f;
+        }
 
 module _ {Disk : Type 0} (seen : Disk → List ℕ) (images : Disk → Images) where
   pub flows_are_runs : FlowsAreRuns seen images
   flows_are_runs contents game innings version boards w hs f =
-      let s = setting_of contents seen images game innings in
-      let p = flow_runs s game innings refl w (begins_calm s version boards w f.0) hs f.1 in
-      (p.0, p.1, p.2, holds_in_run s innings (λ book e none. none) (λ book score stands. stands) version boards w p.0 f.0 p.1)
-
-  module _ (contents : FileVersion → FileContents) (game innings : ℕ) (version : FileVersion) (boards : ℕ) (w : Configuration Disk) (one : 1 ≤ innings) (two : innings ≤ 2) where
-    abbrev setting : Setting Disk Refusal
-    setting = setting_of contents seen images game innings
-
-    now_scored : (hs : List (Happening Disk)) → IsFlow seen images contents game innings version boards w hs → AllHaveScores innings (after w hs)
-    now_scored hs f =
-        let p = flow_runs setting game innings refl w (begins_calm setting version boards w f.0) hs f.1 in
-        subst (AllHaveScores innings) p.3 (shown_scored setting innings (λ book e none. none) one two version boards w p.0 f.0 p.1 (λ b h. typed_entry w hs A b (p.4 A b h)))
-
-    each_scored : (hs : List (Happening Disk)) → IsFlow seen images contents game innings version boards w hs → AtEachTime w hs (AllHaveScores innings)
-    each_scored [] f = now_scored [] f
-    each_scored (c ∷ cs) f = (now_scored (c ∷ cs) f, each_scored cs (f.0, f.1.0))
-
-  module _ (contents : FileVersion → FileContents) (game innings : ℕ) (version : FileVersion) (boards : ℕ) (w : Configuration Disk) where
-    -- each vote was typed, and so it is for an entry that can be written
-    now_typed : (hs : List (Happening Disk)) → IsFlow seen images contents game innings version boards w hs → (d : DeskId) (b : Ballot)
-        → In b (votes_by (all_votes (after w hs)) d) → WasTyped w hs d b
-    now_typed hs f d b i =
-        let s = setting_of contents seen images game innings in
-        let p = flow_runs s game innings refl w (begins_calm s version boards w f.0) hs f.1 in
-        let h = (holds_in_run s innings (λ book e none. none) (λ book score stands. stands) version boards w p.0 f.0 p.1).headline in
-        p.4 d b (now_penned w p.0 h.by_both.1 d b (subst (λ (v : Configuration Disk). In b (votes_by (all_votes v) d)) (sym p.3) i))
-
-    now_entries : (hs : List (Happening Disk)) → IsFlow seen images contents game innings version boards w hs → AllAreEntries (all_votes (after w hs))
-    now_entries hs f d b i = typed_entry w hs d b (now_typed hs f d b i)
+      let p = run_of seen images contents game innings version boards w f.0 hs f.1 in
+      (p.moments, p.run, p.through, holds seen images contents game innings version boards w f.0 hs f.1)
 
   pub flows_have_headline : FlowsHaveHeadline seen images
-  flows_have_headline contents game innings version boards w hs f =
-      let s = setting_of contents seen images game innings in
-      let p = flow_runs s game innings refl w (begins_calm s version boards w f.0) hs f.1 in
-      let h = (holds_in_run s innings (λ book e none. none) (λ book score stands. stands) version boards w p.0 f.0 p.1).headline in
-      record {
-        prefixes = λ t u xs ys x y. h.prefixes t u xs ys (at_some (λ v. Shows v t xs) w hs p.0 p.2 x) (at_some (λ v. Shows v u ys) w hs p.0 p.2 y);
-        by_both = at_each ByBoth w hs p.0 p.2 h.by_both.0;
-        typed = now_typed contents game innings version boards w hs f;
-        scored = λ one two. each_scored contents game innings version boards w one two hs f;
-        scores = λ t u n score other x y. h.scores t u n score other (at_some (λ v. ShowsScore innings v t n score) w hs p.0 p.2 x) (at_some (λ v. ShowsScore innings v u n other) w hs p.0 p.2 y);
-        prints = each_prints s.view game innings w hs f.1;
-        shows_agreed = each_shows s.view game innings w hs f.1 (at_each ByBoth w hs p.0 p.2 h.by_both.0) (λ one two. each_scored contents game innings version boards w one two hs f);
-        takes_second = each_takes_second s game innings refl version boards w f.0 (begins_calm s version boards w f.0) hs f.1;
-        none_waits = at_each NoneKeepsBoth w hs p.0 p.2 (each_moment s w p.0 NoneKeepsBoth (none_keeps_both s) (begins_fine s version boards w f.0) p.1);
-        lacks_no_lines = each_lacks_none s game innings refl version boards w f.0 (begins_calm s version boards w f.0) hs f.1;
-        shows_no_loss = each_shows_none s game innings refl version boards w f.0 (begins_calm s version boards w f.0)
-            (λ gs flow. now_entries contents game innings version boards w gs (f.0, flow)) hs f.1;
-      }
+  flows_have_headline contents game innings version boards w hs f = headline seen images contents game innings version boards w f.0 hs f.1

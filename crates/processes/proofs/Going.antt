@@ -1,5 +1,5 @@
 -- Runs that go on.
-use Rattle.std.proofs.Common.{◌≡◌, ◌≤◌, List, [], ◌∷◌, ◌++◌, length, refl, arith}
+use Rattle.std.proofs.Common.{◌≡◌, ◌≤◌, ℕ, List, [], ◌∷◌, ◌++◌, length, refl, ◌∙◌, subst, arith}
 use Rattle.corrections.specs.declared.refusal.Refusal.{Refusal}
 use Rattle.headline.specs.declared.event.Event.{Event}
 use Rattle.headline.specs.Setting.{Setting}
@@ -14,7 +14,9 @@ use Rattle.headline.specs.Answers.{Answer}
 use Rattle.headline.specs.Steps.{Step}
 use Rattle.headline.specs.Runs.{Moment, Run, last_of}
 use Rattle.headline.specs.Besides.{AtEachEvent}
+use Rattle.progress.specs.Calm.{AllCalm, IsCalm}
 use Rattle.processes.specs.Laws.{GoesOn}
+use Rattle.processes.specs.Progress.{IsQuiet, Plays}
 
 -- the event of this configuration fits what happened in the other: a pen is a line that the desk's scorer typed
 abbrev pub TypedAs : {Disk : Type 0} → Happening Disk → Configuration Disk → Configuration Disk → DeskId → Entry → Type 0
@@ -31,30 +33,51 @@ module _ {Disk : Type 0} where
   pub last_on : (w : Configuration Disk) (ms more : List (Moment Disk Refusal)) → last_of w (more ++ ms) ≡ last_of (last_of w ms) more
   last_on w ms more = grind arith
 
-module _ {Disk : Type 0} (s : Setting Disk Refusal) where
-  -- a run of at most two events from one configuration to the other, and what is so of each event
-  abbrev pub Leads : (Configuration Disk → Event → Type 0) → Configuration Disk → Configuration Disk → Type 0
-  Leads F v new =
-      (more : List (Moment Disk Refusal)) × (length more ≤ 2) × Run s v more × (last_of v more ≡ new)
-      × AtEachEvent v more (λ u m. F u m.event)
+module _ {Disk : Type 0} (s : Setting Disk Refusal) (game : ℕ) where
+  -- a run of at most two events from one configuration to the other: each fits what happened in the configuration `v`, and
+  -- where that is quiet, they play it
+  pub record Leads (what : Happening Disk) (v from new : Configuration Disk) : Type 0 where
+    pub moments : List (Moment Disk Refusal)
+    pub few : length moments ≤ 2
+    pub run : Run s from moments
+    pub ends : last_of from moments ≡ new
+    pub fits : AtEachEvent from moments (λ u m. Fits what v u m.event)
+    pub plays : IsQuiet what → AllCalm moments × Plays game v what moments
 
   pub run_on : (w : Configuration Disk) (ms more : List (Moment Disk Refusal)) → Run s w ms → Run s (last_of w ms) more → Run s w (more ++ ms)
   run_on w ms [] r q = r
   run_on w ms (m ∷ more) r q = (run_on w ms more r q.0, rw (last_on w ms more) q.1)
 
-  pub goes_from : (F : Configuration Disk → Event → Type 0) (w : Configuration Disk) (ms : List (Moment Disk Refusal)) (v new : Configuration Disk)
-      → v ≡ last_of w ms → Run s w ms → Leads F v new → GoesOn s w ms new
-  goes_from F w ms v new h0 h1 h2 = grind (arith, last_on, run_on)
+  pub goes_from : (what : Happening Disk) (w : Configuration Disk) (ms : List (Moment Disk Refusal)) (v new : Configuration Disk)
+      → v ≡ last_of w ms → Run s w ms → Leads what v v new → GoesOn s w ms new
+  goes_from what w ms v new e r l =
+      let on = subst (λ (z : Configuration Disk). Run s z l.moments × (last_of z l.moments ≡ new)) e (l.run, l.ends) in
+      (l.moments, l.few, run_on w ms l.moments r on.0, last_on w ms l.moments ∙ on.1)
 
-  pub none : (F : Configuration Disk → Event → Type 0) (v new : Configuration Disk) → v ≡ new → Leads F v new
-  none F v new e = ([], omega arith, tt, e, tt)
+  module _ (what : Happening Disk) (v new : Configuration Disk) where
+    pub none : v ≡ new → (IsQuiet what → Plays game v what []) → Leads what v v new
+    none e plays = record { moments = []; few = omega arith; run = tt; ends = e; fits = tt; plays = λ q. (tt, plays q) }
 
-  pub one : (F : Configuration Disk → Event → Type 0) (v : Configuration Disk) (event : Event) (answer : Answer Refusal) (new : Configuration Disk) → F v event
-      → Step s v event answer new → Leads F v new
-  one F v event answer new f h = (record { event = event; answer = answer; after = new } ∷ [], omega arith, (tt, h), refl, (tt, f))
+    abbrev pub IsPlayed : Event → Answer Refusal → Type 0
+    IsPlayed event answer = IsQuiet what → IsCalm event × Plays game v what (record { event = event; answer = answer; after = new } ∷ [])
 
-  pub two : (F : Configuration Disk → Event → Type 0) (v : Configuration Disk) (first second : Event) (answer told : Answer Refusal) (u new : Configuration Disk)
-      → F v first → F u second → Step s v first answer u → Step s u second told new → Leads F v new
-  two F v first second answer told u new f g h j =
-      let moments : List (Moment Disk Refusal) = record { event = second; answer = told; after = new } ∷ record { event = first; answer = answer; after = u } ∷ [] in
-      (moments, omega arith, ((tt, h), j), refl, ((tt, f), g))
+    pub one : (event : Event) (answer : Answer Refusal) → Fits what v v event → IsPlayed event answer → Step s v event answer new → Leads what v v new
+    one event answer fits plays step = record {
+      moments = record { event = event; answer = answer; after = new } ∷ [];
+      few = omega arith;
+      run = (tt, step);
+      ends = refl;
+      fits = (tt, fits);
+      plays = λ q. ((tt, (plays q).0), (plays q).1);
+    }
+
+    pub two : (first second : Event) (answer told : Answer Refusal) (u : Configuration Disk) → (IsQuiet what → ⊥) → Fits what v v first → Fits what v u second
+        → Step s v first answer u → Step s u second told new → Leads what v v new
+    two first second answer told u loud f g h j = record {
+      moments = record { event = second; answer = told; after = new } ∷ record { event = first; answer = answer; after = u } ∷ [];
+      few = omega arith;
+      run = ((tt, h), j);
+      ends = refl;
+      fits = ((tt, f), g);
+      plays = λ q. absurd (loud q);
+    }

@@ -1,19 +1,35 @@
 -- What happens at one station, step by step.
-use Rattle.std.proofs.Common.{◌≡◌, List, [], ◌∷◌, ◌++◌, refl, sym, ap, subst}
+use Rattle.std.proofs.Common.{◌≡◌, Bool, true, false, List, [], ◌∷◌, ◌++◌, cond, refl, ap, ◌∙◌, subst, sym}
 
-module _ {State What : Type 0} (next : State → What → State) (May : State → What → Type 0) where
+-- these, with one more before them where a test is so
+abbrev pub with_one : {X : Type 0} → Bool → X → List X → List X
+with_one test x xs = cond test (x ∷ xs) xs
+
+module _ {State What : Type 0} (next : State → What → State) where
   abbrev pub nexts : State → List What → State
   nexts s [] = s
   nexts s (h ∷ hs) = next (nexts s hs) h
 
+  -- a station that is as what happened there leaves it
+  pub nexts-one : (q : Bool) (s t u : State) (x : What) (xs : List What) → t ≡ nexts s xs → u ≡ cond q (next t x) t → u ≡ nexts s (with_one q x xs)
+  nexts-one true s t u x xs e f = f ∙ ap (λ (z : State). next z x) e
+  nexts-one false s t u x xs e f = f ∙ e
+
+module _ {State What : Type 0} (next : State → What → State) (May : State → What → Type 0) where
   abbrev pub Local : State → List What → Type 0
   Local s [] = Unit {0}
-  Local s (h ∷ hs) = Local s hs × May (nexts s hs) h
+  Local s (h ∷ hs) = Local s hs × May (nexts next s hs) h
 
-  pub nexts-append : (s : State) (xs ys : List What) → nexts s (xs ++ ys) ≡ nexts (nexts s ys) xs
-  nexts-append s [] ys = refl
-  nexts-append s (x ∷ xs) ys = ap (λ (t : State). next t x) (nexts-append s xs ys)
+  pub local-one : (q : Bool) (s : State) (x : What) (xs : List What) → Local s (with_one q x xs) → Local s xs × (q ≡ true → May (nexts next s xs) x)
+  local-one true s x xs h = (h.0, λ e. h.1)
+  local-one false s x xs h = (h, λ e. absurd (cc))
 
-  pub local-append : (s : State) (xs ys : List What) → Local s ys → Local (nexts s ys) xs → Local s (xs ++ ys)
-  local-append s [] ys l m = l
-  local-append s (x ∷ xs) ys l m = (local-append s xs ys l m.0, subst (λ (t : State). May t x) (sym (nexts-append s xs ys)) m.1)
+  -- so from one state to another
+  abbrev pub Goes : State → List What → State → Type 0
+  Goes s hs t = Local s hs × (nexts next s hs ≡ t)
+
+  pub goes-append : (s t u : State) (xs ys : List What) → Goes s ys t → Goes t xs u → Goes s (xs ++ ys) u
+  goes-append s t u [] ys g h = (g.0, g.1 ∙ h.1)
+  goes-append s t u (x ∷ xs) ys g h =
+      let rest = goes-append s t (nexts next t xs) xs ys g (h.0.0, refl) in
+      ((rest.0, subst (λ (z : State). May z x) (sym rest.1) h.0.1), ap (λ (z : State). next z x) rest.1 ∙ h.1)

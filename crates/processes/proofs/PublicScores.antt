@@ -1,5 +1,5 @@
--- What the public sees is of books that both scorers wrote.
-use Rattle.std.proofs.Common.{◌≡◌, ◌≤◌, ◌⊎◌, ℕ, Some, List, [], ◌∷◌, refl, inl, inr}
+-- What processes print is of their books, and what the public sees of books that both scorers wrote.
+use Rattle.std.proofs.Common.{◌≡◌, ◌≤◌, ◌⊎◌, ℕ, Some, List, [], refl, inl, inr}
 use Rattle.std.specs.Prelude.{All}
 use Rattle.std.proofs.lemmas.List.Elements.{All-cons, All-nil}
 use Rattle.notation.specs.declared.entry.Entry.{Entry}
@@ -16,15 +16,10 @@ use Rattle.headline.proofs.Heeding.{board_put}
 use Rattle.live.specs.Boards as boards
 use Rattle.live.specs.Boards.{BoardCall}
 use Rattle.live.specs.Sights.{Sight, sight_of}
-use Rattle.processes.specs.Happenings.{BoardCalled, BoardGreeted, Flow, Happening, Happens, after, after_one}
-use Rattle.processes.specs.Headline.{AtEachTime}
+use Rattle.processes.specs.Happenings.{BoardCalled, BoardGreeted, DeskCalled, DeskGreeted, Happening, Happens, after_one}
+use Rattle.processes.specs.Headline.{PrintsItsBook}
 use Rattle.processes.specs.Printing.{Hands, HandsBook, Prints}
 use Rattle.processes.specs.PublicScores.{IsOfBoth, IsSightOfBoth, PrintsOfBoth, ShowsAgreed, ShowsOfBoth}
-use Rattle.processes.specs.SecondVotes.{AtEachHappening}
-
-pub now_so : {Disk : Type 0} (P : Configuration Disk → Type 0) (w : Configuration Disk) (hs : List (Happening Disk)) → AtEachTime w hs P → P (after w hs)
-now_so P w [] h = h
-now_so P w (x ∷ hs) h = h.0
 
 module _ {Disk : Type 0} (innings : ℕ) (v : Configuration Disk) where
   -- in a match of one or two innings a side each book that is shown has a score
@@ -53,7 +48,14 @@ module _ {Disk : Type 0} (innings : ℕ) (v : Configuration Disk) where
   called s _ l text seen p h by = (inl p, rw h (All-nil (IsSightOfBoth innings v s)))
 
 module _ {Disk : Type 0} (view : DeskId → FileVersion → FileView Disk) (game innings : ℕ) where
-  shows : (v : Configuration Disk) (what : Happening Disk) → Happens view game innings v what → ByBoth v → HasScores innings v
+  pub prints : (v : Configuration Disk) (what : Happening Disk) → Happens view game innings v what → PrintsItsBook innings v what
+  prints v (DeskGreeted d s text) h = h
+  prints v (DeskCalled d s call out l text) h = (h.0, h.1, h.4)
+  prints v (BoardGreeted n s text seen) h = h
+  prints v (BoardCalled n s call out l text seen) h = (h.4, h.5)
+  prints v _ h = tt
+
+  pub shows : (v : Configuration Disk) (what : Happening Disk) → Happens view game innings v what → ByBoth v → HasScores innings v
       → ByBoth (after_one v what) → HasScores innings (after_one v what) → ShowsAgreed innings v what
   shows v (BoardGreeted n s text seen) h both scores later then =
       let by = board_of_both innings v n h.0 h.1 both scores in
@@ -62,12 +64,3 @@ module _ {Disk : Type 0} (view : DeskId → FileVersion → FileView Disk) (game
       let new = after_one v (BoardCalled n s call out l text seen) in
       called innings new s call l text seen h.4 h.5 (board_of_both innings new n l (board_put v.boards n h.0 l h.1) later then)
   shows v _ h both scores later then = tt
-
-  pub each_shows : (w : Configuration Disk) (hs : List (Happening Disk)) → Flow view game innings w hs → AtEachTime w hs ByBoth
-      → (1 ≤ innings → innings ≤ 2 → AtEachTime w hs (AllHaveScores innings)) → AtEachHappening w hs (ShowsAgreed innings)
-  each_shows w [] f both scores = tt
-  each_shows w (h ∷ hs) f both scores = (
-    each_shows w hs f.0 both.1 (λ one two. (scores one two).1),
-    shows (after w hs) h f.1 (now_so ByBoth w hs both.1) (λ one two. now_so (AllHaveScores innings) w hs (scores one two).1)
-        both.0 (λ one two. (scores one two).0),
-  )

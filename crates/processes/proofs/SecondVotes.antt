@@ -24,23 +24,22 @@ use Rattle.headline.specs.Runs.{Begins, Moment, Run, Shows, last_of}
 use Rattle.headline.specs.Steps.{Step}
 use Rattle.headline.specs.Kept.{kept_at}
 use Rattle.headline.proofs.NotedRuns.{keeps_noted}
-use Rattle.headline.proofs.SecondVotes.{takes_second}
+use Rattle.headline.proofs.SecondVotes as headline
 use Rattle.live.specs.Boards as boards
 use Rattle.live.specs.Boards.{BoardStep}
 use Rattle.live.specs.Desks as desks
 use Rattle.live.specs.Desks.{DeskStep}
 use Rattle.processes.specs.Happenings.{BoardCalled, DeskCalled, Flow, Happening, Happens, after, after_one, with_process}
-use Rattle.processes.specs.SecondVotes.{AtEachHappening, Brings, SayVote, TakesSecond}
+use Rattle.processes.specs.SecondVotes.{Brings, SayVote, TakesSecond}
 use Rattle.processes.proofs.BoardSteps.{with_it}
-use Rattle.processes.proofs.FlowSteps.{IsCalm}
-use Rattle.processes.proofs.Flowing.{flow_runs}
+use Rattle.processes.proofs.Flowing.{runs}
 
 desk_in : (d c : DeskId) → Station.Desk d ≡ Station.Desk c → d ≡ c
 desk_in d c p = cc
 
 module _
     {Disk : Type 0} (s : Setting Disk Refusal) (game innings : ℕ) (rules : s.rules ≡ book_refusal innings)
-    (version : FileVersion) (n : ℕ) (w : Configuration Disk) (begins : Begins s version n w) (calm : IsCalm w)
+    (version : FileVersion) (n : ℕ) (w : Configuration Disk) (begins : Begins s version n w)
   where
     -- after a run that ends here, at a station that keeps the first vote
     module _
@@ -54,7 +53,7 @@ module _
             let m : Moment Disk Refusal = record { event = event; answer = answer; after = new } in
             let goes : Run s w (m ∷ ms) = (run, rw last step) in
             let keeps = subst (λ (u : Configuration Disk). (position_at u t ≡ Some b.at) × (kept_at u t c ≡ Some b.entry)) (sym last) (pos, kept) in
-            takes_second s version n w begins (m ∷ ms) goes t book b c (rw last shown) ((keeps_noted s version n w ms begins run t c b).1 keeps)
+            headline.takes_second s version n w begins (m ∷ ms) goes t book b c (rw last shown) ((keeps_noted s version n w ms begins run t c b).1 keeps)
             (keeps.0, rw last brought, told)
 
         -- the datagram that was sent is the vote
@@ -94,8 +93,7 @@ module _
         takes (BoardCalled number sheet call out l text seen) h brought = absurd brought.1
         takes _ h brought = absurd brought
 
-    pub each_takes_second : (hs : List (Happening Disk)) → Flow s.view game innings w hs → AtEachHappening w hs (TakesSecond game)
-    each_takes_second [] f = tt
-    each_takes_second (h ∷ hs) f =
-        let p = flow_runs s game innings rules w calm hs f.0 in
-        (each_takes_second hs f.0, λ t book b c shown pos kept. takes p.0 p.1 (after w hs) p.3 t book b c shown pos kept h f.1)
+    pub takes_second : (hs : List (Happening Disk)) (h : Happening Disk) → Flow s.view game innings w (h ∷ hs) → TakesSecond game (after w hs) h
+    takes_second hs h f =
+        let p = runs s game innings rules version n w begins hs f.0 in
+        λ t book b c shown pos kept. takes p.moments p.run (after w hs) p.ends t book b c shown pos kept h f.1

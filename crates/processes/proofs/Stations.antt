@@ -1,5 +1,5 @@
 -- What the processes of `live` state is part of a station's life.
-use Rattle.std.proofs.Common.{arith, Result, ◌≡◌, ◌⊎◌, ℕ, List, [], ◌∷◌, ◌++◌, ap, inl, inr, refl, sym, ◌∙◌, subst}
+use Rattle.std.proofs.Common.{arith, Result, ◌≡◌, ℕ, List, [], ◌++◌, ap, inl, inr, refl, sym, ◌∙◌, subst}
 use Rattle.notation.specs.declared.entry.Entry.{Entry}
 use Rattle.corrections.specs.CleanList.{history_of}
 use Rattle.corrections.specs.declared.book_of.BookOf.{Ghosts as Books}
@@ -21,7 +21,6 @@ use Rattle.live.specs.Boards.{BoardTurn, board_kind}
 use Rattle.station_texts.specs.Notices.{untold}
 use Rattle.live.specs.Runs as own
 use Rattle.live.specs.Runs.{LogsGrow, known_where, with_told}
-use Rattle.live.specs.Sights.{Sight, sight_of}
 use Rattle.live.specs.Ticks.{unticked}
 use Rattle.live.specs.DeskLife.{BeginsOn, Follows}
 use Rattle.live.specs.Desks.{DeskCall, DeskProcess, DiskView, FitsLongest}
@@ -65,23 +64,16 @@ module _ {B : Type 0} {g : _} (content : B → List Entry) (innings_of : B → �
       let goes = r.runs.goes.goes in
       let innings = innings_of (board.book_of old) in
       let kind = board_kind sheet (board.game_of old) innings in
-      let first = r.first in
-      let from : BoardState → BoardTurn = λ k. boards.begun k 0 untold unticked noted (seen ++ first) in (
-        record { sheet = sheet; noted = noted; seen = seen ++ first; first = first; calls = goes.moments },
-        refl,
-        (
-          subst (λ (k : BoardState). HandsBook sheet innings k.book first) new_board (hands r.shows_first),
-          subst (λ (k : BoardState). own.Run kind (from k) goes.moments) new_board goes.run,
-        ),
-        subst (λ (k : BoardState). (λ (t : BoardTurn). t.board) (own.last_of (from k) goes.moments) ≡ board.state_of content new) new_board
-            (ap (λ (t : BoardTurn). t.board) goes.last ∙ r.runs.is),
-        subst (λ (k : BoardState). LogsGrow kind (from k) goes.moments (known_where result (with_told before (board_text sheet innings (history_of k.book))))
-            (known_where result after)) new_board goes.logs,
-        refl,
-        subst (λ (k : BoardState). sees ≡ (λ (t : BoardTurn). t.seen) (own.last_of (from k) goes.moments)) new_board
-            (sym r.runs.sighted ∙ sym (ap (λ (t : BoardTurn). t.seen) goes.last)),
-      )
-    where
-      hands : {book : List Entry} {n : ℕ} {first : List Sight} {failed : Type 0} → (first ≡ sight_of sheet n book ∷ []) ⊎ ((first ≡ []) × failed) → HandsBook sheet n book first
-      hands (inl is) = inl is
-      hands (inr none) = inr none.0
+      let from : BoardState → BoardTurn = λ k. boards.begun k 0 untold unticked noted (seen ++ r.first) in
+      let Lives : BoardState → Type 0 = λ k.
+      HandsBook sheet innings k.book r.first × own.Run kind (from k) goes.moments × ((λ (t : BoardTurn). t.board) (own.last_of (from k) goes.moments) ≡ board.state_of content new)
+      × LogsGrow kind (from k) goes.moments (known_where result (with_told before (board_text sheet innings (history_of k.book)))) (known_where result after)
+      × (sees ≡ (λ (t : BoardTurn). t.seen) (own.last_of (from k) goes.moments)) in
+      let lives = subst Lives new_board (
+        elim r.shows_first [ inl is ↦ inl is | inr none ↦ inr none.0 ],
+        goes.run,
+        ap (λ (t : BoardTurn). t.board) goes.last ∙ r.runs.is,
+        goes.logs,
+        sym r.runs.sighted ∙ sym (ap (λ (t : BoardTurn). t.seen) goes.last),
+      ) in
+      (record { sheet = sheet; noted = noted; seen = seen ++ r.first; first = r.first; calls = goes.moments }, refl, (lives.0, lives.1), lives.2, lives.3, refl, lives.4)

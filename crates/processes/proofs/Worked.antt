@@ -12,15 +12,15 @@ use Rattle.corrections.specs.Refusal.{book_refusal}
 use Rattle.entry_log.specs.Blame.{BlamesDisk}
 use Rattle.entry_log.specs.Disk.{IsImage, only}
 use Rattle.agree_core.specs.declared.{messages.DeskId.DeskId, messages.Message.Message, seat.Settled.Settled}
-use Rattle.agree_core.specs.Ballots.{vote_of}
-use Rattle.agree_core.specs.Boards.{fresh_board}
+use Rattle.agree_core.specs.Ballots.{Ballot, vote_of}
+use Rattle.agree_core.specs.Boards.{BoardState, fresh_board}
 use Rattle.corrections.specs.CleanList.{clean, clean_items_of, history_of}
 use Rattle.match_laws.specs.Figures.{penalty_runs, total}
 use Rattle.match_laws.specs.History.{begun_by}
 use Rattle.match_laws.specs.Result.{is_decided, outcome, side_total, target}
 use Rattle.agree_core.specs.declared.messages.DeskId.TheVariants.{A, B}
 use Rattle.agree_core.specs.declared.seat.Heard as hearing
-use Rattle.agree_core.specs.FileView.{FileView, Holds, Stays}
+use Rattle.agree_core.specs.FileView.{FileView, Holds}
 use Rattle.agree_core.specs.Openings.{NotOpened, Opened, OpenRefusal}
 use Rattle.cards.specs.Sheet.{Sheet}
 use Rattle.seal.specs.Sealed.{sealed}
@@ -35,7 +35,6 @@ use Rattle.live.specs.Boards as boards
 use Rattle.live.specs.Desks as desks
 use Rattle.live.specs.DeskLife.{fresh}
 use Rattle.live.specs.Ends.{further}
-use Rattle.station_texts.specs.Notices.{untold}
 use Rattle.live.specs.Runs as own
 use Rattle.live.specs.declared.ends.DeskEnd.TheVariants.{Device}
 use Rattle.station_texts.specs.declared.reminder.Reminder.TheVariants.{HasWritten}
@@ -47,6 +46,7 @@ use Rattle.processes.specs.Files.{NoneShowNone}
 use Rattle.processes.specs.Lives.{Beginning, BeginsFirst, BoardProcess, BoardRuns, CallsMade, IsBoardLife, IsLife, ProcessEnd, RunsFrom, Stage, board_happens, fresh_turn, life_happens}
 use Rattle.live.specs.Sights.{Sight, sight_of}
 use Rattle.processes.specs.Sealing.{IsAuthentic}
+use Rattle.processes.proofs.DeskSteps.{stays_refl}
 use Rattle.processes.specs.Weaving.{IsWoven, is_at_board, is_at_desk, start}
 use Rattle.processes.specs.Worked.{LivedIsWoven, a_again, a_bytes, a_penned, a_says, b_bytes, b_noted, b_penned, b_says}
 use Rattle.processes.specs.Worked.{board_agreed, board_asks, board_noted, disk_with, disk_without, lived, new_desk, no_faults, the_vote, toy}
@@ -69,28 +69,20 @@ unfolding file_votes votes_after
 one_read A = rw (vote_in-record_of the_vote (omega arith, omega arith) tt) refl
 one_read B = rw (vote_in-record_of the_vote (omega arith, omega arith) tt) refl
 
-holds_none : (d : DeskId) → Holds (view d) disk_without []
-holds_none d = (none_read d, λ image h. sym h.2 ∙ ap (votes_shown (toy New) d 7) (only_is disk_without h.0 h.1) ∙ none_read d)
-
-holds_one : (d : DeskId) → Holds (view d) disk_with (the_vote ∷ [])
-holds_one d = (one_read d, λ image h. sym h.2 ∙ ap (votes_shown (toy New) d 7) (only_is disk_with h.0 h.1) ∙ one_read d)
-
-stays : (d : DeskId) (disk : List ℕ) → Stays (view d) disk disk
-stays d disk = (refl, λ image. (λ h. h, λ h. h))
+holds : (d : DeskId) (disk : List ℕ) (votes : List Ballot) → votes_shown (toy New) d 7 disk ≡ Some votes → Holds (view d) disk votes
+holds d disk votes read = (read, λ image h. sym h.2 ∙ ap (votes_shown (toy New) d 7) (only_is disk h.0 h.1) ∙ read)
 
 taken : (n : ℕ) → book_refusal n [] (Write Void) ≡ None
 unfolding book_refusal rules.refusal
 taken n = refl
 
 -- no call of this life blames a disk
-blameless : (within : Type 0) (disk left : List ℕ) → BlamesDisk Device within further (no_faults disk) (no_faults left)
-blameless within disk left = record { failed = λ h. cc; same = λ h. refl; calm = λ due fits h. cc; spent = λ once fits h. cc }
+blameless : {X within : Type 0} → X → BlamesDisk Device within further (no_faults []) (no_faults [])
+blameless x = record { failed = λ h. cc; same = λ h. refl; calm = λ due fits h. cc; spent = λ once fits h. cc }
 
-still : {X within : Type 0} → X → BlamesDisk Device within further (no_faults disk_without) (no_faults disk_without)
-still {within = within} x = blameless within disk_without disk_without
-
-stores : {X within : Type 0} → X → BlamesDisk Device within further (no_faults disk_without) (no_faults disk_with)
-stores {within = within} x = blameless within disk_without disk_with
+-- one more call, that leaves its station so
+abbrev then : {State Call Kept : Type 0} → (State → Call → Kept → State) → State → List (own.Moment State Call) → Call → List Message → Kept → List (own.Moment State Call)
+then after_call k ms call out l = record { call = call; out = out; after = after_call (own.last_of k ms) call l } ∷ ms
 
 is_message : (d : DeskId) → IsMessage (Message.Vote (vote_of d the_vote))
 is_message d = ((omega arith, omega arith), tt)
@@ -114,17 +106,13 @@ b_sealed seal = λ v says. (sealed seal b_bytes, refl, refl, λ m long same. (1,
 -- ---- desk A
 
 module _ (s : Sheet) where
-  abbrev pens : own.Moment (desks.DeskProcess (List ℕ)) desks.DeskCall
-  pens = record {
-    call = desks.Typed (codes "void") (Penned (Write Void) Settled.Pending);
-    out = a_says ∷ [];
-    after = desks.after_call (fresh (new_desk A)) (desks.Typed (codes "void") (Penned (Write Void) Settled.Pending)) a_penned;
-  }
+  abbrev calls_of_a : List (own.Moment (desks.DeskProcess (List ℕ)) desks.DeskCall)
+  calls_of_a = then desks.after_call (fresh (new_desk A)) [] (desks.Typed (codes "void") (Penned (Write Void) Settled.Pending)) (a_says ∷ []) a_penned
 
   abbrev life_of_a : List (Stage (List ℕ))
   life_of_a =
       CallsMade s a_again [] ∷ Beginning (Opened a_again) ∷ Beginning (NotOpened OpenRefusal.DeviceFailed disk_with) ∷ ProcessEnd disk_with
-      ∷ CallsMade s (new_desk A) (pens ∷ []) ∷ []
+      ∷ CallsMade s (new_desk A) calls_of_a ∷ []
 
   no_word : IsNoWord (codes "void")
   unfolding is_end word_of
@@ -134,127 +122,88 @@ module _ (s : Sheet) where
   says = (no_word, inl (codes "void", refl, (tt, full_lines_stand s [] (Write Void) tt)))
 
   a_pens : desks.DeskStep s (view A) 7 1 (new_desk A) (desks.Typed (codes "void") (Penned (Write Void) Settled.Pending)) (a_says ∷ []) a_penned
-  a_pens = (says, (((refl, refl), ((omega arith, omega arith), omega arith), taken 1), ((refl, refl), refl, refl, refl, holds_one A), refl))
+  a_pens = (says, (((refl, refl), ((omega arith, omega arith), omega arith), taken 1), ((refl, refl), refl, refl, refl, holds A disk_with (the_vote ∷ []) (one_read A)), refl))
 
-  a_runs : RunsFrom s (view A) no_faults 7 1 (new_desk A) (pens ∷ [])
-  a_runs = ((λ n. n), 0, (tt, vote_out A, (refl, a_pens, stores, refl, tt, tt)))
+  a_runs : RunsFrom s (view A) no_faults 7 1 (new_desk A) calls_of_a
+  a_runs = ((λ n. n), 0, (tt, vote_out A, (refl, a_pens, blameless, refl, tt, tt)))
 
   abbrev LivesAsA : List (Stage (List ℕ)) → Type 0
   LivesAsA = IsLife (λ version. file_view (toy version) (λ disk. disk) only A 7) (λ disk. disk) no_faults A 7 1 (node (start New 1 (new_desk A) (new_desk B)) A)
 
-  a_not_opened : LivesAsA (Beginning (NotOpened OpenRefusal.DeviceFailed disk_with) ∷ ProcessEnd disk_with ∷ CallsMade s (new_desk A) (pens ∷ []) ∷ [])
-  a_not_opened = (((tt, (refl, a_runs)), (a_penned, refl, stays A disk_with)), (the_vote ∷ [], disk_with, refl, ((λ none. tt), (λ some. inl (stays A disk_with)))))
+  a_not_opened : LivesAsA (Beginning (NotOpened OpenRefusal.DeviceFailed disk_with) ∷ ProcessEnd disk_with ∷ CallsMade s (new_desk A) calls_of_a ∷ [])
+  a_not_opened = (((tt, (refl, a_runs)), (a_penned, refl, stays_refl (view A) disk_with)), (the_vote ∷ [], disk_with, refl, ((λ none. tt), (λ some. inl (stays_refl (view A) disk_with)))))
 
-  a_opened : LivesAsA (Beginning (Opened a_again) ∷ Beginning (NotOpened OpenRefusal.DeviceFailed disk_with) ∷ ProcessEnd disk_with ∷ CallsMade s (new_desk A) (pens ∷ []) ∷ [])
-  a_opened = (a_not_opened, (the_vote ∷ [], disk_with, refl, ((λ none. absurd (omega (arith, none))), (λ some. (one_read A, (taken 1, tt), holds_one A, refl)))))
+  a_opened : LivesAsA (Beginning (Opened a_again) ∷ Beginning (NotOpened OpenRefusal.DeviceFailed disk_with) ∷ ProcessEnd disk_with ∷ CallsMade s (new_desk A) calls_of_a ∷ [])
+  a_opened = (a_not_opened, (the_vote ∷ [], disk_with, refl, ((λ none. absurd (omega (arith, none))), (λ some. (one_read A, (taken 1, tt), holds A disk_with (the_vote ∷ []) (one_read A), refl)))))
 
   a_lives : LivesAsA life_of_a
   a_lives = (a_opened, (refl, ((λ n. n), 0, tt)))
 
   -- ---- desk B
 
-  abbrev b_knows : desks.DeskProcess (List ℕ)
-  b_knows = desks.after_call (fresh (new_desk B)) (desks.Given a_bytes (Heard hearing.Heard.Noted)) b_noted
+  abbrev b_reminded : List (own.Moment (desks.DeskProcess (List ℕ)) desks.DeskCall)
+  b_reminded =
+      let noted = then desks.after_call (fresh (new_desk B)) [] (desks.Given a_bytes (Heard hearing.Heard.Noted)) [] b_noted in
+      then desks.after_call (fresh (new_desk B)) noted (desks.Reminded HasWritten) [] b_noted
 
-  abbrev b_reminded : desks.DeskProcess (List ℕ)
-  b_reminded = desks.after_call b_knows (desks.Reminded HasWritten) b_noted
-
-  abbrev notes : own.Moment (desks.DeskProcess (List ℕ)) desks.DeskCall
-  notes = record { call = desks.Given a_bytes (Heard hearing.Heard.Noted); out = []; after = b_knows }
-
-  abbrev reminds : own.Moment (desks.DeskProcess (List ℕ)) desks.DeskCall
-  reminds = record { call = desks.Reminded HasWritten; out = []; after = b_reminded }
-
-  abbrev pens_too : own.Moment (desks.DeskProcess (List ℕ)) desks.DeskCall
-  pens_too = record {
-    call = desks.Typed (codes "void") (Penned (Write Void) Settled.Agreed);
-    out = b_says ∷ [];
-    after = desks.after_call b_reminded (desks.Typed (codes "void") (Penned (Write Void) Settled.Agreed)) b_penned;
-  }
+  abbrev calls_of_b : List (own.Moment (desks.DeskProcess (List ℕ)) desks.DeskCall)
+  calls_of_b = then desks.after_call (fresh (new_desk B)) b_reminded (desks.Typed (codes "void") (Penned (Write Void) Settled.Agreed)) (b_says ∷ []) b_penned
 
   b_notes : desks.DeskStep s (view B) 7 1 (new_desk B) (desks.Given a_bytes (Heard hearing.Heard.Noted)) [] b_noted
-  b_notes = (a_says, (is_message A, refl), (refl, (((λ e. cc), refl), refl, refl, refl), stays B disk_without, refl, refl))
+  b_notes = (a_says, (is_message A, refl), (refl, (((λ e. cc), refl), refl, refl, refl), stays_refl (view B) disk_without, refl, refl))
 
   b_pens : desks.DeskStep s (view B) 7 1 b_noted (desks.Typed (codes "void") (Penned (Write Void) Settled.Agreed)) (b_says ∷ []) b_penned
-  b_pens = (says, (((refl, refl), ((omega arith, omega arith), omega arith), taken 1), ((refl, refl), refl, refl, refl, holds_one B), refl))
+  b_pens = (says, (((refl, refl), ((omega arith, omega arith), omega arith), taken 1), ((refl, refl), refl, refl, refl, holds B disk_with (the_vote ∷ []) (one_read B)), refl))
 
-  abbrev kind_of_b : own.Kind (desks.DeskProcess (List ℕ)) desks.DeskCall
-  kind_of_b = desks.desk_kind s (view B) (record { faults = no_faults; FitsLongest = desks.FitsLongest (λ n. n) 0 }) 7 1
-
-  b_is_told : own.Run kind_of_b (fresh (new_desk B)) (reminds ∷ notes ∷ [])
-  b_is_told = ((tt, none_out, (refl, b_notes, still, refl, tt, tt)), none_out, (refl, (refl, refl), still, refl, (refl, refl, refl), tt))
-
-  b_runs : RunsFrom s (view B) no_faults 7 1 (new_desk B) (pens_too ∷ reminds ∷ notes ∷ [])
-  b_runs = ((λ n. n), 0, (b_is_told, vote_out B, (refl, b_pens, stores, refl, tt, tt)))
-
-  abbrev life_at : DeskId → List (Stage (List ℕ))
-  life_at A = life_of_a
-  life_at B = CallsMade s (new_desk B) (pens_too ∷ reminds ∷ notes ∷ []) ∷ []
+  b_runs : RunsFrom s (view B) no_faults 7 1 (new_desk B) calls_of_b
+  b_runs = (
+    (λ n. n),
+    0,
+    (
+      ((tt, none_out, (refl, b_notes, blameless, refl, tt, tt)), none_out, (refl, (refl, refl), blameless, refl, (refl, refl, refl), tt)),
+      vote_out B,
+      (refl, b_pens, blameless, refl, tt, tt),
+    ),
+  )
 
   desk_lives : (d : DeskId) → (life : List (Stage (List ℕ)))
       × IsLife (λ version. file_view (toy version) (λ disk. disk) only d 7) (λ disk. disk) no_faults d 7 1 (node (start New 1 (new_desk A) (new_desk B)) d) life
       × (filter (is_at_desk d) (lived s) ≡ life_happens 1 d life)
   unfolding history_of clean clean_items_of digits
   desk_lives A = (life_of_a, a_lives, refl)
-  desk_lives B = (life_at B, (tt, (refl, b_runs)), refl)
+  desk_lives B = (CallsMade s (new_desk B) calls_of_b ∷ [], (tt, (refl, b_runs)), refl)
 
   -- ---- the board
 
   abbrev at_first : List Sight
   at_first = sight_of s 1 [] ∷ []
 
-  abbrev after_looked : boards.BoardTurn
-  after_looked = boards.after_call s 1 (fresh_turn [] at_first) (boards.Looked 0) fresh_board
+  abbrev next : List (own.Moment boards.BoardTurn boards.BoardCall) → boards.BoardCall → List Message → BoardState → List (own.Moment boards.BoardTurn boards.BoardCall)
+  next = then (boards.after_call s 1) (fresh_turn [] at_first)
 
-  abbrev after_ticked : boards.BoardTurn
-  after_ticked = boards.after_call s 1 after_looked boards.Ticked fresh_board
+  abbrev asked : List (own.Moment boards.BoardTurn boards.BoardCall)
+  asked = next (next [] (boards.Looked 0) [] fresh_board) boards.Ticked (board_asks ∷ []) fresh_board
 
-  abbrev after_noted : boards.BoardTurn
-  after_noted = boards.after_call s 1 after_ticked (boards.Given a_bytes (Ok (Heard hearing.Heard.Noted))) board_noted
+  abbrev heard : List (own.Moment boards.BoardTurn boards.BoardCall)
+  heard =
+      next (next asked (boards.Given a_bytes (Ok (Heard hearing.Heard.Noted))) [] board_noted)
+      (boards.Given b_bytes (Ok (Heard hearing.Heard.Agreed))) [] board_agreed
 
-  abbrev after_agreed : boards.BoardTurn
-  after_agreed = boards.after_call s 1 after_noted (boards.Given b_bytes (Ok (Heard hearing.Heard.Agreed))) board_agreed
+  abbrev calls_of_board : List (own.Moment boards.BoardTurn boards.BoardCall)
+  calls_of_board = next heard boards.TurnEnded [] board_agreed
 
-  abbrev looks : own.Moment boards.BoardTurn boards.BoardCall
-  looks = record { call = boards.Looked 0; out = []; after = after_looked }
+  board_asks_it : BoardRuns 7 1 s (fresh_turn [] at_first) asked
+  board_asks_it = ((tt, none_out, (tt, (refl, refl), refl, tt)), ask_out, (tt, (inl ((omega arith, omega arith), refl), refl), refl, refl))
 
-  abbrev asks : own.Moment boards.BoardTurn boards.BoardCall
-  asks = record { call = boards.Ticked; out = board_asks ∷ []; after = after_ticked }
+  board_hears : BoardRuns 7 1 s (fresh_turn [] at_first) heard
+  board_hears = (
+    (board_asks_it, none_out, (omega arith, ((a_says, (is_message A, refl), ((refl, refl, refl, refl), (λ e. cc), refl)), refl), refl, omega arith)),
+    none_out,
+    (omega arith, ((b_says, (is_message B, refl), ((refl, refl, refl, refl), (λ e. taken 1), refl)), refl), refl, omega arith),
+  )
 
-  abbrev hears : own.Moment boards.BoardTurn boards.BoardCall
-  hears = record { call = boards.Given a_bytes (Ok (Heard hearing.Heard.Noted)); out = []; after = after_noted }
-
-  abbrev hears_both : own.Moment boards.BoardTurn boards.BoardCall
-  hears_both = record { call = boards.Given b_bytes (Ok (Heard hearing.Heard.Agreed)); out = []; after = after_agreed }
-
-  abbrev shows : own.Moment boards.BoardTurn boards.BoardCall
-  shows = record {
-    call = boards.TurnEnded;
-    out = [];
-    after = boards.begun board_agreed 1 untold (record { ticked = Some 0; looked = None }) [] (sight_of s 1 [] ∷ sight_of s 1 (Write Void ∷ []) ∷ []);
-  }
-
-  abbrev board_calls : List (own.Moment boards.BoardTurn boards.BoardCall)
-  board_calls = shows ∷ hears_both ∷ hears ∷ asks ∷ looks ∷ []
-
-  abbrev board_life : BoardProcess
-  board_life = record { sheet = s; noted = []; seen = at_first; first = at_first; calls = board_calls }
-
-  board_looks : boards.TurnStep s 7 1 (fresh_turn [] at_first) (boards.Looked 0) [] after_looked
-  board_looks = (tt, (refl, refl), refl, tt)
-
-  board_ticks : boards.TurnStep s 7 1 after_looked boards.Ticked (board_asks ∷ []) after_ticked
-  board_ticks = (tt, (inl ((omega arith, omega arith), refl), refl), refl, refl)
-
-  board_notes : boards.TurnStep s 7 1 after_ticked (boards.Given a_bytes (Ok (Heard hearing.Heard.Noted))) [] after_noted
-  board_notes = (omega arith, ((a_says, (is_message A, refl), ((refl, refl, refl, refl), (λ e. cc), refl)), refl), refl, omega arith)
-
-  board_agrees : boards.TurnStep s 7 1 after_noted (boards.Given b_bytes (Ok (Heard hearing.Heard.Agreed))) [] after_agreed
-  board_agrees = (omega arith, ((b_says, (is_message B, refl), ((refl, refl, refl, refl), (λ e. taken 1), refl)), refl), refl, omega arith)
-
-  board_runs : BoardRuns 7 1 s (fresh_turn [] at_first) board_calls
-  board_runs =
-      (((((tt, none_out, board_looks), ask_out, board_ticks), none_out, board_notes), none_out, board_agrees), none_out, (tt, (refl, refl), refl, (refl, omega arith)))
+  board_runs : BoardRuns 7 1 s (fresh_turn [] at_first) calls_of_board
+  board_runs = (board_hears, none_out, (tt, (refl, refl), refl, (refl, omega arith)))
 
   elsewhere : (n : ℕ) → filter (is_at_board (suc (suc n))) (lived s) ≡ []
   elsewhere n = rw (ne_eqb (suc (suc n)) 1 (λ e. omega (arith, e))) refl
@@ -262,7 +211,8 @@ module _ (s : Sheet) where
   board_lives : (n : ℕ) → (life : List BoardProcess) × IsBoardLife 7 1 life × (filter (is_at_board n) (lived s) ≡ board_happens 1 n life)
   unfolding history_of clean clean_items_of target outcome is_decided side_total begun_by total penalty_runs
   board_lives zero = ([], tt, refl)
-  board_lives (suc zero) = (board_life ∷ [], (tt, (inl refl, board_runs)), refl)
+  board_lives (suc zero) =
+      (record { sheet = s; noted = []; seen = at_first; first = at_first; calls = calls_of_board } ∷ [], (tt, (inl refl, board_runs)), refl)
   board_lives (suc (suc n)) = ([], tt, elsewhere n)
 
   no_others : (n : ℕ) → board_at (fresh_boards 1) n ≡ None → filter (is_at_board n) (lived s) ≡ []
@@ -275,7 +225,7 @@ unfolding file_votes votes_after
 none_shown version d = refl
 
 begins_first : (d : DeskId) → BeginsFirst (view d) (λ disk. disk) 1 d (new_desk d)
-begins_first d = (disk_without, ((λ none. absurd (omega (arith, none))), (λ some. (none_read d, tt, holds_none d, refl))), refl)
+begins_first d = (disk_without, ((λ none. absurd (omega (arith, none))), (λ some. (none_read d, tt, holds d disk_without [] (none_read d), refl))), refl)
 
 woven : (s : Sheet) (seal : List ℕ) → IsWoven (λ disk. disk) only no_faults seal toy 7 1 (start New 1 (new_desk A) (new_desk B)) (lived s)
 woven s seal = record {

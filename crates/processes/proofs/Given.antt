@@ -1,0 +1,45 @@
+-- By which number a message that came is given: one that it was sent as, if it was.
+use Rattle.std.proofs.Common.{arith, ◌≡◌, ◌≢◌, ◌⊎◌, ℕ, zero, suc, Some, List, [], ◌∷◌, sym, ap, ◌∙◌, inl, inr}
+use Rattle.std.specs.Prelude.{slice_get}
+use Rattle.agree_core.specs.declared.messages.{Ask.Ask, Asker.Asker, Message.Message}
+use Rattle.headline.specs.Given.{IsGiven}
+use Rattle.progress.proofs.BoardTrips.{same_or_other}
+use Rattle.processes.specs.Progress.{IsGivenAsSent}
+
+same_asker : (a b : Asker) → (a ≡ b) ⊎ (a ≢ b)
+same_asker a b = grind arith
+
+same_ask : (m : Message) (q : Ask) → (m ≡ Message.Ask q) ⊎ (m ≢ Message.Ask q)
+same_ask (Message.Vote v) q = inr (λ e. cc)
+same_ask (Message.Ask p) q = turn (same_asker p.from q.from) (same_or_other p.place q.place) (same_or_other p.round q.round)
+  where
+    turn : (p.from ≡ q.from) ⊎ (p.from ≢ q.from) → (p.place ≡ q.place) ⊎ (p.place ≢ q.place) → (p.round ≡ q.round) ⊎ (p.round ≢ q.round)
+        → (Message.Ask p ≡ Message.Ask q) ⊎ (Message.Ask p ≢ Message.Ask q)
+    turn (inl a) (inl b) (inl c) = inl (λ i. Message.Ask (record { from = a i; place = b i; round = c i }))
+    turn (inr n) _ _ = inr (λ e. n (cc))
+    turn (inl a) (inr n) _ = inr (λ e. n (cc))
+    turn (inl a) (inl b) (inr n) = inr (λ e. n (cc))
+
+abbrev WasSent : List Message → Ask → Type 0
+WasSent sent q = (n : ℕ) × (slice_get sent n ≡ Some (Message.Ask q))
+
+sent_or_not : (sent : List Message) (q : Ask) → WasSent sent q ⊎ (WasSent sent q → ⊥)
+sent_or_not [] q = inr (λ h. absurd (cc (h.1)))
+sent_or_not (m ∷ ms) q = elim (same_ask m q) [
+  | inl e ↦ inl (0, ap Some e)
+  | inr d ↦ elim (sent_or_not ms q) [
+    | inl h ↦ inl (suc h.0, h.1)
+    | inr none ↦ inr (never d none)
+  ]
+]
+  where
+    never : (m ≢ Message.Ask q) → (WasSent ms q → ⊥) → WasSent (m ∷ ms) q → ⊥
+    never d none (zero, e) = d (cc)
+    never d none (suc n, e) = none (n, e)
+
+pub as_sent : (sent : List Message) (m : Message) → (i : ℕ) × IsGiven sent i m → (n : ℕ) × IsGivenAsSent sent n m
+as_sent sent m (i, inl e) = (i, (inl e, λ j h. e))
+as_sent sent m (i, inr (free, ask)) = elim (sent_or_not sent ask.0) [
+  | inl h ↦ let e : slice_get sent h.0 ≡ Some m = h.1 ∙ ap Some (sym ask.1) in (h.0, (inl e, λ j k. e))
+  | inr none ↦ (i, (inr (free, ask), λ j k. absurd (none (j, k ∙ ap Some ask.1))))
+]
