@@ -1,5 +1,5 @@
 -- A moment of a board's process is an event.
-use Rattle.std.proofs.Common.{arith, ◌≡◌, ℕ, zero, suc, Some, List, [], ◌∷◌, ◌++◌, length, refl, sym, ap, ◌∙◌, append-nil, Ok, Err}
+use Rattle.std.proofs.Common.{arith, ◌≡◌, ℕ, suc, Some, List, [], ◌∷◌, ◌++◌, length, refl, ap, append-nil, Ok, Err}
 use Rattle.std.specs.Prelude.{slice_get, slice_set}
 use Rattle.corrections.specs.Refusal.{book_refusal}
 use Rattle.corrections.specs.declared.refusal.Refusal.{Refusal}
@@ -22,9 +22,8 @@ use Rattle.processes.proofs.Given.{as_sent}
 use Rattle.processes.proofs.Going.{Leads, none, one}
 
 same_item : (xs : List BoardState) (n : ℕ) (x : BoardState) → slice_get xs n ≡ Some x → slice_set xs n x ≡ xs
-same_item [] n x e = refl
-same_item (y ∷ xs) zero x e = let q : x ≡ y = cc in ap (λ (z : BoardState). z ∷ xs) q
 same_item (y ∷ xs) (suc n) x e = ap (λ (zs : List BoardState). y ∷ zs) (same_item xs n x e)
+same_item xs n x e = grind arith
 
 pub same_board : (xs : List BoardState) (n : ℕ) (x : BoardState) → board_at xs n ≡ Some x → with_board xs n x ≡ xs
 same_board xs n x h0 = grind (arith, same_item)
@@ -52,8 +51,7 @@ module _
     unmoved : l ≡ k → out ≡ [] → (IsQuiet what → Plays game v what []) → Leads s game what v v (with_it v n l out)
     unmoved same empty plays =
         none s game what v (with_it v n l out)
-        (sym ((λ i. record v { boards = with_board v.boards n (same i); sent = v.sent ++ empty i }) ∙ (λ i. record v { boards = same_board v.boards n k at i; sent = append-nil v.sent i })))
-        plays
+        (grind (arith, same_board, append-nil)) plays
 
     pub board_moment : (call : BoardCall) → PlayedBy call → BoardCame game v.sent call → BoardStep game innings k call out l → Leads s game what v v (with_it v n l out)
     board_moment (boards.Given bytes (Ok (Bad fault))) plays came h = unmoved h.0.1 h.1 (λ q. plays q [] refl)

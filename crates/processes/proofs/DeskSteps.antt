@@ -1,11 +1,10 @@
 -- A moment of a desk's process is no event, one, or a fault that falls due and one.
-use Rattle.std.proofs.Common.{arith, Err, ◌≡◌, ℕ, Option, Some, None, List, [], ◌++◌, length, refl, sym, ap, ◌∙◌, subst, append-nil}
+use Rattle.std.proofs.Common.{arith, Err, ◌≡◌, ℕ, Option, Some, None, List, [], length, refl, sym, ap, ◌∙◌, subst, append-nil}
 use Rattle.corrections.specs.Refusal.{book_refusal}
 use Rattle.cards.specs.Sheet.{Sheet}
 use Rattle.corrections.specs.declared.refusal.Refusal.{Refusal}
 use Rattle.notation.specs.declared.entry.Entry.{Entry}
 use Rattle.agree_core.specs.declared.messages.{DeskId.DeskId, Message.Message}
-use Rattle.agree_core.specs.declared.messages.DeskId.TheVariants.{A, B}
 use Rattle.agree_core.specs.Desks.{DeskState, PenAnswer, Pens, ReceiveAnswer}
 use Rattle.agree_core.specs.FileView.{FileView, Stays}
 use Rattle.wire.specs.declared.what.What.{What}
@@ -31,8 +30,7 @@ use Rattle.processes.proofs.Going.{Fits, IsPlayed, Leads, none, one, two}
 
 module _ {Disk : Type 0} where
   pub unmoved : (v : Configuration Disk) (d : DeskId) → with_node v d (node v d) [] ≡ v
-  unmoved v A = λ i. record { a = v.a; b = v.b; boards = v.boards; sent = append-nil v.sent i }
-  unmoved v B = λ i. record { a = v.a; b = v.b; boards = v.boards; sent = append-nil v.sent i }
+  unmoved v d = grind (arith, append-nil)
 
   pub node_put : (v : Configuration Disk) (d : DeskId) (x : Node Disk) (out : List Message) → node (with_node v d x out) d ≡ x
   node_put v d x out = grind arith
@@ -41,8 +39,7 @@ module _ {Disk : Type 0} where
   sent_put v d x = grind (arith, append-nil)
 
   put_again : (v : Configuration Disk) (d : DeskId) (x y : Node Disk) (out : List Message) → with_node (with_node v d x []) d y out ≡ with_node v d y out
-  put_again v A x y out = λ i. record { a = y; b = v.b; boards = v.boards; sent = append-nil v.sent i ++ out }
-  put_again v B x y out = λ i. record { a = v.a; b = y; boards = v.boards; sent = append-nil v.sent i ++ out }
+  put_again v d x y out = grind (arith, append-nil)
 
   abbrev pub runs_on : Node Disk → DeskState Disk → Option Fault → Node Disk
   runs_on x l due = record { version = x.version; process = Running l; due = due }
@@ -66,8 +63,7 @@ module _ {Disk : Type 0} (s : Setting Disk Refusal) (game : ℕ) (v : Configurat
       → Reaches (runs_on (node v d) l (node v d).due) out
   nothing k l out at same empty plays =
       none s game what v (with_node v d (runs_on (node v d) l (node v d).due) out)
-      (sym ((λ i. with_node v d (runs_on (node v d) (same i) (node v d).due) (empty i)) ∙ (ap (λ (y : Node Disk). with_node v d y []) (itself (node v d) k at) ∙ unmoved v d)))
-      plays
+      (grind (arith, itself, unmoved)) plays
 
   module _ (loud : IsQuiet what → ⊥) where
     -- a fault falls due, and then this happens

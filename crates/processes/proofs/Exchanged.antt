@@ -1,9 +1,8 @@
 -- Where processes have an exchange, so have the stations in a run that plays what happens to them.
-use Rattle.std.proofs.Common.{arith, ◌≡◌, ◌≤◌, ℕ, zero, suc, Ok, Some, List, [], ◌∷◌, ◌++◌, length, refl, sym, ap, ◌∙◌, subst, inl, inr, append-nil, append_assoc}
+use Rattle.std.proofs.Common.{arith, ◌≡◌, ◌≤◌, ℕ, zero, suc, Some, List, [], ◌∷◌, ◌++◌, length, refl, sym, ap, ◌∙◌, subst, inl, inr, append-nil, append_assoc}
 use Rattle.std.specs.Prelude.{slice_get}
 use Rattle.corrections.specs.declared.refusal.Refusal.{Refusal}
 use Rattle.agree_core.specs.declared.messages.{DeskId.DeskId, Message.Message}
-use Rattle.wire.specs.declared.what.What.{What}
 use Rattle.wire.specs.Layout.{Says}
 use Rattle.wire.proofs.MessageLemmas.{says_once}
 use Rattle.headline.specs.declared.event.Station.{Station}
@@ -12,16 +11,13 @@ use Rattle.headline.specs.Runs.{Moment, last_of}
 use Rattle.progress.specs.Exchange.{Amid, ComesTo, Exchange, HandsOut, HasExchanges, IsAnswered, Reaches}
 use Rattle.progress.proofs.CalmRuns.{get_append, last_split}
 use Rattle.progress.proofs.Possible.{given_more}
-use Rattle.live.specs.Boards as boards
-use Rattle.live.specs.Desks as desks
 use Rattle.processes.specs.Exchanges.{HaveExchanged, IsReplied, IsSaid, IsTaken, ProcessExchange, Takes, Ticks, handed_out}
-use Rattle.processes.specs.Happenings.{BoardCalled, DeskCalled, Happening, after, after_one}
+use Rattle.processes.specs.Happenings.{Happening, after, after_one}
 use Rattle.processes.specs.Progress.{ArePlayed, GivesAt, IsOne, Plays, TicksAt}
 
 get_beyond : {X : Type 0} → (xs ys : List X) (n : ℕ) (x : X) → length xs ≤ n → slice_get (xs ++ ys) n ≡ Some x → (i : ℕ) × (slice_get ys i ≡ Some x)
-get_beyond [] ys n x low e = (n, e)
-get_beyond (z ∷ zs) ys zero x low e = absurd (omega (arith, low))
 get_beyond (z ∷ zs) ys (suc n) x low e = get_beyond zs ys n x (omega (arith, low)) e
+get_beyond xs ys n x low e = grind arith
 
 module _ {Disk : Type 0} where
   one_of : (P : Moment Disk Refusal → Type 0) (ms : List (Moment Disk Refusal)) → IsOne P ms → (m : Moment Disk Refusal) × (ms ≡ m ∷ []) × P m
@@ -57,22 +53,13 @@ module _ {Disk : Type 0} where
 module _ {Disk : Type 0} (game : ℕ) where
   -- a process that ticks or takes a message, in a run
   ticked : (v : Configuration Disk) (t : Station) (what : Happening Disk) (ms : List (Moment Disk Refusal)) → Ticks t what → Plays game v what ms → IsOne (TicksAt t) ms
-  ticked v (Station.Desk d) (DeskCalled c s desks.Ticked out l text) ms e p = subst (λ (z : DeskId). IsOne (TicksAt (Station.Desk z)) ms) e p
-  ticked v (Station.Board n) (BoardCalled k s boards.Ticked out l text seen) ms e p = subst (λ (z : ℕ). IsOne (TicksAt (Station.Board z)) ms) e p
-  ticked v _ _ ms e p = absurd e
+  ticked v t what ms e p = grind arith
 
   abbrev TakesAt : Configuration Disk → Station → Message → List (Moment Disk Refusal) → Type 0
   TakesAt v t message ms = (bytes : List ℕ) × Says game bytes message × IsOne (GivesAt game v t bytes) ms
 
   taken : (v : Configuration Disk) (t : Station) (message : Message) (what : Happening Disk) (ms : List (Moment Disk Refusal)) → Takes game t message what → Plays game v what ms
       → TakesAt v t message ms
-  taken v (Station.Desk d) message (DeskCalled c s (desks.Given bytes (What.Heard x)) out l text) ms e p =
-      (bytes, e.1, subst (λ (z : DeskId). IsOne (GivesAt game v (Station.Desk z) bytes) ms) e.0 p)
-  taken v (Station.Desk d) message (DeskCalled c s (desks.Given bytes What.Asked) out l text) ms e p =
-      (bytes, e.1, subst (λ (z : DeskId). IsOne (GivesAt game v (Station.Desk z) bytes) ms) e.0 p)
-  taken v (Station.Board n) message (BoardCalled k s (boards.Given bytes (Ok (What.Bad fault))) out l text seen) ms e p = absurd e.1
-  taken v (Station.Board n) message (BoardCalled k s (boards.Given bytes answer) out l text seen) ms e p =
-      (bytes, e.1, subst (λ (z : ℕ). IsOne (GivesAt game v (Station.Board z) bytes) ms) e.0 p)
   taken v t message what ms e p = grind arith
 
   gives : (v : Configuration Disk) (m : Moment Disk Refusal) (t : Station) (message : Message) (bytes : List ℕ) → Says game bytes message → WasSent v message

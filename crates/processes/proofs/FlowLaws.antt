@@ -46,8 +46,7 @@ module _ {Disk : Type 0} where
 
   typed_entry : (w : Configuration Disk) (hs : List (Happening Disk)) (d : DeskId) (b : Ballot) → WasTyped w hs d b → IsEntry b.entry
   typed_entry w [] d b h = absurd h
-  typed_entry w (c ∷ cs) d b (inl h) = typed_here (after w cs) c d b h
-  typed_entry w (c ∷ cs) d b (inr h) = typed_entry w cs d b h
+  typed_entry w (c ∷ cs) d b h = grind (arith, typed_here, (typed_entry w cs d b))
 
 module _ {Disk : Type 0} (seen : Disk → List ℕ) (images : Disk → Images) (contents : FileVersion → FileContents) (game innings : ℕ) where
   abbrev s : Setting Disk Refusal

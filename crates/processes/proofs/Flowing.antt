@@ -97,8 +97,7 @@ module _ {Disk : Type 0} (s : Setting Disk Refusal) (game innings : ℕ) (rules 
 
 module _ {Disk : Type 0} where
   at_last : (P : Configuration Disk → Type 0) (w : Configuration Disk) (ms : List (Moment Disk Refusal)) → P (last_of w ms) → AtSomeMoment w ms P
-  at_last P w [] h = h
-  at_last P w (m ∷ ms) h = inl h
+  at_last P w ms h = grind arith
 
   before : (P : Configuration Disk → Type 0) (w : Configuration Disk) (more rest : List (Moment Disk Refusal)) → AtSomeMoment w rest P → AtSomeMoment w (more ++ rest) P
   before P w [] rest h = h

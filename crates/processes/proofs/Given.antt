@@ -10,15 +10,7 @@ same_asker : (a b : Asker) → (a ≡ b) ⊎ (a ≢ b)
 same_asker a b = grind arith
 
 same_ask : (m : Message) (q : Ask) → (m ≡ Message.Ask q) ⊎ (m ≢ Message.Ask q)
-same_ask (Message.Vote v) q = inr (λ e. cc)
-same_ask (Message.Ask p) q = turn (same_asker p.from q.from) (same_or_other p.place q.place) (same_or_other p.round q.round)
-  where
-    turn : (p.from ≡ q.from) ⊎ (p.from ≢ q.from) → (p.place ≡ q.place) ⊎ (p.place ≢ q.place) → (p.round ≡ q.round) ⊎ (p.round ≢ q.round)
-        → (Message.Ask p ≡ Message.Ask q) ⊎ (Message.Ask p ≢ Message.Ask q)
-    turn (inl a) (inl b) (inl c) = inl (λ i. Message.Ask (record { from = a i; place = b i; round = c i }))
-    turn (inr n) _ _ = inr (λ e. n (cc))
-    turn (inl a) (inr n) _ = inr (λ e. n (cc))
-    turn (inl a) (inl b) (inr n) = inr (λ e. n (cc))
+same_ask m q = grind (arith, same_asker, same_or_other)
 
 abbrev WasSent : List Message → Ask → Type 0
 WasSent sent q = (n : ℕ) × (slice_get sent n ≡ Some (Message.Ask q))

@@ -1,5 +1,5 @@
 -- What happens at one station, step by step.
-use Rattle.std.proofs.Common.{◌≡◌, Bool, true, false, List, [], ◌∷◌, ◌++◌, cond, refl, ap, ◌∙◌, subst, sym}
+use Rattle.std.proofs.Common.{arith, ◌≡◌, Bool, true, List, [], ◌∷◌, ◌++◌, cond, refl, ap, ◌∙◌, subst, sym}
 
 -- these, with one more before them where a test is so
 abbrev pub with_one : {X : Type 0} → Bool → X → List X → List X
@@ -12,8 +12,7 @@ module _ {State What : Type 0} (next : State → What → State) where
 
   -- a station that is as what happened there leaves it
   pub nexts-one : (q : Bool) (s t u : State) (x : What) (xs : List What) → t ≡ nexts s xs → u ≡ cond q (next t x) t → u ≡ nexts s (with_one q x xs)
-  nexts-one true s t u x xs e f = f ∙ ap (λ (z : State). next z x) e
-  nexts-one false s t u x xs e f = f ∙ e
+  nexts-one q s t u x xs e f = grind arith
 
 module _ {State What : Type 0} (next : State → What → State) (May : State → What → Type 0) where
   abbrev pub Local : State → List What → Type 0
@@ -21,8 +20,7 @@ module _ {State What : Type 0} (next : State → What → State) (May : State �
   Local s (h ∷ hs) = Local s hs × May (nexts next s hs) h
 
   pub local-one : (q : Bool) (s : State) (x : What) (xs : List What) → Local s (with_one q x xs) → Local s xs × (q ≡ true → May (nexts next s xs) x)
-  local-one true s x xs h = (h.0, λ e. h.1)
-  local-one false s x xs h = (h, λ e. absurd (cc))
+  local-one q s x xs h = grind arith
 
   -- so from one state to another
   abbrev pub Goes : State → List What → State → Type 0

@@ -1,5 +1,5 @@
 -- What processes print is of their books, and what the public sees of books that both scorers wrote.
-use Rattle.std.proofs.Common.{◌≡◌, ◌≤◌, ◌⊎◌, ℕ, Some, List, [], refl, inl, inr}
+use Rattle.std.proofs.Common.{arith, ◌≡◌, ◌≤◌, ◌⊎◌, ℕ, Some, List, [], refl, inl}
 use Rattle.std.specs.Prelude.{All}
 use Rattle.std.proofs.lemmas.List.Elements.{All-cons, All-nil}
 use Rattle.notation.specs.declared.entry.Entry.{Entry}
@@ -15,7 +15,7 @@ use Rattle.headline.specs.Headline.{AllHaveScores, ByBoth}
 use Rattle.headline.proofs.Heeding.{board_put}
 use Rattle.live.specs.Boards as boards
 use Rattle.live.specs.Boards.{BoardCall}
-use Rattle.live.specs.Sights.{Sight, sight_of}
+use Rattle.live.specs.Sights.{Sight}
 use Rattle.processes.specs.Happenings.{BoardCalled, BoardGreeted, DeskCalled, DeskGreeted, Happening, Happens, after_one}
 use Rattle.processes.specs.Headline.{PrintsItsBook}
 use Rattle.processes.specs.Printing.{Hands, HandsBook, Prints}
@@ -34,13 +34,10 @@ module _ {Disk : Type 0} (innings : ℕ) (v : Configuration Disk) where
 
   module _ (s : Sheet) (book : List Entry) (by : IsOfBoth innings v book) where
     prints_it : (text : List ℕ) → (text ≡ board_text s innings (history_of book)) ⊎ (text ≡ []) → PrintsOfBoth innings v s text
-    prints_it text (inl is) = inr (book, by, is)
-    prints_it text (inr none) = inl none
+    prints_it text h = grind arith
 
     hands_it : (seen : List Sight) → HandsBook s innings book seen → All (IsSightOfBoth innings v s) seen
-    hands_it seen (inl is) =
-        rw is (All-cons (IsSightOfBoth innings v s) (sight_of s innings book) [] (refl, refl, by) (All-nil (IsSightOfBoth innings v s)))
-    hands_it seen (inr none) = rw none (All-nil (IsSightOfBoth innings v s))
+    hands_it seen h = grind (arith, All-cons, All-nil)
 
   called : (s : Sheet) (call : BoardCall) (l : BoardState) (text : List ℕ) (seen : List Sight) → Prints s innings call l text → Hands s innings call l seen
       → IsOfBoth innings v l.book → ShowsOfBoth innings v s text seen

@@ -1,5 +1,5 @@
 -- What brings a second vote is an event that does, so the station takes their entry.
-use Rattle.std.proofs.Common.{◌≡◌, ℕ, List, [], ◌∷◌, ◌++◌, Some, refl, sym, ap, ◌∙◌, subst, inl, inr}
+use Rattle.std.proofs.Common.{arith, ◌≡◌, ℕ, List, [], ◌∷◌, ◌++◌, Some, refl, sym, ap, ◌∙◌, subst, inl, inr}
 use Rattle.std.specs.Prelude.{slice_get}
 use Rattle.notation.specs.declared.entry.Entry.{Entry}
 use Rattle.corrections.specs.Refusal.{book_refusal}
@@ -89,9 +89,7 @@ module _
             by_event (Event.Give found.0 (Station.Board number)) (answers.Told there.0) (with_it v number l out)
             (h.0, l, out, h.1, (got.0, BoardAnswer.Told there.0, found.1, rw rules got.2, refl, step.1), refl) tt
             (came (λ q. absurd (cc)) found.0 brought.0 (sent_vote bytes got.0 got.1 there.2 found.0 found.1))
-        takes (DeskCalled d sheet call out l text) h brought = absurd brought.1
-        takes (BoardCalled number sheet call out l text seen) h brought = absurd brought.1
-        takes _ h brought = absurd brought
+        takes what h brought = grind arith
 
     pub takes_second : (hs : List (Happening Disk)) (h : Happening Disk) → Flow s.view game innings w (h ∷ hs) → TakesSecond game (after w hs) h
     takes_second hs h f =

@@ -1,5 +1,5 @@
 -- The laws of woven lives.
-use Rattle.std.proofs.Common.{arith, ◌≡◌, ◌<◌, ℕ, Some, List, [], ◌∷◌, length, refl, sym, subst, inl, inr}
+use Rattle.std.proofs.Common.{arith, ◌≡◌, ◌<◌, ℕ, Some, List, [], ◌∷◌, length, refl, sym, subst}
 use Rattle.std.specs.List.{filter}
 use Rattle.entry_log.specs.Disk.{Faults, Images}
 use Rattle.vote_store.specs.View.{file_view, votes_shown}
@@ -7,8 +7,8 @@ use Rattle.agree_core.specs.declared.messages.DeskId.{DeskId}
 use Rattle.agree_core.specs.declared.messages.DeskId.TheVariants.{A, B}
 use Rattle.agree_core.specs.Ballots.{Ballot}
 use Rattle.agree_core.specs.Desks.{DeskState}
-use Rattle.agree_core.specs.FileView.{FileView, Holds}
-use Rattle.agree_core.specs.Openings.{Creates, opened}
+use Rattle.agree_core.specs.FileView.{FileView}
+use Rattle.agree_core.specs.Openings.{Creates}
 use Rattle.headline.specs.declared.version.FileVersion.{FileVersion}
 use Rattle.headline.specs.Configurations.{board_at, node, process_disk}
 use Rattle.headline.specs.Match.{setting_of}
@@ -26,10 +26,7 @@ use Rattle.processes.proofs.Weaving.{AllMay, weaves}
 
 -- a desk that begins first is as one that was created
 first : {Disk : Type 0} (view : FileView Disk) (seen : Disk → List ℕ) (innings : ℕ) (d : DeskId) (k : DeskState Disk) → BeginsFirst view seen innings d k → Creates view d k
-first view seen innings d k h = elim (same_or_other (length (seen h.0)) 0) [
-  | inl none ↦ h.1.0 none
-  | inr some ↦ let o = h.1.1 (omega (arith, some)) in subst (λ (votes : List Ballot). (k ≡ opened d k.disk votes) × Holds view k.disk votes) h.2 (o.3, o.2)
-]
+first view seen innings d k h = grind (arith, same_or_other)
 
 module _ {Disk : Type 0} (seen : Disk → List ℕ) (images : Disk → Images) (faults : Disk → Faults) where
   pub woven_lives_flow : WovenLivesFlow seen images faults

@@ -52,10 +52,8 @@ use Rattle.processes.specs.Worked.{LivedIsWoven, a_again, a_bytes, a_penned, a_s
 use Rattle.processes.specs.Worked.{board_agreed, board_asks, board_noted, disk_with, disk_without, lived, new_desk, no_faults, the_vote, toy}
 
 only_is : (file image : List ℕ) → IsImage (only file) image → image ≡ file
-only_is [] [] h = refl
-only_is [] (x ∷ xs) h = h
-only_is (x ∷ xs) [] h = absurd h
 only_is (x ∷ xs) (y ∷ ys) h = let rest = only_is xs ys h.1 in λ i. h.0 i ∷ rest i
+only_is file image h = grind arith
 
 abbrev view : DeskId → FileView (List ℕ)
 view d = file_view (toy New) (λ disk. disk) only d 7
@@ -66,8 +64,7 @@ none_read d = grind arith
 
 one_read : (d : DeskId) → votes_shown (toy New) d 7 disk_with ≡ Some (the_vote ∷ [])
 unfolding file_votes votes_after
-one_read A = rw (vote_in-record_of the_vote (omega arith, omega arith) tt) refl
-one_read B = rw (vote_in-record_of the_vote (omega arith, omega arith) tt) refl
+one_read d = grind (arith, vote_in-record_of the_vote (omega arith, omega arith) tt)
 
 holds : (d : DeskId) (disk : List ℕ) (votes : List Ballot) → votes_shown (toy New) d 7 disk ≡ Some votes → Holds (view d) disk votes
 holds d disk votes read = (read, λ image h. sym h.2 ∙ ap (votes_shown (toy New) d 7) (only_is disk h.0 h.1) ∙ read)
