@@ -38,17 +38,14 @@ module _ {Disk : Type 0} where
 
   still_sent : (w : Configuration Disk) (hs : List (Happening Disk)) (message : Message) → WasSent w message → WasSent (after w hs) message
   still_sent w [] message h = h
-  still_sent w (x ∷ xs) message h =
-      let k = still_sent w xs message h in
-      (k.0, subst (λ (z : List Message). slice_get z k.0 ≡ Some message) (sym (said (after w xs) x)) (get_append (after w xs).sent (handed_out x) k.0 message k.1))
+  still_sent w (x ∷ xs) message h = let k = still_sent w xs message h in (k.0, grind (arith, said (after w xs) x, get_append, k.1))
 
   -- what a moment hands out is what was said there
   handed : (v w : Configuration Disk) (what : Happening Disk) (m : Moment Disk Refusal) (message : Message) → w ≡ v → m.after ≡ after_one v what → HandsOut w m message
       → IsSaid message what × WasSent (after_one v what) message
   handed v w what m message start end (n, low, get) =
       let there : slice_get (after_one v what).sent n ≡ Some message = rw end at get in
-      let joined : slice_get (v.sent ++ handed_out what) n ≡ Some message = rw (said v what) at there in
-      (get_beyond v.sent (handed_out what) n message (rw start at low) joined, (n, there))
+      (get_beyond v.sent (handed_out what) n message (rw start at low) (rw (said v what) at there), (n, there))
 
 module _ {Disk : Type 0} (game : ℕ) where
   -- a process that ticks or takes a message, in a run

@@ -1,5 +1,5 @@
 -- The laws of flows.
-use Rattle.std.proofs.Common.{arith, ℕ, ◌≤◌, List, [], ◌∷◌, refl, subst, sym, inl, inr}
+use Rattle.std.proofs.Common.{arith, ℕ, ◌≤◌, List, [], ◌∷◌, refl, subst, sym}
 use Rattle.notation.specs.declared.entry.Entry.{Entry}
 use Rattle.notation.specs.Written.{IsEntry}
 use Rattle.cards.specs.Sheet.{Sheet}
@@ -37,8 +37,7 @@ use Rattle.processes.proofs.SecondVotes.{takes_second}
 
 -- a ballot that was typed has its numbers in their ranges
 said_entry : (x : Sheet) (book : List Entry) (votes : List Ballot) (round : ℕ) (line : List ℕ) (e : Entry) → SaysEntry x book votes round line e → IsEntry e
-said_entry x book votes round line e (none, inl h) = h.2.0
-said_entry x book votes round line e (none, inr h) = h.3
+said_entry x book votes round line e h = grind arith
 
 module _ {Disk : Type 0} where
   typed_here : (v : Configuration Disk) (what : Happening Disk) (d : DeskId) (b : Ballot) → TypesBallot v what d b → IsEntry b.entry

@@ -28,8 +28,7 @@ pub processes_go_on : {Disk : Type 0} (seen : Disk → List ℕ) (images : Disk 
 processes_go_on {Disk} seen images contents game innings version boards w earlier later f quiet =
     let s = setting_of contents seen images game innings in
     let v = after w earlier in
-    let before = flow_before w earlier s.view game innings later f.1 in
-    let holds = stands s game innings refl version boards w f.0 earlier before in
+    let holds = stands s game innings refl version boards w f.0 earlier (flow_before w earlier s.view game innings later f.1) in
     let calm = stays_calm s game innings refl w (begins_calm s game innings refl version boards w f.0) earlier in
     let p = flow_runs s game innings refl v calm later (flow_after w earlier s.view game innings later f.1) in
     let now = p.plays quiet in

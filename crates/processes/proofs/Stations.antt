@@ -53,9 +53,7 @@ module _ {Disk : Type 0} (seen : Disk → List ℕ) (images : Disk → Images) (
           → (opening : Opening Disk) × (calls : List (own.Moment (DeskProcess Disk) DeskCall))
           × IsLife view seen faults d sheet.game innings x (process_stages sheet opening calls)
           × ProcessLogs (view x.version) disks sheet innings opening calls before after result
-      lived (Opened k) begins f =
-          let goes = f.3 in
-          (Opened k, goes.moments, ((tt, (votes, disk, down, begins)), (refl, (room, cap, goes.run))), (f.0, f.2, goes.logs))
+      lived (Opened k) begins f = (Opened k, f.3.moments, ((tt, (votes, disk, down, begins)), (refl, (room, cap, f.3.run))), (f.0, f.2, f.3.logs))
       lived (NotOpened cause left) begins f = (NotOpened cause left, [], (tt, (votes, disk, down, begins)), f.3)
 
 module _ {B : Type 0} {g : _} (content : B → List Entry) (innings_of : B → ℕ) where

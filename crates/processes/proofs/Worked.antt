@@ -87,11 +87,8 @@ is_message d = ((omega arith, omega arith), tt)
 none_out : All IsMessage []
 none_out = All-nil IsMessage
 
-vote_out : (d : DeskId) → All IsMessage (Message.Vote (vote_of d the_vote) ∷ [])
-vote_out d = All-cons IsMessage (Message.Vote (vote_of d the_vote)) [] (is_message d) none_out
-
-ask_out : All IsMessage (board_asks ∷ [])
-ask_out = All-cons IsMessage board_asks [] (omega arith, omega arith) none_out
+one_out : (m : Message) → IsMessage m → All IsMessage (m ∷ [])
+one_out m fine = All-cons IsMessage m [] fine none_out
 
 -- a station had sealed it
 a_sealed : (seal : List ℕ) (more : List Message) → IsAuthentic seal 7 (a_says ∷ more) a_bytes
@@ -122,7 +119,7 @@ module _ (s : Sheet) where
   a_pens = (says, (((refl, refl), ((omega arith, omega arith), omega arith), taken 1), ((refl, refl), refl, refl, refl, holds A disk_with (the_vote ∷ []) (one_read A)), refl))
 
   a_runs : RunsFrom s (view A) no_faults 7 1 (new_desk A) calls_of_a
-  a_runs = ((λ n. n), 0, (tt, vote_out A, (refl, a_pens, blameless, refl, tt, tt)))
+  a_runs = ((λ n. n), 0, (tt, one_out a_says (is_message A), (refl, a_pens, blameless, refl, tt, tt)))
 
   abbrev LivesAsA : List (Stage (List ℕ)) → Type 0
   LivesAsA = IsLife (λ version. file_view (toy version) (λ disk. disk) only A 7) (λ disk. disk) no_faults A 7 1 (node (start New 1 (new_desk A) (new_desk B)) A)
@@ -158,7 +155,7 @@ module _ (s : Sheet) where
     0,
     (
       ((tt, none_out, (refl, b_notes, blameless, refl, tt, tt)), none_out, (refl, (refl, refl), blameless, refl, (refl, refl, refl), tt)),
-      vote_out B,
+      one_out b_says (is_message B),
       (refl, b_pens, blameless, refl, tt, tt),
     ),
   )
@@ -190,7 +187,7 @@ module _ (s : Sheet) where
   calls_of_board = next heard boards.TurnEnded [] board_agreed
 
   board_asks_it : BoardRuns 7 1 s (fresh_turn [] at_first) asked
-  board_asks_it = ((tt, none_out, (tt, (refl, refl), refl, tt)), ask_out, (tt, (inl ((omega arith, omega arith), refl), refl), refl, refl))
+  board_asks_it = ((tt, none_out, (tt, (refl, refl), refl, tt)), one_out board_asks (omega arith, omega arith), (tt, (inl ((omega arith, omega arith), refl), refl), refl, refl))
 
   board_hears : BoardRuns 7 1 s (fresh_turn [] at_first) heard
   board_hears = (
@@ -213,9 +210,8 @@ module _ (s : Sheet) where
   board_lives (suc (suc n)) = ([], tt, elsewhere n)
 
   no_others : (n : ℕ) → board_at (fresh_boards 1) n ≡ None → filter (is_at_board n) (lived s) ≡ []
-  no_others zero e = refl
-  no_others (suc zero) e = cc
   no_others (suc (suc n)) e = elsewhere n
+  no_others n e = grind arith
 
 none_shown : NoneShowNone toy 7
 unfolding file_votes votes_after
