@@ -1,17 +1,16 @@
 -- What tells a day or a revision has its value: a text that is a day is the day's text.
-use Rattle.std.proofs.Common.{◌≡◌, ℕ, ◌+◌, ◌-◌, ◌*◌, ◌/◌, ◌%◌, ◌<◌, Bool, true, false, cond, ◌&&◌, ◌==◌, nat_le}
+use Rattle.std.proofs.Common.{◌≡◌, ℕ, ◌+◌, ◌-◌, ◌*◌, ◌/◌, ◌%◌, ◌<◌, Bool, true, false, cond, ◌==◌, nat_le}
 use Rattle.std.proofs.Common.{pos, List, [], ◌∷◌, ◌++◌, Option, Some, None, option_map, option_and_then, get_or}
 use Rattle.std.proofs.Common.{sym, ap, ◌∙◌, arith, append_assoc, append-nil, lt-ltb}
-use Rattle.std.specs.Prelude.{is_none}
 use Rattle.std.specs.Char.{is_ascii_digit}
 use Rattle.std.specs.Fmt.{decimal}
 use Rattle.std.proofs.lemmas.Bool.Decides.{nat_tests}
 use Rattle.std.proofs.lemmas.Option.{cond_some, none-some, option_and_then_some}
-use Rattle.toml_datetime.specs.declared.datetime.{Date.Date, Time.Time, Offset.Offset, Datetime.Datetime}
+use Rattle.toml_datetime.specs.declared.datetime.{Date.Date, Time.Time, Datetime.Datetime}
 use Rattle.toml_datetime.specs.Valid.{is_valid_date}
 use Rattle.toml_datetime.specs.Parse.{after_byte, after_date, colon, dash, full_date}
 use Rattle.toml_datetime.specs.Parse.{parse_datetime, partial_time, two_digits, whole}
-use Rattle.toml_datetime.specs.Text.{date_text, datetime_text, delim_text, offset_text, part_text, time_text, two_wide}
+use Rattle.toml_datetime.specs.Text.{date_text, datetime_text, two_wide}
 use Rattle.toml.specs.Data as toml
 use Rattle.toml.specs.Data.{Data}
 use Rattle.json.specs.Json.{string, number}
@@ -80,16 +79,12 @@ unfolding parse_datetime
 day_text text day e = option_and_then_some local_date (parse_datetime text) day e λ dt parsed is.
     parsed_day (get_or text 2 0 == colon) (whole (partial_time text)) text dt day parsed is
 
-parts_text : (date : Option Date) (time : Option Time) (offset : Option Offset) (day : Date) → cond (is_none time && is_none offset) date None ≡ Some day
-    → date_text day ≡ part_text date_text date ++ (delim_text date time ++ (part_text time_text time ++ part_text offset_text offset))
-parts_text date time offset day e = grind (arith, append-nil)
-
 -- ---- the values
 
 pub value_of_day : (d : Data) (day : Date) → day_of d ≡ Some day → IsValueOf d (string (date_text day))
 unfolding datetime_text
 value_of_day (toml.string text) day e = ap string (sym (day_text text day e))
-value_of_day (toml.datetime dt) day e = ap string (parts_text dt.date dt.time dt.offset day e)
+value_of_day (toml.datetime dt) day e = grind (arith, append-nil)
 value_of_day d day e = absurd (none-some day e)
 
 pub value_of_revision : (d : Data) (n : ℕ) → revision_of d ≡ Some n → IsValueOf d (number_value n)

@@ -44,9 +44,6 @@ shown_whole xs h =
 abbrev AreHigh : List ℕ → Type 0
 AreHigh xs = (k : ℕ) → k < length xs → 127 ≤ get_or xs k 0
 
-high_bytes : (c : ℕ) → 127 ≤ c → AreHigh (encode_utf8 c)
-high_bytes c h k below = grind (arith, inside_one c [] (encode_utf8 c) k (sym (append-nil _)) below)
-
 escape_high : (xs : List ℕ) → AreHigh xs → escape xs ≡ xs
 escape_high [] h = refl
 escape_high (x ∷ xs) h =
@@ -94,7 +91,8 @@ char_read c more ok = elim (cases_lt c 127) [
       let (stays, is) = below 127 each_low c low in
       rw (encode_ascii c (omega arith), append-nil, shown_below (escape_byte c) more stays) (is (shown more))
   | inr high ↦
-      let bytes = high_bytes c high in rw (escape_high (encode_utf8 c) bytes, shown_past c more ok) (shown_read (is_obeyed c) c (shown more) refl bytes)
+      let bytes : AreHigh (encode_utf8 c) = λ k below. grind (arith, inside_one c [] (encode_utf8 c) k (sym (append-nil _)) below) in
+      rw (escape_high (encode_utf8 c) bytes, shown_past c more ok) (shown_read (is_obeyed c) c (shown more) refl bytes)
 ]
 
 closed : (more : List ℕ) → content plain (shown (34 ∷ more)) ≡ Some []

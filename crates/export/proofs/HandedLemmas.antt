@@ -52,15 +52,9 @@ module _ (key : List ℕ) where
   pub has_key : (ms : Members) (fs : List Field) → AreFieldsOf (others ms) fs → is_own key ≡ false → has fs ≡ is_some (get_member key ms)
   has_key ms fs are other = grind (arith, has_all (others ms) fs are, others-at ms)
 
-  left : (ms : Members) (fs : List Field) → AreFieldsOf (others ms) fs → is_own key ≡ true → has fs ≡ false
-  left ms fs are own = grind (arith, has_all (others ms) fs are, others-at ms)
-
-  found : (d : Data) (ms : Members) (fs : List Field) → AreFieldsOf (others ms) fs → get_member key ms ≡ Some d → is_own key ≡ false →
-      IsValueOf d (under fs)
-  found d ms fs are here other = stands d (others ms) fs are (grind (arith, others-at ms))
-
 pub leaves_own : (document : Members) (given : List Field) → HandsOn document given → LeavesOwn given
-leaves_own document given are key own = left key (info_in document) given are own
+leaves_own document given are key own =
+    grind (arith, has_all key (others (info_in document)) given are, others-at key (info_in document))
 
 -- ---- the export's own fields stand under other keys
 
@@ -82,5 +76,6 @@ module _ (key : List ℕ) where
 
 pub has_each_key : (s : Sheet) (h : History) (document : Members) (given : List Field) → HandsOn document given → HasEachKey s h document given
 has_each_key s h document given are key d here other =
-    let held = has_key key (info_in document) given are other ∙ ap is_some here in
-    subst (IsValueOf d) (sym (past_own key s h (info_in document) given other held)) (found key d (info_in document) given are here other)
+    let ms = info_in document in
+    let held = has_key key ms given are other ∙ ap is_some here in
+    subst (IsValueOf d) (sym (past_own key s h ms given other held)) (stands key d (others ms) given are (grind (arith, others-at key ms)))

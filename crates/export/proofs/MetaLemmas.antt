@@ -3,12 +3,11 @@ use Rattle.std.proofs.Common.{◌≡◌, true, Option, Some, None, is_some, opti
 use Rattle.std.specs.Prelude.{unwrap_or}
 use Rattle.std.proofs.lemmas.Bool.{true≢false}
 use Rattle.toml.specs.Data.{Members}
-use Rattle.toml_datetime.specs.declared.datetime.Date.{Date}
 use Rattle.json_fields.specs.Values.{number_value}
 use Rattle.export.specs.Document.{is_fine_document}
 use Rattle.export.specs.Given.{IsValueOf}
 use Rattle.export.specs.Laws.{TellsDay, TellsOfFile, in_meta}
-use Rattle.export.specs.Meta.{created_in, day_of, is_fine, meta_at, revision_in, revision_of}
+use Rattle.export.specs.Meta.{day_of, is_fine, meta_at, revision_in, revision_of}
 use Rattle.export.proofs.DayLemmas.{value_of_day, value_of_revision}
 
 -- what a value tells, where it tells something
@@ -20,8 +19,8 @@ fine_parts : (document : Members) → is_fine_document document ≡ true
     → (is_fine day_of (meta_at (codes "created") document) ≡ true) × (is_fine revision_of (meta_at (codes "revision") document) ≡ true)
 fine_parts document fine = (grind arith, grind arith)
 
-at_revision : (document : Members) (o : Option Date) → created_in document ≡ o → in_meta (codes "revision") document ≡ number_value (revision_in document)
-at_revision document o e = grind arith
+at_revision : (document : Members) → in_meta (codes "revision") document ≡ number_value (revision_in document)
+at_revision document = grind arith
 
 pub tells_day : (document : Members) → is_fine_document document ≡ true → TellsDay document
 tells_day document fine d here =
@@ -36,8 +35,8 @@ tells_of_file document fine = record {
   revision = λ d here.
       let (n, is) = told (revision_of d) (sym (ap (is_fine revision_of) here) ∙ (fine_parts document fine).1) in
       let value = ap (λ o. unwrap_or (option_and_then revision_of o) 1) here ∙ ap (λ o. unwrap_or o 1) is in
-      subst (IsValueOf d) (sym (at_revision document (created_in document) refl ∙ ap number_value value)) (value_of_revision d n is);
+      subst (IsValueOf d) (sym (at_revision document ∙ ap number_value value)) (value_of_revision d n is);
   undated = λ none. rw (ap (option_and_then day_of) none);
   first = λ none.
-      at_revision document (created_in document) refl ∙ ap (λ o. number_value (unwrap_or (option_and_then revision_of o) 1)) none;
+      at_revision document ∙ ap (λ o. number_value (unwrap_or (option_and_then revision_of o) 1)) none;
 }

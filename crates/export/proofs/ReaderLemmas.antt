@@ -1,25 +1,23 @@
 -- What a reader takes of a delivery.
-use Rattle.std.proofs.Common.{◌≡◌, ℕ, ◌+◌, ◌≤◌, ◌==◌, ◌&&◌, not, Bool, false, List, [], ◌∷◌, codes, refl, arith, eqb-true, bytes_eq}
-use Rattle.std.specs.List.{list_any}
-use Rattle.std.proofs.lemmas.Bool.Decides.{nat_tests}
+use Rattle.std.proofs.Common.{◌≡◌, ℕ, ◌+◌, ◌≤◌, ◌==◌, ◌&&◌, not, false, List, [], ◌∷◌, codes, refl, arith, eqb-true, bytes_eq}
 use Rattle.std.proofs.lemmas.Fmt.{digits_value-decimal}
-use Rattle.notation.specs.declared.entry.{Side.Side, Ball.Ball, How.How}
+use Rattle.notation.specs.declared.entry.{Side.Side, Ball.Ball}
 use Rattle.notation.proofs.Numbers.{own}
 use Rattle.ball_laws.specs.declared.{ends.Ends.Ends}
 use Rattle.ball_laws.specs.Over.{debit_of, is_wide_or_no_ball}
-use Rattle.ball_laws.specs.Runs.{credits, split_of_ball}
+use Rattle.ball_laws.specs.Runs.{split_of_ball}
 use Rattle.ball_laws.specs.Sums.{count_of, one_if}
-use Rattle.match_laws.specs.Figures.{batted_of, credit_of, credited, faced_of, fours_of, noballs_of, sixes_of, wides_of}
+use Rattle.match_laws.specs.Figures.{batted_of, credit_of, credited, faced_of, noballs_of, wides_of}
 use Rattle.match_laws.proofs.Bounds.{ball-small}
 use Rattle.cards.specs.Sheet.{Sheet, player_of}
 use Rattle.json.specs.Json.{Json}
 use Rattle.json_fields.specs.Values.{number_value}
 use Rattle.archive_deliveries.specs.declared.notes.Noted.{Noted}
-use Rattle.archive_deliveries.specs.Wickets.{how_words, is_gone}
+use Rattle.archive_deliveries.specs.Wickets.{is_gone}
 use Rattle.archive_deliveries.specs.Deliveries.{delivery_of, extra_runs, is_run}
 use Rattle.export.specs.Laws.{at, is_text}
-use Rattle.export.specs.Readers.{bat_runs, boundary_in, bowled_in, credited_in, credited_kinds, debited_in}
-use Rattle.export.specs.Readers.{faced_in, four_outrun, is_credited, noballs_in, number_in, six_outrun}
+use Rattle.export.specs.Readers.{bat_runs, boundary_in, bowled_in, credited_in, debited_in}
+use Rattle.export.specs.Readers.{faced_in, is_credited, noballs_in, number_in}
 use Rattle.export.specs.Readers.{wides_in}
 use Rattle.export.proofs.WicketLemmas.{delivered}
 use Rattle.export.proofs.LineLemmas.{takes}
@@ -63,18 +61,7 @@ pub boundary_read : (n : ℕ) (s : Sheet) (side : Side) (penalty : ℕ) (early l
 boundary_read n s side penalty early late ends b low =
     rw (bat_read s side penalty early late ends b low) (grind arith)
 
--- ---- fours and sixes
-
-pub fours_told : (b : Ball) → one_if ((batted_of b == 4) && not (is_run b)) + four_outrun b ≡ fours_of b
-fours_told b = grind (arith, nat_tests)
-
-pub sixes_told : (b : Ball) → one_if ((batted_of b == 6) && not (is_run b)) + six_outrun b ≡ sixes_of b
-sixes_told b = grind (arith, nat_tests)
-
 -- ---- wickets
-
-how_credited : (bowlers : Bool) (how : How) → list_any (λ kind. bytes_eq kind (how_words bowlers how)) credited_kinds ≡ credits how
-how_credited bowlers how = grind arith
 
 none_went : (xs : List Noted) → count_of (λ x. is_gone x.item && false) xs ≡ 0
 none_went [] = refl
@@ -84,5 +71,5 @@ pub credited_read : (s : Sheet) (side : Side) (penalty : ℕ) (early late : List
     credited_in (delivery_of s side penalty early ends b late) ≡ credited b
 credited_read s side penalty early late ends b =
     let all = delivered is_credited s side (λ p. false) credit_of (λ p. grind arith)
-    (λ ends bowler out. grind (arith, how_credited)) (λ out none. grind arith) penalty early late ends b in
+    (λ ends bowler out. grind arith) (λ out none. grind arith) penalty early late ends b in
     grind (arith, all, none_went early, none_went late)

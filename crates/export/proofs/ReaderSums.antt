@@ -1,6 +1,6 @@
 -- What such readers sum up for batters and bowlers is what the card has.
 use Rattle.std.proofs.Common.{◌≡◌, ℕ, ◌+◌, ◌*◌, ◌≤◌, ◌==◌, ◌&&◌, not, cond, if◌then◌else◌, Bool, true, List, [], ◌∷◌, All, Option, Some, refl, ◌∙◌, arith, eqb-true, eq-eqb, bytes_eq, codes}
-use Rattle.std.specs.List.{filter_map, list_all, list_any}
+use Rattle.std.specs.List.{filter_map, list_all}
 use Rattle.std.proofs.lemmas.Bool.Decides.{nat_tests}
 use Rattle.std.proofs.lemmas.Slice.Eq.{bytes_eq-Decides}
 use Rattle.notation.specs.declared.entry.{Ball.Ball, Entry.Entry, Side.Side}
@@ -26,7 +26,7 @@ use Rattle.export.specs.Readers.{BatterAddsUp, BowlerAddsUp, OversAreSixes, HasO
 use Rattle.export.specs.Readers.{boundary_in, bowled_in, credited_in, dead_ball, debited_in, faced_in, four_outrun}
 use Rattle.export.specs.Readers.{noballs_in, over_balls, six_outrun, summed, wides_in}
 use Rattle.export.proofs.ReaderLemmas.{bat_read, batter_read, boundary_read, bowled_read, credited_read}
-use Rattle.export.proofs.ReaderLemmas.{debited_read, faced_read, fours_told, noballs_read, sixes_told, wides_read}
+use Rattle.export.proofs.ReaderLemmas.{debited_read, faced_read, noballs_read, wides_read}
 use Rattle.export.proofs.SumLemmas.{sum_read}
 use Rattle.export.proofs.LineLemmas.{AreNamed, bowlers_named, by_players, comers, picked, picked-own, sum_if, strikers_named, takes}
 
@@ -110,8 +110,8 @@ module _ (s : Sheet) (n : ℕ) (book : List Entry) (all : All IsEntry book) (leg
   batter_adds_up = record {
     runs = batter_sum bat_runs batted_of (bat_read s (side_of h i));
     balls = batter_sum faced_in faced_of (faced_read s (side_of h i));
-    fours = boundaries 4 four_outrun fours_of fours_told;
-    sixes = boundaries 6 six_outrun sixes_of sixes_told;
+    fours = boundaries 4 four_outrun fours_of (λ b. grind (arith, nat_tests));
+    sixes = boundaries 6 six_outrun sixes_of (λ b. grind (arith, nat_tests));
   }
 
   -- ---- bowlers
@@ -159,15 +159,11 @@ overs_are_sixes h i p none = sixes_each p (innings_overs h i) none
 
 -- ---- names of their own
 
-told_apart_by : (s : Sheet) (side : Side) (order : List ℕ) (p : ℕ) → HasOwnName s side order p → (q : ℕ) → list_any (λ r. r == q) order ≡ true →
-    bytes_eq (player_of s side p) (player_of s side q) ≡ (p == q)
-told_apart_by s side order p has q there =
-    let same = bytes_eq-Decides (player_of s side p) (player_of s side q) in
-    grind (arith, same.0, same.1, λ (e : player_of s side q ≡ player_of s side p). has.own q there e, eqb-true p q, eq-eqb p q)
-
 own_name : (s : Sheet) (side : Side) (figure : ℕ → ℕ) (p : ℕ) (names : List ℕ) → HasOwnName s side (named_once names) p →
     picked (λ q. bytes_eq (player_of s side p) (player_of s side q)) figure (named_once names) ≡ figure p
-own_name s side figure p names has = picked-own _ figure p names has.listed (told_apart_by s side (named_once names) p has)
+own_name s side figure p names has = picked-own _ figure p names has.listed λ q there.
+    let same = bytes_eq-Decides (player_of s side p) (player_of s side q) in
+    grind (arith, same.0, same.1, λ (e : player_of s side q ≡ player_of s side p). has.own q there e, eqb-true p q, eq-eqb p q)
 
 pub names_tell_players : (s : Sheet) (h : History) (i p : ℕ) (figure : History → ℕ → ℕ → ℕ) → NamesTellPlayers s h i p figure
 unfolding batting_order bowling_order

@@ -1,8 +1,8 @@
 -- The wickets that a reader finds in an export.
-use Rattle.std.proofs.Common.{◌≡◌, ℕ, ◌+◌, ◌&&◌, ◌||◌, cond, Bool, false, List, [], ◌∷◌, ◌++◌, codes, Option, refl, ap, ◌∙◌, arith}
-use Rattle.std.specs.Prelude.{bytes_eq, is_some}
+use Rattle.std.proofs.Common.{◌≡◌, ℕ, ◌+◌, ◌&&◌, ◌||◌, cond, Bool, false, List, [], ◌∷◌, ◌++◌, Option, refl, ap, ◌∙◌, arith}
+use Rattle.std.specs.Prelude.{is_some}
 use Rattle.std.specs.List.{flat_map}
-use Rattle.notation.specs.declared.entry.{Side.Side, Ball.Ball, Entry.Entry, How.How, Out.Out, Plain.Plain}
+use Rattle.notation.specs.declared.entry.{Side.Side, Ball.Ball, Entry.Entry, Out.Out, Plain.Plain}
 use Rattle.ball_laws.specs.declared.ends.Ends.{Ends}
 use Rattle.ball_laws.specs.History.{is_wicket}
 use Rattle.ball_laws.specs.Sums.{count_of, tally}
@@ -14,7 +14,7 @@ use Rattle.json.specs.Json.{Json}
 use Rattle.archive_deliveries.specs.declared.{begun.Begun.Begun, notes.Noted.Noted}
 use Rattle.archive_deliveries.specs.Notes.{begun_of, carried, is_ball, items_in}
 use Rattle.archive_deliveries.specs.Wickets as listing
-use Rattle.archive_deliveries.specs.Wickets.{departures, gone_of, has_gone, how_words, is_gone, own_wickets}
+use Rattle.archive_deliveries.specs.Wickets.{departures, gone_of, has_gone, is_gone, own_wickets}
 use Rattle.archive_deliveries.specs.Deliveries.{delivery_of, penalties}
 use Rattle.export.specs.Innings.{overs_of}
 use Rattle.export.specs.Laws.{WicketsAddUp, deliveries_in, has_fallen, innings_at, noted_items, wickets_of}
@@ -80,15 +80,12 @@ module _ (takes : Json → Bool) (s : Sheet) (side : Side) (goes : Plain → Boo
 
 -- ---- those that have fallen
 
-how_fell : (own : Bool) (how : How) → bytes_eq (codes "retired hurt") (how_words own how) ≡ false
-how_fell own how = grind arith
-
 module _ (s : Sheet) (side : Side) where
   all_fell : (penalty : ℕ) (early late : List Noted) (ends : Ends) (b : Ball)
       → count_of has_fallen (wickets_of (delivery_of s side penalty early ends b late)) ≡ gone early + cond (is_some b.out) 1 0 + gone late
   all_fell penalty early late ends b =
       delivered has_fallen s side is_wicket (λ out. cond (is_some out) 1 0) (λ p. grind arith)
-      (λ ends bowler out. grind (arith, how_fell)) (λ out none. grind (arith, none)) penalty early late ends b
+      (λ ends bowler out. grind arith) (λ out none. grind (arith, none)) penalty early late ends b
 
 -- ---- all deliveries of an innings
 
