@@ -177,8 +177,7 @@ event_utf8 line e h = let p = event_found line e h in IsUtf8-from_ascii line p.2
 
 -- a pen line, with the line of its entry
 pen_text : (d : DeskId) (e : Entry) → event_text (Event.Pen d e) ≡ pen_line d (text_of e)
-pen_text d (Entry.Write p) = rw (words_are p) refl
-pen_text d _ = refl
+pen_text d e = grind (arith, words_are)
 
 pen_again : (d : DeskId) (entry : List ℕ) → pen_at (pen_line d entry) ≡ Some (d, entry)
 unfolding pen_at
@@ -224,8 +223,7 @@ event_says : (n : ℕ) (line : List ℕ) (o : Option Event) → pen_at line ≡ 
 event_says n line o pen was = grind (arith, event_found line, no_event n line pen)
 
 pen_says : (n : ℕ) (line : List ℕ) (o : Option (DeskId × List ℕ)) → pen_at line ≡ o → IsSaid n line (pen_or n o line)
-pen_says n line (Some p) was = rw (pen_found line p was) (entry_says n p.0 p.1 (line_answer p.1) refl)
-pen_says n line None was = event_says n line (event_at line) was refl
+pen_says n line o was = grind (arith, was, pen_found line, entry_says n, event_says n line)
 
 pub is_said : (n : ℕ) (line : List ℕ) (r : Result Event ScheduleFault) → line_says n line ≡ r → IsSaid n line r
 unfolding line_says

@@ -1,6 +1,7 @@
 -- What stands before the first space of a line, and after it.
 use Rattle.std.proofs.Common.{◌≡◌, ◌≢◌, ℕ, suc, ◌<◌, ◌==◌, List, [], ◌∷◌, ◌++◌, length, get_or, Bool, true, false, cond, Option, Some, None, Bor, refl, arith, lit<, ne_eqb}
 use Rattle.std.specs.Char.{is_ascii_digit}
+use Rattle.std.specs.Option.{MatchOption}
 use Rattle.std.specs.Str.{all_ascii_digits}
 use Rattle.std.proofs.lemmas.Bool.{and_parts, eqb-true}
 use Rattle.std.proofs.lemmas.Bool.Decides.{nat_tests}
@@ -27,11 +28,11 @@ cut_digits (d ∷ ds) rest h =
     let head : (d == 32) ≡ false = grind (arith, nat_tests, p.0) in
     rw (head, cut_digits ds rest p.1) refl
 
-pub cut_some : (bs : List ℕ) (x y : Bor (List ℕ)) → IsSplitOnceResult 32 bs (Some (x, y)) → cut bs ≡ Some (x.now, y.now)
-cut_some bs x y h = let p = split_parts 32 bs (Some (x, y)) h (lit< tt) in rw p.0 (cut_at x.now y.now p.1)
-
-pub cut_none : (bs : List ℕ) → IsSplitOnceResult 32 bs None → cut bs ≡ None
-cut_none bs h = no_cut bs (split_parts 32 bs None h (lit< tt))
+-- a split at the first space cuts so
+pub cut_split : (bs : List ℕ) (r : Option (Bor (List ℕ) × Bor (List ℕ))) → IsSplitOnceResult 32 bs r
+    → MatchOption r (cut bs ≡ None) (λ p. cut bs ≡ Some (p.0.now, p.1.now))
+cut_split bs None h = no_cut bs (split_parts 32 bs None h (lit< tt))
+cut_split bs (Some (x, y)) h = let p = split_parts 32 bs (Some (x, y)) h (lit< tt) in rw p.0 (cut_at x.now y.now p.1)
 
 found_go : (b : ℕ) (bs : List ℕ) (t : Bool) (o : Option (List ℕ × List ℕ)) (p : List ℕ × List ℕ) → (b == 32) ≡ t
     → ((q : List ℕ × List ℕ) → o ≡ Some q → bs ≡ q.0 ++ (32 ∷ q.1)) → cond t (Some ([], bs)) (with_first b o) ≡ Some p

@@ -1,9 +1,9 @@
-use Rattle.std.proofs.Common.{◌≡◌, ◌+◌, [], ◌∷◌, ◌++◌, length, map, Ok, inl, inr, refl, sym, ap, ◌∙◌, arith, append_assoc, append-nil, length-append}
+use Rattle.std.proofs.Common.{◌≡◌, ◌+◌, [], ◌∷◌, length, Ok, inl, inr, refl, sym, ap, ◌∙◌, arith, append_assoc, append-nil, length-append}
 use Rattle.std.proofs.lemmas.List.{map-append}
 use Rattle.std.proofs.lemmas.List.Elements.{All-nil, All-push}
 use Rattle.schedules.specs.declared.schedule_fault.ScheduleFault.TheVariants.{NoMemory}
 use Rattle.notation.specs.Lines.{lines_of}
-use Rattle.schedules.specs.ScheduleLines.{event_text, IsWrittenEvent}
+use Rattle.schedules.specs.ScheduleLines.{IsWrittenEvent}
 use Rattle.notation.proofs.Cuts.{length-lines_of}
 use Rattle.schedules.proofs.LineTexts.{is_said}
 use Rattle.schedules.proofs.ScheduleTexts.{at_fault, none_wrong, same_events}
@@ -33,8 +33,7 @@ loop-line-preserved c =
 pub returns-clause-only : goal.returns-clause-only
 returns-clause-only c = λ others h.
     let m = c.loop-line.invariant in
-    let all : lines_of c.args.bytes.now ≡ map event_text c.loop-line.events.items = m.texts ∙ (ap (λ u. map event_text c.loop-line.events.items ++ u) c.in_default.ensures.0 ∙ append-nil _) in
-    same_events c.loop-line.events.items others m.written h.written (sym all ∙ h.texts)
+    same_events c.loop-line.events.items others m.written h.written (sym (rw (c.in_default.ensures.0, append-nil) at m.texts) ∙ h.texts)
 
 -- out of memory, or the line is at fault
 pub returns-in-Err-clause-fault : goal.returns-in-Err-clause-fault
@@ -43,8 +42,8 @@ returns-in-Err-clause-fault c =
     elim c.in-Err.ensures.wrong [
       | inl e ↦ rw e tt
       | inr says ↦
-          at_fault (lines_of c.args.bytes.now) (c.loop-line.number + 1) c.in-Some.line.now c.next.new.self c.loop-line.events.items c.in-Err.fault m.written
-          (m.texts ∙ ap (λ u. map event_text c.loop-line.events.items ++ u) c.in-Some.ensures) (omega (arith, m.numbered)) (is_said _ _ _ says)
+          at_fault (lines_of c.args.bytes.now) _ c.in-Some.line.now c.next.new.self c.loop-line.events.items c.in-Err.fault m.written
+          (rw c.in-Some.ensures at m.texts) (omega (arith, m.numbered)) (is_said _ _ _ says)
     ]
 
 pub returns-in-Err-clause-only : goal.returns-in-Err-clause-only
@@ -53,5 +52,5 @@ returns-in-Err-clause-only c = λ others h.
     elim c.in-Err.ensures.wrong [
       | inl e ↦ e
       | inr says ↦ absurd {A = c.in-Err.fault ≡ NoMemory} (none_wrong (c.loop-line.number + 1) c.in-Some.line.now c.in-Err.fault c.next.new.self c.loop-line.events.items others says h.written
-          (sym (m.texts ∙ ap (λ u. map event_text c.loop-line.events.items ++ u) c.in-Some.ensures) ∙ h.texts))
+          (sym (rw c.in-Some.ensures at m.texts) ∙ h.texts))
     ]
