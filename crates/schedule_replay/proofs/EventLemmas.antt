@@ -1,6 +1,5 @@
 -- A tick, an end, a fault and an opening at a site are steps of the definitions there.
 use Rattle.std.proofs.Common.{arith, ◌≡◌, ℕ, Some, None, List, [], ◌++◌, length, map, refl, sym, ap, ◌∙◌, subst}
-use Rattle.std.specs.Prelude.{option_map}
 use Rattle.entry_log.specs.Disk.{Images, IsImage, only}
 use Rattle.entry_log.proofs.Running.{each_image}
 use Rattle.entry_log.specs.Format.{contents}
@@ -21,7 +20,7 @@ use Rattle.headline.specs.DeskFaults.{FallsDue, LosesPower}
 use Rattle.headline.specs.DeskSteps.{AtDesk}
 use Rattle.headline.specs.Match.{format_of, match_of}
 use Rattle.schedule_replay.proofs.OpenLemmas.{down_at, stays_down}
-use Rattle.schedule_replay.specs.inner.Sites.{HasNode, IsDue, PutsDown, SiteSteps, disk_at}
+use Rattle.schedule_replay.specs.inner.Sites.{HasNode, IsDue, PutsDown, SiteSteps}
 use Rattle.world_desks.specs.WorldDesks.{SameOwner, disk_of, game_of, state_of}
 use Rattle.schedule_replay.proofs.SiteLemmas.{HasDisk, no_bytes, put_down_is, running_is, runs_again, sets_plan_stays, site_disk, ticked}
 
@@ -46,13 +45,6 @@ kills old new k sent here put x messages h b =
     let is : HasNode new y = record { version = h.version ∙ sym put.version; process = down.3; due = sym put.due } in
     let stays = sets_plan_stays old.name x.version old.game Calm (process_disk x.process) down.0 down.2 in
     (y, [], Answer.Done, refl, (state_of k, r.process, (down.0, stays, refl), refl, refl), is, no_bytes old.game sent messages b)
-
--- no call of its disk is to fail then
-pub put_down_plan : (old new : Site) → PutsDown old new → option_map plan_of (disk_at new.desk new.disk) ≡ Some Calm
-put_down_plan old new put = rw (put.desk, put.disk.3) (ap Some put.disk.4.plan)
-
-pub left_plan : (mid : Site) (left : MemDisk) → mid.desk ≡ None → plan_of left ≡ Calm → option_map plan_of (disk_at mid.desk (Some left)) ≡ Some Calm
-left_plan mid left down calm = rw down (ap Some calm)
 
 -- its power is lost: what was put down is an image of what was there
 pub powers : (old mid new : Site) (choice : Choice) (there left : MemDisk) (sent : List Datagram) → PutsDown (record old { due = None }) mid → mid.disk ≡ Some there

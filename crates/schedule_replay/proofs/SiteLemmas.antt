@@ -1,5 +1,5 @@
 -- A site and its desk, as the definitions of a run see them.
-use Rattle.std.proofs.Common.{◌≡◌, ℕ, ◌+◌, ◌≤◌, ◌<◌, Option, Some, None, List, [], ◌∷◌, ◌++◌, length, map, refl, sym, ap, ◌∙◌, arith, append-nil}
+use Rattle.std.proofs.Common.{◌≡◌, ℕ, ◌+◌, ◌≤◌, ◌<◌, Option, Some, None, List, [], ◌++◌, length, map, refl, sym, ap, ◌∙◌, arith, append-nil}
 use Rattle.std.proofs.lemmas.List.{length-map, map-append}
 use Rattle.std.proofs.lemmas.List.Elements.{All-append}
 use Rattle.std.specs.Prelude.{All, IsSome}
@@ -66,10 +66,6 @@ ticked game Step said out before after messages sent is added b =
       grind (arith, length-map out bytes, length-map sent.0 (written game), ap length sent.2),
       more_bytes game before after messages sent.0 (map bytes out) b sent.1 sent.2 (rw (added, is) (map-append bytes before out)),
     )
-
--- one datagram more
-pub pushed : (old new : List Datagram) (d : Datagram) → new ≡ old ++ d ∷ [] → map (λ (d : Datagram). d.bytes) new ≡ map (λ (d : Datagram). d.bytes) old ++ d.bytes ∷ []
-pushed old new d e = rw e (map-append (λ (d : Datagram). d.bytes) old (d ∷ []))
 
 -- a disk that shows the same, with other calls to fail
 pub sets_plan_stays : (name : DeskId) (version : FileVersion) (game : ℕ) (plan : Plan) (old new : MemDisk) → SetsPlan plan old new

@@ -8,11 +8,11 @@ note-requires-clause-one c =
     λ other there. c.requires.one c.book_len.result c.shown.result.now other there
     (rw c.in-Some.is (c.book_len.ensures.entries, c.shown.ensures))
 
-pub returns-in-Some-clause-noted : goal.returns-in-Some-clause-noted
-returns-in-Some-clause-noted c =
+pub returns-in-Some : goal.returns-in-Some
+returns-in-Some c =
     let shows : DeskShows c.args.self.now.desk c.book_len.result c.shown.result.now = rw c.in-Some.is (c.book_len.ensures.entries, c.shown.ensures) in
-    on_ok_weaker c.note.result (adds_book _ _ _ _ _ _ shows) c.note.ensures.noted
-
-pub returns-in-Some-clause-scored : goal.returns-in-Some-clause-scored
-returns-in-Some-clause-scored c =
-    on_ok_weaker c.note.result (λ _. rw c.in-Some.is (c.shown.result.now, c.shown.ensures)) c.note.ensures.noted
+    record {
+      noted = on_ok_weaker c.note.result (adds_book _ _ _ _ _ _ shows) c.note.ensures.noted;
+      scored = on_ok_weaker c.note.result (λ _. rw c.in-Some.is (c.shown.result.now, c.shown.ensures)) c.note.ensures.noted;
+      kept = c.note.ensures.kept;
+    }

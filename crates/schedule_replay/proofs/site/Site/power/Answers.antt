@@ -1,5 +1,5 @@
-use Rattle.std.proofs.Common.{refl}
-use Rattle.schedule_replay.proofs.EventLemmas.{left_plan, powers}
+use Rattle.std.proofs.Common.{Some, ap, refl}
+use Rattle.schedule_replay.proofs.EventLemmas.{powers}
 use Rattle.schedule_replay.proofs.site.Site.power.Goals as goal
 
 pub returns-in-Some-clause-step : goal.returns-in-Some-clause-step
@@ -8,4 +8,4 @@ returns-in-Some-clause-step c = λ sent.
     powers c.args.self.now c.put_down.new.self _ c.args.choice c.in-Some.disk c.lose_power.new.disk sent c.put_down.ensures.down c.in-Some.is e.image e.images e.cap e.plan refl
 
 pub returns-in-Some-clause-planned : goal.returns-in-Some-clause-planned
-returns-in-Some-clause-planned c = left_plan c.put_down.new.self c.lose_power.new.disk (let put = c.put_down.ensures.down in put.desk) c.lose_power.ensures.plan
+returns-in-Some-clause-planned c = let put = c.put_down.ensures.down in rw put.desk (ap Some c.lose_power.ensures.plan)
