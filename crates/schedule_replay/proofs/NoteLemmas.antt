@@ -62,16 +62,13 @@ module _ (u : Station) (m : ℕ) (score : Standing) where
   -- one whose mark is set stands there
   pub marked_there : (shown : ShownScores) → IsKept shown → IsStation u → m ≤ PLACES → IsMarked shown.marks.items u m
       → ((other : Standing) → Contains shown.seen.items (u, m, other) → other ≡ score) → Contains shown.seen.items (u, m, score)
-  marked_there shown h p small set one = let c = h.marked u m p small set in subst (λ (s : Standing). Contains shown.seen.items (u, m, s)) (one c.0 c.1) c.1
+  marked_there shown h p small set one = let c = h.marked u m p small set in rw (one c.0 c.1) at c.1
 
   -- one more score is added
   pub one_added : (seen : List Shown) → Adds u (λ n s. (n ≡ m) × (s ≡ score)) seen (seen ++ (u, m, score) ∷ [])
-  one_added seen t n other = grind (
-    arith,
-    Contains-push_cases seen (u, m, score) (t, n, other),
-    Contains-append_left seen ((u, m, score) ∷ []) (t, n, other),
-    Contains-push seen (u, m, score),
-  )
+  one_added seen t n other =
+      let one : Shown = (u, m, score) in
+      grind (arith, Contains-push_cases seen one (t, n, other), Contains-append_left seen (one ∷ []) (t, n, other), Contains-push seen one)
 
   once_more : (xs : List Shown) → StandOnce xs → ((i : ℕ) (other : Standing) → slice_get xs i ≡ Some (u, m, other) → ⊥) → StandOnce (xs ++ (u, m, score) ∷ [])
   once_more xs h none i j t n s o p q =
@@ -86,13 +83,12 @@ module _ (u : Station) (m : ℕ) (score : Standing) where
       let there : Contains new.seen.items (u, m, score) = rw seen (Contains-push old.seen.items (u, m, score)) in
       record {
         long = ap length marks ∙ length-set old.marks.items at true ∙ h.long;
-        marked = λ t n q k e.
-            elim (eqb_tells (mark_of t n) at) [
-              | inl i ↦ let s = same_mark t u n m q p k small i.1 in (score, rw (s.0, s.1) there)
-              | inr i ↦
-                  let c = h.marked t n q k (sym (get_or-set_other old.marks.items at (mark_of t n) true false i.1) ∙ subst (λ (xs : List Bool). IsMarked xs t n) marks e) in
-                  (c.0, rw seen (Contains-append_left old.seen.items ((u, m, score) ∷ []) (t, n, c.0) c.1))
-            ];
+        marked = λ t n q k e. elim (eqb_tells (mark_of t n) at) [
+          | inl i ↦ let s = same_mark t u n m q p k small i.1 in (score, rw (s.0, s.1) there)
+          | inr i ↦
+              let c = h.marked t n q k (sym (get_or-set_other old.marks.items at (mark_of t n) true false i.1) ∙ subst (λ (xs : List Bool). IsMarked xs t n) marks e) in
+              (c.0, rw seen (Contains-append_left old.seen.items ((u, m, score) ∷ []) (t, n, c.0) c.1))
+        ];
         known = λ i t n s e. rw marks (elim (slice_get-push old.seen.items (u, m, score) i (t, n, s) (rw seen at e)) [
           | inl g ↦ mark_stays old.marks.items at (mark_of t n) less (h.known i t n s g)
           | inr g ↦ subst (λ (y : Shown). get_or (slice_set old.marks.items at true) (mark_of y.0 y.1) false ≡ true) g.1

@@ -1,6 +1,6 @@
 -- A run goes on by one event, and what it shows is noted.
 use Rattle.std.proofs.Common.{◌≡◌, ◌⊎◌, ◌<◌, ◌≤◌, ℕ, ◌+◌, Some, List, Result, Ok, Err, [], ◌∷◌}
-use Rattle.std.proofs.Common.{◌++◌, length, add-one, refl, sym, ap, ◌∙◌, inl, inr, subst, arith, take, slice_index_or, length-append}
+use Rattle.std.proofs.Common.{◌++◌, length, add-one, refl, sym, ap, ◌∙◌, inl, inr, arith, take, slice_index_or, length-append}
 use Rattle.std.proofs.Math.Seq.{take-append_seam, take-length, take-suc}
 use Rattle.std.proofs.lemmas.Option.{slice_get-get_or}
 use Rattle.std.proofs.lemmas.List.{length-set, map-append}
@@ -56,15 +56,20 @@ module _
   where
     -- a run over the first events ends with what the code's world shows, and all that was shown is noted
     pub record IsAfter : Type 0 where
-      pub at : (w : Configuration MemDisk) × (ms : MatchRun) × IsAt game innings version boards events number world outcomes w ms
-          × AreSeen innings w ms seen × AtEachMoment w ms (AllHaveScores innings)
+      pub w : Configuration MemDisk
+      pub ms : MatchRun
+      pub at : IsAt game innings version boards events number world outcomes w ms
+      pub noted : AreSeen innings w ms seen
+      pub scored : AtEachMoment w ms (AllHaveScores innings)
 
     -- such a run, of which all is noted but what the world shows now
     pub record IsNext : Type 0 where
-      pub at : (w : Configuration MemDisk) × (ms : MatchRun) × IsAt game innings version boards events number world outcomes w ms
-          × ((t : Station) (n : ℕ) (score : Standing)
-          → AtSomeMoment w ms (λ v. ShowsScore innings v t n score) ↔ (Contains seen (t, n, score) ⊎ ShowsScore innings (last_of w ms) t n score))
-          × (AllHaveScores innings (last_of w ms) → AtEachMoment w ms (AllHaveScores innings))
+      pub w : Configuration MemDisk
+      pub ms : MatchRun
+      pub at : IsAt game innings version boards events number world outcomes w ms
+      pub noted : (t : Station) (n : ℕ) (score : Standing)
+          → AtSomeMoment w ms (λ v. ShowsScore innings v t n score) ↔ (Contains seen (t, n, score) ⊎ ShowsScore innings (last_of w ms) t n score)
+      pub scored : AllHaveScores innings (last_of w ms) → AtEachMoment w ms (AllHaveScores innings)
 
 -- a book of so many entries that a list begins with is that front of it
 front : (innings n : ℕ) (score : Standing) (agreed book : List Entry) → BeginsWith agreed book → n ≡ length book → IsScoreOf score innings book
@@ -92,34 +97,29 @@ module _ {game innings : ℕ} {version : FileVersion} {boards : ℕ} {events : L
     -- a station and a length that are noted have the score that the world shows
     pub notable : boards ≤ 4 → (v : Configuration MemDisk) × IsNotable world seen v
     notable few =
-        let w = h.at.0 in
-        let ms = h.at.1 in
-        let at = h.at.2 in
-        let many = run_many game innings version boards w ms at.run.begins at.run.run in (
-          last_of w ms,
+        let run = h.at.run in
+        let many = run_many game innings version boards h.w h.ms run.begins run.run in (
+          last_of h.w h.ms,
           record {
-            has_configuration = at.has_configuration;
+            has_configuration = h.at.has_configuration;
             few_boards = omega (arith, few, many);
-            one_score = λ t n score other c shows. one_score (match_of game innings) innings version boards w ms at.run.begins at.run.run t t n other score
-                ((h.at.3 t n other).1 (inl c)) ((h.at.3 t n score).1 (inr (rw (← at.same_innings) shows)));
+            one_score = λ t n score other c shows. one_score (match_of game innings) innings version boards h.w h.ms run.begins run.run t t n other score
+                ((h.noted t n other).1 (inl c)) ((h.noted t n score).1 (inr (rw (← h.at.same_innings) shows)));
           },
         )
 
     -- what the world shows is noted
     pub noted : {new : List Shown} → Notes world seen new → HaveScores world → IsAfter game innings version boards events number world outcomes new
     noted notes have =
-        let last = last_of h.at.0 h.at.1 in
-        let at = h.at.2 in
+        let last = last_of h.w h.ms in
         record {
-          at = (
-            h.at.0,
-            h.at.1,
-            at,
-            λ t n score.
-                let k = rw at.same_innings at (notes last at.has_configuration t n score) in
-                (λ c. (h.at.3 t n score).1 (k.0 c), λ s. k.1 ((h.at.3 t n score).0 s)),
-            h.at.4 (subst (λ (i : ℕ). AllHaveScores i last) at.same_innings (code_scored world last have at.has_configuration)),
-          );
+          w = h.w;
+          ms = h.ms;
+          at = h.at;
+          noted = λ t n score.
+              let k = rw h.at.same_innings at (notes last h.at.has_configuration t n score) in
+              (λ c. (h.noted t n score).1 (k.0 c), λ s. k.1 ((h.noted t n score).0 s));
+          scored = h.scored (rw h.at.same_innings at (code_scored world last have h.at.has_configuration));
         }
 
   -- one event more
@@ -151,25 +151,22 @@ module _ {game innings : ℕ} {version : FileVersion} {boards : ℕ} {events : L
       → StepsTo event world seen new → KeepsMatch world new
       → IsNext game innings version boards events (number + 1) new (outcomes ++ seen ∷ []) shown
   goes_on {number = number} {event = event} {world = world} {new = new} {outcomes = outcomes} seen less here h steps same =
-      let p = h.at in
-      let n = steps_on number event world new outcomes seen p.0 p.1 less here p.2 steps same in
+      let n = steps_on number event world new outcomes seen h.w h.ms less here h.at steps same in
       record {
-        at = (
-          p.0,
-          n.0 ∷ p.1,
-          n.1,
-          λ t k score. (
-            λ s. elim s [ inl q ↦ inr q | inr q ↦ inl ((p.3 t k score).1 q) ],
-            λ c. elim c [ inl o ↦ inr ((p.3 t k score).0 o) | inr q ↦ inl q ],
-          ),
-          λ have. (have, p.4),
+        w = h.w;
+        ms = n.0 ∷ h.ms;
+        at = n.1;
+        noted = λ t k score. (
+          λ s. elim s [ inl q ↦ inr q | inr q ↦ inl ((h.noted t k score).1 q) ],
+          λ c. elim c [ inl o ↦ inr ((h.noted t k score).0 o) | inr q ↦ inl q ],
         );
+        scored = λ have. (have, h.scored);
       }
 
   -- some run ends so
   pub has_taken : {number : ℕ} {world : World} {outcomes : List Seen} {shown : List Shown}
       → IsAfter game innings version boards events number world outcomes shown → HasTaken game innings version boards events number world
-  has_taken {outcomes = outcomes} h = (outcomes, h.at.0, h.at.1, h.at.2)
+  has_taken {outcomes = outcomes} h = (outcomes, h.w, h.ms, h.at)
 
   pub takes_on : {number : ℕ} {event : Event} {world new : World} (seen : Seen) → number < length events → event ≡ slice_index_or events number event
       → HasTaken game innings version boards events number world → StepsTo event world seen new → KeepsMatch world new
@@ -205,13 +202,10 @@ module _ {game innings : ℕ} {version : FileVersion} {boards : ℕ} {events : L
       → IsAfter game innings version boards events number world outcomes shown
       → (w : Configuration MemDisk) × HasConfiguration world w × FilesRead world.game world.innings_a_side w
   all_read h =
-      let w = h.at.0 in
-      let ms = h.at.1 in
-      let at = h.at.2 in
-      let run = at.run in
+      let run = h.at.run in
       let s = match_of game innings in
-      let read = files_read game innings (last_of w ms) (run_keeps s w ms (begins_fine s version boards w run.begins) run.run) in
-      (last_of w ms, at.has_configuration, rw at.same_game read)
+      let read = files_read game innings (last_of h.w h.ms) (run_keeps s h.w h.ms (begins_fine s version boards h.w run.begins) run.run) in
+      (last_of h.w h.ms, h.at.has_configuration, rw h.at.same_game read)
 
   -- what is reported of the whole run
   pub reported : {number : ℕ} {world : World} (report : Report) → number ≡ length events
@@ -219,26 +213,22 @@ module _ {game innings : ℕ} {version : FileVersion} {boards : ℕ} {events : L
       → ((w : Configuration MemDisk) → HasConfiguration world w → FilesRead world.game world.innings_a_side w
       → IsAgreedByFiles (all_votes w).a (all_votes w).b report.agreed.items) → IsReplay game innings version boards events report
   unfolding all_read
-  reported {number = number} {world = world} report e h once files =
-      let w = h.at.0 in
-      let ms = h.at.1 in
-      let run = h.at.2.run in
-      let at = h.at.2 in
+  reported report e h once files =
+      let all = holds h.at.run in
       let read = all_read h in
-      let agreed : IsAgreedList (all_votes (last_of w ms)) report.agreed.items = (holds run).by_files report.agreed.items (files read.0 read.1 read.2) in (
-        w,
-        ms,
+      let agreed : IsAgreedList (all_votes (last_of h.w h.ms)) report.agreed.items = all.by_files report.agreed.items (files read.0 read.1 read.2) in (
+        h.w,
+        h.ms,
         record {
-          run = rw (e, take-length events) at run;
-          holds = holds run;
+          run = rw (e, take-length events) at h.at.run;
+          holds = all;
           agreed = agreed;
-          scored = h.at.4;
-          seen = h.at.3;
+          scored = h.scored;
+          seen = h.noted;
           once = once;
           scores = λ t n score c.
-              let b = some_book innings w ms t n score ((h.at.3 t n score).0 c) in
-              let p = (holds run).within_agreed t b.0 report.agreed.items b.1 agreed in
-              front innings n score report.agreed.items b.0 p b.2 b.3;
+              let b = some_book innings h.w h.ms t n score ((h.noted t n score).0 c) in
+              front innings n score report.agreed.items b.0 (all.within_agreed t b.0 report.agreed.items b.1 agreed) b.2 b.3;
         },
       )
 
@@ -252,7 +242,13 @@ module _ {events : List Event} {world : World} (new : IsNew world) where
       → IsNext world.game world.innings_a_side (match_version world) (boards_of world) events 0 world outcomes seen
   starts none no_scores =
       let b = begins_at world (own_match world new) in
-      rw (none, no_scores) (record { at = (b.0, [], b.1, λ t n score. (inr, λ c. elim c [ inl o ↦ absurd (omega (arith, o.1)) | inr s ↦ s ]), λ s. s) })
+      rw (none, no_scores) (record {
+        w = b.0;
+        ms = [];
+        at = b.1;
+        noted = λ t n score. (inr, λ c. elim c [ inl o ↦ absurd (omega (arith, o.1)) | inr s ↦ s ]);
+        scored = λ s. s;
+      })
 
   pub begins_taken : HasTaken world.game world.innings_a_side (match_version world) (boards_of world) events 0 world
   begins_taken = let b = begins_at world (own_match world new) in ([], b.0, [], b.1)
