@@ -3,7 +3,7 @@ use Rattle.std.proofs.Common.{arith, ◌≡◌, ℕ, Some, None, List, [], ◌++
 use Rattle.entry_log.specs.Disk.{Images, IsImage, only}
 use Rattle.entry_log.proofs.Running.{each_image}
 use Rattle.entry_log.specs.Format.{contents}
-use Rattle.entry_log.specs.MemDisk.{SetsPlan, call_count, cap_of, faults_of, file_of, images_of, plan_of}
+use Rattle.entry_log.specs.MemDisk.{SetsPlan, call_count, cap_of, file_of, images_of, plan_of}
 use Rattle.entry_log.specs.Plan.{due_of}
 use Rattle.entry_log.specs.declared.mem_disk.{MemDisk.MemDisk, choice.Choice.Choice, plan.Plan.Plan}
 use Rattle.entry_log.specs.declared.mem_disk.plan.Plan.TheVariants.{Calm}
@@ -65,15 +65,10 @@ powers old mid new choice there left sent put at image images cap calm is x mess
     (y, [], Answer.Done, refl, (left, loses, refl, refl, refl), site, no_bytes old.game sent messages b)
 
 -- an event by which this fault falls due at the desk
-abbrev pub FaultStep : Event → Site → Fault → Type 0
-FaultStep event old fault =
-    (x y : Node MemDisk) (messages : List Message) → FallsDue ((match_of old.game old.innings_a_side).view old.name x.version) fault x y
-    → AtDesk (match_of old.game old.innings_a_side) messages old.name event x Answer.Done y []
-
-module _ (old : Site) (fault : Fault) (plan : Plan) (event : Event) (step : FaultStep event old fault) (due : (calls : ℕ) → IsDue (Some fault) (due_of calls plan)) (sent : List Datagram) where
-  is_due : (left : MemDisk) → plan_of left ≡ plan → IsDue (Some fault) (faults_of left).due
-  is_due left e = rw e (due (call_count left))
-
+module _ (old : Site) (fault : Fault) (plan : Plan) (event : Event)
+    (step : (x y : Node MemDisk) (messages : List Message) → FallsDue ((match_of old.game old.innings_a_side).view old.name x.version) fault x y
+    → AtDesk (match_of old.game old.innings_a_side) messages old.name event x Answer.Done y [])
+    (due : (calls : ℕ) → IsDue (Some fault) (due_of calls plan)) (sent : List Datagram) where
   -- one that runs
   pub falls_running : (k l : WorldDesk) → old.desk ≡ Some k → SetsPlan plan (disk_of k) (disk_of l) → state_of l ≡ record (state_of k) { disk = disk_of l } → SameOwner k l
       → SiteSteps event old sent Seen.Done (record old { desk = Some l; due = Some fault }) sent
@@ -81,7 +76,7 @@ module _ (old : Site) (fault : Fault) (plan : Plan) (event : Event) (step : Faul
       let r = running_is old k x here h in
       let y : Node MemDisk = record x { process = Running (state_of l); due = Some fault } in
       let falls = step x y messages (disk_of l, rw r.process (sets_plan_stays old.name x.version old.game plan (disk_of k) (disk_of l) sets), grind (arith, state, r.process)) in
-      (y, [], Answer.Done, refl, falls, runs_again old k l (Some fault) x here h owner (is_due (disk_of l) sets.plan), no_bytes old.game sent messages b)
+      (y, [], Answer.Done, refl, falls, runs_again old k l (Some fault) x here h owner (rw sets.plan (due (call_count (disk_of l)))), no_bytes old.game sent messages b)
 
   -- and one that is down
   pub falls_down : (disk left : MemDisk) → old.desk ≡ None → old.disk ≡ Some disk → SetsPlan plan disk left
@@ -90,4 +85,4 @@ module _ (old : Site) (fault : Fault) (plan : Plan) (event : Event) (step : Faul
       let d = down_at old disk x down there h in
       let y : Node MemDisk = record x { process = Down d.votes left; due = Some fault } in
       let falls = step x y messages (left, rw d.process (sets_plan_stays old.name x.version old.game plan disk left sets), grind (arith, d.process)) in
-      (y, [], Answer.Done, refl, falls, stays_down old disk left (Some fault) x down h d sets.cap (is_due left sets.plan), no_bytes old.game sent messages b)
+      (y, [], Answer.Done, refl, falls, stays_down old disk left (Some fault) x down h d sets.cap (rw sets.plan (due (call_count left))), no_bytes old.game sent messages b)

@@ -55,10 +55,6 @@ Adds u P old new =
     (t : Station) (n : ℕ) (score : Standing)
     → Contains new (t, n, score) ↔ (Contains old (t, n, score) ⊎ ((t ≡ u) × P n score))
 
--- it is the length of a book and its score
-abbrev pub IsBookScore : ℕ → List Entry → ℕ → Standing → Type 0
-IsBookScore innings book n score = (n ≡ length book) × IsScoreOf score innings book
-
 -- the innings a side and the book of a desk that runs, and of a board
 abbrev pub desk_book : Option WorldDesk → Option (ℕ × List Entry)
 desk_book desk = option_map (λ (k : WorldDesk). (innings_of k, (λ (s : DeskState _). s.book) (state_of k))) desk
@@ -73,10 +69,10 @@ code_book world (Station.Desk d) = desk_book (code_site world d).desk
 code_book world (Station.Board zero) = None
 code_book world (Station.Board (suc i)) = board_book (slice_get world.boards.items i)
 
--- what is shown of such a book
+-- what is shown of such a book: its length and its score
 abbrev pub BookShows : Option (ℕ × List Entry) → ℕ → Standing → Type 0
 BookShows None n score = ⊥
-BookShows (Some b) n score = IsBookScore b.0 b.1 n score
+BookShows (Some b) n score = (n ≡ length b.1) × IsScoreOf score b.0 b.1
 
 abbrev pub DeskShows : Option WorldDesk → ℕ → Standing → Type 0
 DeskShows desk n score = BookShows (desk_book desk) n score

@@ -146,8 +146,7 @@ pub record PutsDown (old new : Site) : Type 0 where
 -- a device call has failed, for this cause to be told; where that was a stop, the desk is down
 abbrev pub BreaksDown : Option Fault → Cause → Site → Seen → Site → Type 0
 BreaksDown (Some Stop) cause old seen new = (seen ≡ Seen.Stopped) × PutsDown (record old { due = None }) new
-BreaksDown (Some Fail) cause old seen new = (seen ≡ Seen.Refused cause) × (new ≡ record old { due = None })
-BreaksDown None cause old seen new = (seen ≡ Seen.Refused cause) × (new ≡ record old { due = None })
+BreaksDown _ cause old seen new = (seen ≡ Seen.Refused cause) × (new ≡ record old { due = None })
 
 -- the desk has refused: it runs on, unless a device call has failed
 abbrev pub RefusedBy : Bool → DeskRefusal → Site → Seen → Site → Type 0
