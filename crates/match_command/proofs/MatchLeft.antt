@@ -1,8 +1,7 @@
 -- What is left of both disks of a match that is ended by a fault.
-use Rattle.std.proofs.Common.{arith, ◌≡◌, ℕ, List, inr, subst}
+use Rattle.std.proofs.Common.{◌≡◌, ℕ, List, inr, subst}
 use Rattle.notation.specs.declared.entry.Entry.{Entry}
 use Rattle.corrections.specs.declared.book_of.BookOf.{Ghosts as Books}
-use Rattle.entry_log.specs.Disk.{Images}
 use Rattle.entry_log.specs.Format.{contents}
 use Rattle.entry_log.specs.Version2.{version_2}
 use Rattle.entry_log.specs.declared.{disk.Disk.Ghosts as Disks, slots_of.SlotsOf.Ghosts as Files}
@@ -13,14 +12,9 @@ use Rattle.cards.specs.Sheet.{Sheet}
 use Rattle.desk.specs.declared.desk.Desk.{Desk}
 use Rattle.desk.specs.Desk.{desk_of, disk_of, game_of, view_of}
 use Rattle.match_command.specs.declared.match_run.fault.MatchFault.{MatchFault}
-use Rattle.match_command.specs.MatchRun.{HoldsEither, KeepsBook, Leaves, Stays, desk_view, votes_for}
+use Rattle.match_command.specs.MatchRun.{HoldsEither, KeepsBook, Leaves, desk_view, votes_for}
 use Rattle.match_command.specs.inner.Turns.{DiskHolds, DiskHoldsEither, LinesLeave}
 use Rattle.match_command.proofs.VoteLists.{are_for}
-
--- both disks stayed before
-pub leaves_from : {D : Type 0} (seen : D → List ℕ) (images : D → Images) (s : Sheet) (input : List ℕ) (a b a' b' x y : D) (fault : MatchFault) → Stays seen images a a' → Stays seen images b b'
-    → Leaves seen images s input fault a' b' x y → Leaves seen images s input fault a b x y
-leaves_from seen images s input a b a' b' x y fault p q l = grind arith
 
 module _ {S B D : Type 0} {g : Files S D} {h : Disks D} {b : Books B} where
   -- a desk's disk as a file of version 2 of the match

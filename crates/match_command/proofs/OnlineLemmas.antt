@@ -48,21 +48,16 @@ board_takes entries rules game k l bytes (Ok (What.Heard h)) m y s f (Vote v, sa
     board_hears entries k l v h (rw (says_once game bytes m (Vote v) y says) at s) f r.0 r.2
 board_takes entries rules game k l bytes answer m y s f t = grind arith
 
--- one entry more
-said_more : (game : ℕ) (entries : List Entry) (e : Entry) (p : Passed) → IsSaid game entries p → IsSaid game (entries ++ e ∷ []) p
-said_more game entries e p s = grind (arith, slice_get-more entries (e ∷ []))
-
-follows_more : (entries : List Entry) (e : Entry) (k : BoardState) → Follows entries k → Follows (entries ++ e ∷ []) k
-follows_more entries e k f =
-    grind (arith, slice_get-more entries (e ∷ []), take-append-le (length k.book) entries (e ∷ []), length-take (length k.book) entries, ap length f.book)
-
 module _ (game : ℕ) (start : List Passed) where
+  -- one entry more
   pub more : (entries : List Entry) (e : Entry) (log : List Passed) (k : BoardState) → IsOnline game start entries log k → IsOnline game start (entries ++ e ∷ []) log k
   more entries e log k o = record {
     passed = o.passed;
     since = o.since;
-    said = λ i d lt. said_more game entries e _ (o.said i d lt);
-    follows = λ g. follows_more entries e k (o.follows g);
+    said = λ i d lt. grind (arith, o.said i d lt, slice_get-more entries (e ∷ []));
+    follows = λ g.
+        let f = o.follows g in
+        grind (arith, f, slice_get-more entries (e ∷ []), take-append-le (length k.book) entries (e ∷ []), length-take (length k.book) entries, ap length f.book);
   }
 
   -- what was said since

@@ -1,11 +1,11 @@
 -- What each call of a desk keeps of its turn, whatever it is given.
-use Rattle.std.proofs.Common.{◌≡◌, ◌<◌, ◌≤◌, ℕ, ◌+◌, false, None, List, [], ◌∷◌, ◌++◌, length, refl, sym, ap, ◌∙◌, subst, inl, inr, ◌⊎◌, arith, length-append, Result, Ok, Err}
+use Rattle.std.proofs.Common.{◌≡◌, ◌<◌, ◌≤◌, ℕ, ◌+◌, None, List, [], ◌∷◌, ◌++◌, length, sym, ap, ◌∙◌, subst, inl, inr, ◌⊎◌, arith, length-append, Result, Ok, Err}
 use Rattle.std.specs.Prelude.{IfErr, OnOk}
 use Rattle.std.specs.List.{All}
 use Rattle.std.proofs.lemmas.Bool.Decides.{nat_tests}
 use Rattle.std.proofs.lemmas.Grind.{length_at_push}
 use Rattle.std.proofs.lemmas.List.Elements.{All-append, All-cons, All-nil}
-use Rattle.notation.specs.declared.entry.{Entry.Entry, TheConstants.PLACES}
+use Rattle.notation.specs.declared.entry.{Entry.Entry}
 use Rattle.corrections.specs.declared.book_of.BookOf.{Ghosts as Books}
 use Rattle.corrections.proofs.LegalLemmas.{slice_get-last}
 use Rattle.entry_log.specs.Blame.{BlamesDisk}
@@ -13,11 +13,11 @@ use Rattle.entry_log.specs.declared.{disk.Disk.Ghosts as Disks, slots_of.SlotsOf
 use Rattle.agree_core.specs.declared.{messages.Ask.Ask, messages.DeskId.DeskId, messages.Message.Message, messages.Vote.Vote}
 use Rattle.agree_core.specs.declared.seat.{Heard.Heard, Settled.Settled}
 use Rattle.agree_core.specs.Ballots.{Ballot}
-use Rattle.agree_core.specs.Desks.{CastsAndStores, DeskState, Pens, Replies, Ticks, book_after, book_heard, next_ballot}
+use Rattle.agree_core.specs.Desks.{CastsAndStores, DeskState, Pens, Replies, Ticks, book_heard, next_ballot}
 use Rattle.agree_core.specs.Desks as desks
 use Rattle.agree_core.specs.FileView.{FileView, Holds, MayHold, Stays}
 use Rattle.agree_core.specs.Openings.{Creates}
-use Rattle.agree_core.specs.Seats.{Casts, Hears, SeatState}
+use Rattle.agree_core.specs.Seats.{Hears, SeatState}
 use Rattle.wire.specs.declared.what.What.{What}
 use Rattle.wire.specs.Sent.{AreSent}
 use Rattle.desk.specs.declared.{desk.Desk.Desk, desk.Penned.Penned, refusal.Refusal.Refusal as PenRefusal}
@@ -27,17 +27,16 @@ use Rattle.desk.specs.Takes.{Takes}
 use Rattle.vote_store.specs.View.{file_view}
 use Rattle.match_command.specs.MatchRun.{HoldsEither, votes_for}
 use Rattle.cards.specs.Sheet.{Sheet, plain_sheet}
-use Rattle.books.specs.Taking.{answer_to, is_full, taking, with_taken}
+use Rattle.books.specs.Taking.{answer_to, taking, with_taken}
 use Rattle.match_command.specs.declared.match_run.fault.MatchFault.{MatchFault}
 use Rattle.live.specs.Desks.{Calls, DeskCall, Given, Ticked, receivers_of}
 use Rattle.live.specs.Ends.{end_at, further}
 use Rattle.links.specs.Passed.{Passed}
-use Rattle.live.specs.declared.ends.DeskEnd.{DeskEnd}
 use Rattle.board.specs.declared.board.Board.{Board}
 use Rattle.board.specs.Board as boards
 use Rattle.board.specs.Board.{SameMatch}
 use Rattle.match_command.specs.inner.Online.{IsOnline, SpeaksOf, StaysOnline}
-use Rattle.match_command.specs.inner.Turns.{AreCalm, AreLevel, DiskHolds, DiskHoldsEither, GoesWith, InTurn, IsCalm, IsInTurn, IsLevel, KeepsDisk}
+use Rattle.match_command.specs.inner.Turns.{AreCalm, AreLevel, DiskHolds, DiskHoldsEither, GoesWith, InTurn, IsInTurn, IsLevel, KeepsDisk}
 use Rattle.match_command.specs.inner.Turns.{KeepsOnline, KeepsTurn, LineLeaves, PenLeaves, VotesFor, WhyNotAgreed, board_at, book_at, innings_at, pen_fault}
 use Rattle.match_command.proofs.OnlineLemmas.{more, out_said, says_more}
 use Rattle.match_command.proofs.VoteLists.{are_for, votes_last}
@@ -45,9 +44,6 @@ use Rattle.match_command.proofs.VoteLists.{are_for, votes_last}
 -- a seat whose book has all entries is in the first round, and has no vote that waits
 level_free : (book : List Entry) (seat : SeatState) → GoesWith book seat book → (seat.position.round ≡ 0) × (seat.mine ≡ None)
 level_free book seat g = grind (arith, length_at_push {X = Entry})
-
-cast : (s t : SeatState) (book : List Entry) (e : Entry) (settled : Settled) → GoesWith book s book → Casts s e settled t → GoesWith (book ++ e ∷ []) t (book_after settled book e)
-cast s t book e settled g c = grind (arith, level_free book s g, length_at_push {X = Entry})
 
 hears : (entries book : List Entry) (s t : SeatState) (v : Vote) (h : Heard) → GoesWith entries s book → Hears s v h t → GoesWith entries t (book_heard h book v.entry)
 hears entries book s t v h g c = grind (arith, length_at_push {X = Entry})
@@ -63,7 +59,7 @@ module _ {Disk : Type 0} (view : FileView Disk) where
   -- the vote is cast and stored
   pub casts : (k l : DeskState Disk) (e : Entry) (settled : Settled) → IsInTurn view k.book k → CastsAndStores view k e settled l
       → IsInTurn view (k.book ++ e ∷ []) l
-  casts k l e settled t c = grind (arith, next_vote k e t, cast k.seat l.seat k.book e settled t.goes c.0)
+  casts k l e settled t c = grind (arith, next_vote k e t, level_free k.book k.seat t.goes, length_at_push {X = Entry})
 
   -- the vote may be stored or not
   pub may_cast : (k : DeskState Disk) (disk : Disk) (e : Entry) → IsInTurn view k.book k → MayHold view disk k.votes (next_ballot k e)
@@ -90,16 +86,9 @@ module _ {Disk : Type 0} (view : FileView Disk) where
   went game entries k l bytes (What.Bad fault) out n r t = rw (r.2, r.3) (t, All-nil (SpeaksOf entries))
   went game entries k l bytes what out n r t = absurd (grind arith)
 
-  runs_on : (game : ℕ) (k l : DeskState Disk) (bytes : List ℕ) (what : What) (out : List Message) → end_at what ≡ further
-      → Takes view game k bytes what l out → l.failed ≡ k.failed
-  runs_on game k l bytes what out n r = grind arith
-
   -- what it says unasked is of its entries too
   pub ticks_speak : (entries : List Entry) (k : DeskState Disk) (out : List Message) → IsInTurn view entries k → Ticks k out → All (SpeaksOf entries) out
   ticks_speak entries k out t w = grind (arith, slice_get-last k.book, All-cons (SpeaksOf entries), All-append (SpeaksOf entries), All-nil (SpeaksOf entries))
-
-not_full : (book : List Entry) → length book < PLACES → is_full book ≡ false
-not_full book l = grind (arith, nat_tests)
 
 module _ {S B D : Type 0} {g : Files S D} {h : Disks D} {b : Books B} where
   same_view : (old new : Desk S B D g h b) → SameOwner old new → view_of old ≡ view_of new
@@ -107,11 +96,6 @@ module _ {S B D : Type 0} {g : Files S D} {h : Disks D} {b : Books B} where
 
   in_view : (entries : List Entry) (old new : Desk S B D g h b) → SameOwner old new → IsInTurn (view_of old) entries (state_of new) → InTurn entries new
   in_view entries old new o t = subst (λ (v : FileView D). IsInTurn v entries (state_of new)) (same_view old new o) t
-
-  -- no fault is met at a calm disk
-  pub meets_none : (old new : Desk S B D g h b) (bytes : List ℕ) (what : What) (before after : List Passed) (end : DeskEnd) → ((s : Sheet) → Calls s old new (Given bytes what) before after)
-      → end_at what ≡ Err end → IsCalm old → ⊥
-  meets_none old new bytes what before after end f e q = let c = f (plain_sheet 0 1) in (c.blame q.running).calm q.never q.room (grind (arith, e))
 
   called_online : (s : Sheet) (old new : Desk S B D g h b) (call : DeskCall) (entries : List Entry) (before after : List Passed)
       (c : Calls s old new call before after) → All (SpeaksOf entries) c.out → StaysOnline (game_of old) entries before after
@@ -125,7 +109,7 @@ module _ {S B D : Type 0} {g : Files S D} {h : Disks D} {b : Books B} where
   given old new bytes what before after f n =
       let c = f (plain_sheet 0 1) in
       let o = c.same in
-      let runs = runs_on (view_of old) (game_of old) (state_of old) (state_of new) bytes what c.out n c.step in
+      let runs : (state_of new).failed ≡ (state_of old).failed = grind (arith, n, c.step) in
       let w = λ (entries : List Entry). went (view_of old) (game_of old) entries (state_of old) (state_of new) bytes what c.out n c.step in (
         record {
           turn = λ entries t. in_view entries old new o (w entries t).0;
@@ -146,7 +130,7 @@ module _ {S B D : Type 0} {g : Files S D} {h : Disks D} {b : Books B} where
       AreSent (game_of old) (sent told) (λ out. Pens (view_of old) (rules_of old) (state_of old) e (pen_answer told) (state_of new) out)
 
   takes_entry : (old : Desk S B D g h b) (e : Entry) → IsLevel old → desks.MayPen (rules_of old) (state_of old) e → taking (innings_at old) (book_at old) e ≡ Ok e
-  takes_entry old e l may = rw (not_full (book_at old) (omega (arith, l.goes.place, may.1.0.0)), may.2) refl
+  takes_entry old e l may = grind (arith, nat_tests, l.goes.place, may)
 
   -- it has penned an entry
   pub voted : (old new : Desk S B D g h b) (e : Entry) (penned : Penned) → IsLevel old → SameOwner old new → PenSteps old e (Ok penned) new
@@ -201,22 +185,33 @@ module _ {S B D : Type 0} {g : Files S D} {h : Disks D} {b : Books B} where
   settled : (book : List Entry) (e : Entry) (desk : Desk S B D g h b) → InTurn (book ++ e ∷ []) desk → length book < length (book_at desk) → book_at desk ≡ book ++ e ∷ []
   settled book e desk t l = grind (arith, t.goes, length-append {A = Entry})
 
-  -- both desks have penned a line, and all three stations have agreed it
-  pub agreed : (r : Result (Unit {0}) MatchFault) (a a1 a2 b0 b1 b2 : Desk S B D g h b) (k l : Board B b) (e : Entry) (place : ℕ) → AreLevel a b0 k → VotesFor e a a1 → VotesFor e b0 b1
-      → SameOwner a a1 → SameOwner b0 b1 → place ≡ length (book_at a) →
-      KeepsDisk a1 a2 → KeepsDisk b1 b2 → OnOk r (KeepsTurn a1 a2) → OnOk r (KeepsTurn b1 b2) → OnOk r (SameMatch b.innings_a_side k l) →
-      OnOk r (place < length (book_at a2)) → OnOk r (place < length (book_at b2)) → OnOk r (place < length (b.content (boards.book_of l))) →
-      OnOk r (AreLevel a2 b2 l × (book_at a2 ≡ book_at a ++ e ∷ []) × (AreCalm a b0 → AreCalm a2 b2))
-  agreed (Err why) a a1 a2 b0 b1 b2 k l e place level va vb oa ob at da db ka kb same la lb lk = tt
-  agreed (Ok done) a a1 a2 b0 b1 b2 k l e place level va vb oa ob at da db ka kb same la lb lk =
-      let turn_a = ka.turn (book_at a ++ e ∷ []) va.turn in
+  -- what comes of a line that both desks have penned, and all three stations have agreed
+  pub record Agreed (a b0 a2 b2 : Desk S B D g h b) (k l : Board B b) (e : Entry) (log new : List Passed) : Type 0 where
+    pub level : AreLevel a2 b2 l
+    pub book : book_at a2 ≡ book_at a ++ e ∷ []
+    pub calm : AreCalm a b0 → AreCalm a2 b2
+    pub online : (start : List Passed) → IsOnline (game_of a) start (book_at a) log (board_at k) → IsOnline (game_of a) start (book_at a2) new (board_at l)
+
+  pub agreed : (r : Result (Unit {0}) MatchFault) (a a1 a2 b0 b1 b2 : Desk S B D g h b) (k l : Board B b) (e : Entry) (place : ℕ) (log new : List Passed) → AreLevel a b0 k → VotesFor e a a1
+      → VotesFor e b0 b1 → SameOwner a a1 → SameOwner b0 b1 → place ≡ length (book_at a) →
+      KeepsDisk a1 a2 → KeepsDisk b1 b2 → OnOk r (KeepsTurn a1 a2) → OnOk r (KeepsTurn b1 b2) → OnOk r (SameMatch b.innings_a_side k l) → OnOk r (KeepsOnline a1 b1 k l log new) →
+      OnOk r (place < length (book_at a2)) → OnOk r (place < length (book_at b2)) → OnOk r (place < length (b.content (boards.book_of l))) → OnOk r (Agreed a b0 a2 b2 k l e log new)
+  agreed (Err why) a a1 a2 b0 b1 b2 k l e place log new level va vb oa ob at da db ka kb same keeps la lb lk = tt
+  agreed (Ok done) a a1 a2 b0 b1 b2 k l e place log new level va vb oa ob at da db ka kb same keeps la lb lk =
+      let es = book_at a ++ e ∷ [] in
+      let turn_a = ka.turn es va.turn in
       let turn_b = kb.turn (book_at b0 ++ e ∷ []) vb.turn in
       let book_a = settled (book_at a) e a2 turn_a (rw at at la) in
-      let book_b = settled (book_at b0) e b2 turn_b (rw (at ∙ ap length (sym level.book)) at lb) in (
-        grind (arith, oa, ob, da.owner, db.owner, book_a, book_b, rw (← book_a) at turn_a, rw (← book_b) at turn_b, length_at_push {X = Entry}),
-        book_a,
-        λ calm. record { calm_a = ka.calm (va.calm calm.calm_a); calm_b = kb.calm (vb.calm calm.calm_b) },
-      )
+      let book_b = settled (book_at b0) e b2 turn_b (rw (at ∙ ap length (sym level.book)) at lb) in
+      record {
+        level = grind (arith, oa, ob, da.owner, db.owner, book_a, book_b, rw (← book_a) at turn_a, rw (← book_b) at turn_b, length_at_push {X = Entry});
+        book = book_a;
+        calm = λ calm. record { calm_a = ka.calm (va.calm calm.calm_a); calm_b = kb.calm (vb.calm calm.calm_b) };
+        online = λ start o.
+            let one = subst (λ (n : ℕ). IsOnline n start es log (board_at k)) (sym oa.game) (more (game_of a) start (book_at a) e log (board_at k) o) in
+            let two = keeps start es va.turn (rw level.book at vb.turn) (ob.game ∙ (level.game ∙ sym oa.game)) (level.board_game ∙ sym oa.game) one in
+            rw book_a (subst (λ (n : ℕ). IsOnline n start es new (board_at l)) oa.game two);
+      }
 
   -- the first desk hasn't penned the line's entry
   pub first_left : (a a1 b0 : Desk S B D g h b) (line : List ℕ) (e : Entry) (fault : MatchFault) → answer_to (innings_at a) (book_at a) line ≡ taking (innings_at a) (book_at a) e
@@ -242,15 +237,3 @@ module _ {S B D : Type 0} {g : Files S D} {h : Disks D} {b : Books B} where
   third_left (Err fault) a1 a2 b1 b2 book longer place (inl is) da db x y =
       rw is (either_more a2 book longer (still_holds a1 a2 longer da x), either_more b2 book longer (still_holds b1 b2 longer db y))
   third_left (Err fault) a1 a2 b1 b2 book longer place (inr is) da db x y = rw is (still_holds a1 a2 longer da x, still_holds b1 b2 longer db y)
-
-  -- and the board follows
-  pub agreed_online : (r : Result (Unit {0}) MatchFault) (a a1 a2 b0 b1 : Desk S B D g h b) (k l : Board B b) (e : Entry) (log new : List Passed) → AreLevel a b0 k → VotesFor e a a1
-      → VotesFor e b0 b1 → SameOwner a a1 → SameOwner b0 b1 →
-      OnOk r (KeepsOnline a1 b1 k l log new) → OnOk r (book_at a2 ≡ book_at a ++ e ∷ []) →
-      OnOk r ((start : List Passed) → IsOnline (game_of a) start (book_at a) log (board_at k) → IsOnline (game_of a) start (book_at a2) new (board_at l))
-  agreed_online (Err why) a a1 a2 b0 b1 k l e log new level va vb oa ob keeps book = tt
-  agreed_online (Ok done) a a1 a2 b0 b1 k l e log new level va vb oa ob keeps book = λ start o.
-      let es = book_at a ++ e ∷ [] in
-      let one = subst (λ (n : ℕ). IsOnline n start es log (board_at k)) (sym oa.game) (more (game_of a) start (book_at a) e log (board_at k) o) in
-      let two = keeps start es va.turn (rw level.book at vb.turn) (ob.game ∙ (level.game ∙ sym oa.game)) (level.board_game ∙ sym oa.game) one in
-      rw book (subst (λ (n : ℕ). IsOnline n start es new (board_at l)) oa.game two)

@@ -4,7 +4,7 @@ use Rattle.agree_core.specs.declared.messages.DeskId.{DeskId}
 use Rattle.desk.specs.Desk.{game_of}
 use Rattle.board.specs.Board.{book_of}
 use Rattle.match_command.specs.inner.Turns.{book_at}
-use Rattle.match_command.proofs.MatchLeft.{keeps_book, leaves_from, lines_left}
+use Rattle.match_command.proofs.MatchLeft.{keeps_book, lines_left}
 use Rattle.match_command.proofs.match_run.run_match.Goals as goal
 
 pub returns-in-Ok-clause-agreed : goal.returns-in-Ok-clause-agreed
@@ -31,11 +31,7 @@ returns-in-Ok-clause-agreed g c =
 
 pub returns-in_err-stations-clause-left : goal.returns-in_err-stations-clause-left
 returns-in_err-stations-clause-left g c =
-    let met = c.in_err-stations.field-0.0 in
-    let both = c.expect_both_empty.ensures in
-    let left = leaves_from g.D.Disk.seen g.D.Disk.images c.args.sheet.now c.args.input.now c.args.a c.args.b c.expect_both_empty.new.a
-    c.expect_both_empty.new.b met.1 met.2 met.0 both.stays_a both.stays_b (c.in_err-stations.ensures.left c.args.input.now) in
-    grind (arith, c.from_residual.ensures.1, left)
+    grind (arith, c.from_residual.ensures.1, c.expect_both_empty.ensures, c.in_err-stations.ensures.left c.args.input.now)
 
 pub returns-in-Err-answer-clause-left : goal.returns-in-Err-answer-clause-left
 returns-in-Err-answer-clause-left g c =

@@ -1,6 +1,6 @@
-use Rattle.std.proofs.Common.{sym}
+use Rattle.std.proofs.Common.{arith, sym}
 use Rattle.cards.specs.Sheet.{plain_sheet}
-use Rattle.match_command.proofs.TurnLemmas.{given, meets_none}
+use Rattle.match_command.proofs.TurnLemmas.{given}
 use Rattle.match_command.proofs.match_run.turns.reply.Goals as goal
 
 pub returns-in-Ok-clause-disk : goal.returns-in-Ok-clause-disk
@@ -19,4 +19,4 @@ returns-in-Ok-clause-online g c =
 
 pub returns-in-Err-clause-calm : goal.returns-in-Err-clause-calm
 returns-in-Err-clause-calm g c = λ calm device.
-    meets_none c.args.desk.now c.give-what.new.desk c.args.bytes.now c.give-what.result _ _ _ c.give-what.ensures.calls (sym c.in-Err.ensures) calm
+    ((c.give-what.ensures.calls (plain_sheet 0 1)).blame calm.running).calm calm.never calm.room (grind (arith, c.in-Err.ensures))

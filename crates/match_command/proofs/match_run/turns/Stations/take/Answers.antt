@@ -4,8 +4,8 @@ use Rattle.std.proofs.lemmas.Result.{on_ok_weaker}
 use Rattle.notation.specs.declared.entry.Entry.{Entry}
 use Rattle.desk.proofs.RestoreLemmas.{error_of}
 use Rattle.books.specs.Taking.{answer_to, taking, with_taken}
-use Rattle.match_command.specs.inner.Turns.{AreCalm, AreLevel, VotesFor, book_at, innings_at}
-use Rattle.match_command.proofs.TurnLemmas.{agreed, agreed_online, first_left, second_left, third_left}
+use Rattle.match_command.specs.inner.Turns.{VotesFor, book_at, innings_at}
+use Rattle.match_command.proofs.TurnLemmas.{Agreed, agreed, first_left, second_left, third_left}
 use Rattle.match_command.proofs.match_run.turns.Stations.take.Given.{Over}
 use Rattle.match_command.proofs.match_run.turns.Stations.take.Goals as goal
 use Rattle.match_command.proofs.match_run.turns.Stations.take.Goals.{After-agree, In_ok-pen}
@@ -19,18 +19,17 @@ more : (g : Over) (c : In_ok-pen g)
 more g c = let v = voted g c in rw (← c.in-Ok.ensures.exact, v.taken) refl
 
 -- both have penned it, and all three stations have agreed it
-all_agreed : (g : Over) (c : After-agree g) → OnOk c.agree.result (AreLevel c.agree.new.self.a c.agree.new.self.b c.agree.new.self.board
-    × (book_at c.agree.new.self.a ≡ book_at c.args.self.now.a ++ c.in-Ok.entry ∷ [])
-    × (AreCalm c.args.self.now.a c.args.self.now.b → AreCalm c.agree.new.self.a c.agree.new.self.b))
+all_agreed : (g : Over) (c : After-agree g) → OnOk c.agree.result (Agreed c.args.self.now.a c.args.self.now.b c.agree.new.self.a c.agree.new.self.b c.args.self.now.board c.agree.new.self.board
+    c.in-Ok.entry (g.L.Link.log c.args.link.now) (g.L.Link.log c.agree.new.link))
 all_agreed g c =
     let level = c.requires.level in
     let old = c.args.self.now in
     let new = c.agree.new.self in
     let a = c.agree.ensures in
     let place = c.len-place.ensures.entries ∙ ap (λ book. length book.entries) c.book.ensures in
-    agreed c.agree.result old.a c.pen.new.desk new.a old.b c.pen-2.new.desk new.b old.board new.board c.in-Ok.entry c.len-place.result level
+    agreed c.agree.result old.a c.pen.new.desk new.a old.b c.pen-2.new.desk new.b old.board new.board c.in-Ok.entry c.len-place.result _ _ level
     (c.in_ok-pen.ensures.voted level.level_a) (c.in_ok-pen-2.ensures.voted level.level_b) c.pen.ensures.owner c.pen-2.ensures.owner place
-    a.disk_a a.disk_b a.kept_a a.kept_b a.board a.at_a a.at_b a.at_board
+    a.disk_a a.disk_b a.kept_a a.kept_b a.board a.online a.at_a a.at_b a.at_board
 
 pub returns-in-Err-clause-left : goal.returns-in-Err-clause-left
 returns-in-Err-clause-left g c = let level = c.requires.level in (level.level_a.held, rw level.book at level.level_b.held)
@@ -65,21 +64,15 @@ returns-clause-left g c =
     c.len-place.result a.only a.disk_a a.disk_b va.turn.held (rw level.book at vb.turn.held))
 
 pub returns-clause-level : goal.returns-clause-level
-returns-clause-level g c = on_ok_weaker c.agree.result (λ both. both.0) (all_agreed g (goal.at.returns-clause-level g c).After-agree)
+returns-clause-level g c = on_ok_weaker c.agree.result (λ all. all.level) (all_agreed g (goal.at.returns-clause-level g c).After-agree)
 
 pub returns-clause-calm_still : goal.returns-clause-calm_still
-returns-clause-calm_still g c = on_ok_weaker c.agree.result (λ both. both.2) (all_agreed g (goal.at.returns-clause-calm_still g c).After-agree)
+returns-clause-calm_still g c = on_ok_weaker c.agree.result (λ all. all.calm) (all_agreed g (goal.at.returns-clause-calm_still g c).After-agree)
 
 pub returns-clause-book : goal.returns-clause-book
 returns-clause-book g c =
     let is = sym (more g (goal.at.returns-clause-book g c).In_ok-pen) in
-    on_ok_weaker c.agree.result (λ both. both.1 ∙ is) (all_agreed g (goal.at.returns-clause-book g c).After-agree)
+    on_ok_weaker c.agree.result (λ all. all.book ∙ is) (all_agreed g (goal.at.returns-clause-book g c).After-agree)
 
 pub returns-clause-online : goal.returns-clause-online
-returns-clause-online g c =
-    let old = c.args.self.now in
-    let level = c.requires.level in
-    let at = goal.at.returns-clause-online g c in
-    agreed_online c.agree.result old.a c.pen.new.desk c.agree.new.self.a old.b c.pen-2.new.desk old.board c.agree.new.self.board c.in-Ok.entry _ _ level
-    (voted g at.In_ok-pen) (c.in_ok-pen-2.ensures.voted level.level_b) c.pen.ensures.owner c.pen-2.ensures.owner c.agree.ensures.online
-    (on_ok_weaker c.agree.result (λ both. both.1) (all_agreed g at.After-agree))
+returns-clause-online g c = on_ok_weaker c.agree.result (λ all. all.online) (all_agreed g (goal.at.returns-clause-online g c).After-agree)
