@@ -1,8 +1,7 @@
-use Rattle.std.proofs.Common.{◌≡◌, ◌+◌, ℕ, List, [], ◌∷◌, ◌++◌, arith, refl, ap, ◌∙◌, length, Option, Bool, false, not, ◌||◌, append-nil, append_assoc, subst}
+use Rattle.std.proofs.Common.{◌≡◌, ◌+◌, ℕ, List, [], ◌∷◌, ◌++◌, arith, refl, ap, ◌∙◌, length, Option, Bool, not, ◌||◌, append-nil, append_assoc, subst}
 use Rattle.std.specs.Io.KnownBytes.{Appends}
 use Rattle.books.specs.declared.table.Table.{Table}
 use Rattle.corrections.specs.CleanList.{history_of}
-use Rattle.notation.specs.Lines.{lines_of}
 use Rattle.streams.specs.Watched.{stream_of}
 use Rattle.cards.specs.Board.{board}
 use Rattle.books.specs.Table.{IsInStep, agreed_in, innings_in}
@@ -12,19 +11,6 @@ use Rattle.streams.proofs.Appending.{appends_none, appends_both, appends_kept}
 use Rattle.notation.proofs.Cuts.{length-lines_of}
 use Rattle.check_command.proofs.check.check_lines.Invariants.{Midway}
 use Rattle.check_command.proofs.check.check_lines.Goals as goal
-
-start : (input : List ℕ) (lines : List (List ℕ)) (table : Table) (o : Option (List ℕ)) → lines ≡ lines_of input → IsInStep table → agreed_in table ≡ [] →
-    Midway (innings_in table) input lines 0 false table o o
-start input lines table o e in_step none = record {
-  numbered = omega (arith, ap length e);
-  in_step = in_step;
-  same_match = refl;
-  taken = rw (none, e) refl;
-  text = [];
-  written = appends_none o;
-  whole = rw (none, e) refl;
-  told = rw (none, e) refl;
-}
 
 module _
     {innings n : ℕ} {input : List ℕ} {lines : List (List ℕ)} {rejected : Bool} {old : Table} {o p : Option (List ℕ)}
@@ -55,7 +41,19 @@ module _
     finish q none wrote = rw (← m.whole, ← m.taken, none, append-nil) (appends_both o p q m.text (board_of_book innings (agreed_in old)) m.written wrote)
 
 pub loop-line-init : goal.loop-line-init
-loop-line-init g c = (start c.args.input.now c.new-lines.result c.args.table.now _ c.new-lines.ensures c.requires.in_step c.requires.empty, refl)
+loop-line-init g c = (
+  record {
+    numbered = omega (arith, ap length c.new-lines.ensures);
+    in_step = c.requires.in_step;
+    same_match = refl;
+    taken = rw (c.requires.empty, c.new-lines.ensures) refl;
+    text = [];
+    written = appends_none (g.W.Sink.contents (stream_of c.args.out.now));
+    whole = rw (c.requires.empty, c.new-lines.ensures) refl;
+    told = rw (c.requires.empty, c.new-lines.ensures) refl;
+  },
+  refl,
+)
 
 pub overflow_add-number : goal.overflow_add-number
 overflow_add-number g c = omega (arith, c.loop-line.invariant.0.numbered, length-lines_of c.args.input.now, c.requires.short)
