@@ -1,5 +1,5 @@
 -- Texts that are numbered, one more of them; and a last call that writes nothing.
-use Rattle.std.proofs.Common.{◌≡◌, ℕ, zero, suc, ◌+◌, ◌<◌, List, [], ◌∷◌, ◌++◌, length, take, map, slice_index_or, Option, Result, Ok, Err, refl, sym, ap, arith}
+use Rattle.std.proofs.Common.{◌≡◌, ℕ, zero, suc, ◌+◌, ◌<◌, List, [], ◌∷◌, ◌++◌, length, take, map, slice_index_or, Option, Result, refl, ap, arith}
 use Rattle.std.proofs.Common.{append-nil, append_assoc, zero-add}
 use Rattle.std.specs.Prelude.{OnOk}
 use Rattle.std.specs.Io.KnownBytes.{Appends, Keeps}
@@ -12,14 +12,11 @@ module _ {X : Type 0} (text : ℕ → X → List ℕ) where
   numbered_next n [] i d x less e = absurd (omega arith)
   numbered_next n (y ∷ ys) zero d x less e = rw (append-nil (text n y), zero-add, e) refl
   numbered_next n (y ∷ ys) (suc i) d x less e =
-      let at : suc i + n ≡ i + (n + 1) = omega arith in
-      let more : suc i + 1 ≡ suc (i + 1) = omega arith in
-      rw (more, at, numbered_next (n + 1) ys i d x (omega arith) e) (sym (append_assoc (text n y) (numbered text (n + 1) (take i ys)) (text (i + (n + 1)) x)))
+      grind (arith, numbered_next (n + 1) ys i d x (omega arith) e, append_assoc (text n y) (numbered text (n + 1) (take i ys)) (text (i + (n + 1)) x))
 
   pub numbered_map : {Y : Type 0} (f : Y → X) (n : ℕ) (ys : List Y) → numbered text n (map f ys) ≡ numbered (λ m y. text m (f y)) n ys
   numbered_map f n [] = refl
   numbered_map f n (y ∷ ys) = ap (λ (u : List ℕ). text n (f y) ++ u) (numbered_map f (n + 1) ys)
 
 pub kept_last : {T E : Type 0} (r : Result T E) (o p q : Option (List ℕ)) (ts : List ℕ) → Appends o p ts → Keeps p q → OnOk r (Appends o q ts)
-kept_last (Ok _) o p q ts a k = appends_kept o p q ts a k
-kept_last (Err _) o p q ts a k = tt
+kept_last r o p q ts a k = grind (arith, appends_kept o p q ts a k)
