@@ -19,7 +19,7 @@ use Rattle.agree_core.proofs.Order.{one_vote}
 use Rattle.agree_core.proofs.Settling.{none_later}
 use Rattle.progress.proofs.Near.{any, ordered, stands}
 
-at_itself : (p : Position) → is_at p p ≡ true
+pub at_itself : (p : Position) → is_at p p ≡ true
 at_itself p = grind (arith, nat_tests)
 
 not_at : (p q : Position) → Before q p → is_at p q ≡ false

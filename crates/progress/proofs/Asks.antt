@@ -1,5 +1,5 @@
 -- No ask is for a position that the other desk has passed without voting there.
-use Rattle.std.proofs.Common.{◌≡◌, ℕ, Bool, true, false, List, [], ◌∷◌, ◌++◌, refl, sym, ap, ◌∙◌, subst, inl, inr, arith}
+use Rattle.std.proofs.Common.{◌≡◌, ℕ, Bool, true, false, List, [], ◌∷◌, ◌++◌, sym, ap, ◌∙◌, subst, arith}
 use Rattle.std.specs.Prelude.{◌&&◌, not}
 use Rattle.std.proofs.lemmas.Bool.Decides.{nat_tests}
 use Rattle.notation.specs.declared.entry.Entry.{Entry}
@@ -10,7 +10,7 @@ use Rattle.agree_core.specs.Ballots.{AllVotes, Ballot, In, VotesGrow, votes_by}
 use Rattle.agree_core.specs.Boards.{BoardState}
 use Rattle.agree_core.specs.Desks.{DeskState}
 use Rattle.agree_core.specs.Keeping.{Each, SeatFine}
-use Rattle.agree_core.specs.LostLines.{is_at, is_before, is_voted}
+use Rattle.agree_core.specs.LostLines.{is_before, is_voted}
 use Rattle.agree_core.specs.Positions.{Before}
 use Rattle.agree_core.specs.Readers.{other}
 use Rattle.agree_core.specs.Seats.{SeatState}
@@ -26,6 +26,7 @@ use Rattle.headline.specs.Steps.{StepAt}
 use Rattle.headline.proofs.BoardKeeping.{each_append, each_other, item_at}
 use Rattle.headline.proofs.Keeping.{Fine, Grows, all_justified, begins_fine, run_keeps, step_at_keeps}
 use Rattle.progress.specs.Progress.{NonePassedOver}
+use Rattle.progress.proofs.Another.{at_itself}
 use Rattle.progress.proofs.Boards.{AllRounds, begins_rounds, rounds_of, run_rounds}
 use Rattle.progress.proofs.CalmRuns.{sent_set}
 use Rattle.progress.proofs.Rounds.{RoundsFine, passed, rounds_grow, rounds_of_seat}
@@ -83,17 +84,12 @@ module _ {Disk Why : Type 0} (s : Setting Disk Why) where
   before_when : (p q : Position) → is_before p q ≡ true → Before p q
   before_when p q e = grind (arith, nat_tests, e)
 
-  at_itself : (p : Position) → is_at p p ≡ true
-  at_itself p = grind (arith, nat_tests)
-
   voted_when : (votes : List Ballot) (p : Position) (e : Entry) → In (record { at = p; entry = e }) votes → is_voted votes p ≡ true
   voted_when [] p e i = absurd i
-  voted_when (b ∷ bs) p e (inl q) = grind (arith, at_itself)
-  voted_when (b ∷ bs) p e (inr i) = grind (arith, (voted_when bs p e i))
+  voted_when (b ∷ bs) p e i = grind (arith, at_itself, (voted_when bs p e))
 
   not_passed_over : (a b : Bool) → (a ≡ true → b ≡ true) → (a && not b) ≡ false
-  not_passed_over false b h = refl
-  not_passed_over true b h = let e = h refl in grind (arith, e)
+  not_passed_over a b h = grind arith
 
   pub none_passed_over : (version : FileVersion) (boards : ℕ) (w : Configuration Disk) (ms : List (Moment Disk Why)) → Begins s version boards w → Run s w ms
       → NonePassedOver (last_of w ms)

@@ -30,8 +30,7 @@ in_range_or_full p = grind arith
 -- a full position has no votes
 pub none_full : (theirs votes : List Ballot) (p : Position) → Justified theirs votes → IsFull p → NoVote votes p
 none_full theirs [] p j full f i = i
-none_full theirs (b ∷ bs) p j full f (inl e) = absurd (grind arith)
-none_full theirs (b ∷ bs) p j full f (inr i) = none_full theirs bs p j.2 full f i
+none_full theirs (b ∷ bs) p j full f i = grind (arith, (none_full theirs bs p j.2 full f))
 
 -- where a station is, and what it has noted there of a desk
 pub record Ear : Type 0 where

@@ -6,7 +6,7 @@ use Rattle.agree_core.specs.Desks.{DeskState, PenAnswer, Pens, ReceiveAnswer, Re
 use Rattle.agree_core.specs.FileView.{FileView}
 use Rattle.headline.specs.declared.{event.Event.Event, event.Station.Station, fault.Fault.Fault}
 use Rattle.headline.specs.Answers.{Answer}
-use Rattle.headline.specs.Configurations.{Configuration, Node, Process, Running, node, with_disk}
+use Rattle.headline.specs.Configurations.{Configuration, Node, Running, node}
 use Rattle.headline.specs.DeskAnswers.{AfterPen, AfterReceive}
 use Rattle.headline.specs.DeskFaults.{FallsDue}
 use Rattle.headline.specs.DeskSteps.{AtDesk}
@@ -29,9 +29,7 @@ module _ {Disk Why : Type 0} (s : Setting Disk Why) where
   receives_still view x y k l m told answer out t p a = (l, grind arith, grind arith)
 
   falls_still : (view : FileView Disk) (x y : Node Disk) (k : DeskState Disk) (fault : Fault) → x.process ≡ Running k → FallsDue view fault x y → Still k y
-  falls_still view x y k fault runs p =
-      let q : y.process ≡ with_disk (Running k) p.0 = ap (λ (z : Node Disk). z.process) p.2 ∙ ap (λ (z : Process Disk). with_disk z p.0) runs in
-      (record k { disk = p.0 }, q, refl)
+  falls_still view x y k fault runs p = (record k { disk = p.0 }, grind arith, refl)
 
   at_desk_still : (sent : List Message) (d : DeskId) (event : Event) (x y : Node Disk) (k : DeskState Disk) (answer : Answer Why) (out : List Message)
       → x.process ≡ Running k → k.failed ≡ true → station_of event ≡ Station.Desk d → (event ≢ Event.Kill d) → ((choice : _) → event ≢ Event.Power d choice)

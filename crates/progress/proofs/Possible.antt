@@ -77,7 +77,7 @@ listens r v = elim (ordered (position_of v) r.position) [
       | inr d ↦ inl (Heard.Differ, reading (next_round r.position), (at, q, (e, m, d), refl), λ e. cc)
     ]
 
-stays : {Disk : Type 0} → (view : FileView Disk) (disk : Disk) → Stays view disk disk
+pub stays : {Disk : Type 0} → (view : FileView Disk) (disk : Disk) → Stays view disk disk
 stays view disk = (refl, λ image. (λ i. i, λ i. i))
 
 get_some : {X : Type 0} → (xs : List X) (n : ℕ) → n < length xs → (x : X) × (slice_get xs n ≡ Some x)

@@ -43,13 +43,11 @@ rounds_grow v w g p h round less =
     (d.0, d.1, g.0 (ballot_at p.place round d.0) d.2, g.1 (ballot_at p.place round d.1) d.3, d.4)
 
 pub one_round_more : (v : AllVotes) (p : Position) → RoundsFine v p → DifferedIn v p.place p.round → RoundsFine v (next_round p)
-one_round_more v p h d round less = elim (split round p.round less) [
+one_round_more v p h d round less = elim (compare round p.round) [
   | inl l ↦ h round l
-  | inr e ↦ subst (DifferedIn v p.place) (sym e) d
+  | inr (inl e) ↦ subst (DifferedIn v p.place) (sym e) d
+  | inr (inr more) ↦ absurd (omega (arith, less, more))
 ]
-  where
-    split : (r q : ℕ) → r < q + 1 → (r < q) ⊎ (r ≡ q)
-    split r q l = grind arith
 
 -- so it is of a position at which a desk may vote next
 rounds_followed : (own theirs prev : List Ballot) (c : Ballot) → Follows theirs c prev → Within prev own → Justified theirs prev → (round : ℕ) → round < c.at.round

@@ -50,21 +50,20 @@ pub has_cast : (theirs own : List Ballot) (book : List Entry) (p : Position) (mi
     → MineFine theirs own book p mine → In (record { at = p; entry = e }) own
 has_cast theirs own book p mine e q m = grind arith
 
+pub not_cast_there : (d : DeskId) (own theirs : List Ballot) (s : SeatState) (book : List Entry) → SeatFine d own theirs s book → NoVote own s.position → s.mine ≡ None
+not_cast_there d own theirs s book f n = turn s.mine refl
+  where
+    turn : (o : Option Entry) → s.mine ≡ o → s.mine ≡ None
+    turn None e = e
+    turn (Some x) e = absurd (n x (has_cast theirs own book s.position s.mine x e f.mine))
+
 module _ (a b : List Ballot) (s t : SeatState) (xs ys : List Entry) (fs : SeatFine A a b s xs) (ft : SeatFine B b a t ys)
     (cs : Caught b s) (ct : Caught a t) where
   pub one_position : s.position ≡ t.position
-  one_position = elim (never_far a b s t xs ys fs ft) [
-    | inl e ↦ e
-    | inr (inl n) ↦ absurd (not_behind b s t.position cs n)
-    | inr (inr n) ↦ absurd (not_behind a t s.position ct n)
-  ]
+  one_position = grind (arith, not_behind, never_far a b s t xs ys fs ft)
 
   pub one_waits : (s.mine ≡ None) ⊎ (t.mine ≡ None)
-  one_waits = elim cs [ inl n ↦ inl n | inr n ↦ inr (turn n t.mine refl) ]
-    where
-      turn : NoVote b s.position → (o : Option Entry) → t.mine ≡ o → t.mine ≡ None
-      turn n None e = e
-      turn n (Some e) q = absurd (n e (subst (λ (p : Position). In (record { at = p; entry = e }) b) (sym one_position) (has_cast a b ys t.position t.mine e q ft.mine)))
+  one_waits = elim cs [ inl n ↦ inl n | inr n ↦ inr (not_cast_there B b a t ys ft (subst (NoVote b) one_position n)) ]
 
 not_moved : (theirs : List Ballot) (s t : SeatState) → t.position ≡ s.position → Done theirs (ear s) (ear t) → Knows (ear t) ⊎ NoVote theirs t.position
 not_moved theirs s t e h4 = grind (arith, not_before)
@@ -80,13 +79,6 @@ back_back p q r h3 n = grind arith
 -- whose vote isn't cast has none there
 pub not_voted : (d : DeskId) (own theirs : List Ballot) (s : SeatState) (book : List Entry) → SeatFine d own theirs s book → s.mine ≡ None → NoVote own s.position
 not_voted d own theirs s book f n e i = grind (arith, not_before, before_next, not_cast)
-
-pub not_cast_there : (d : DeskId) (own theirs : List Ballot) (s : SeatState) (book : List Entry) → SeatFine d own theirs s book → NoVote own s.position → s.mine ≡ None
-not_cast_there d own theirs s book f n = turn s.mine refl
-  where
-    turn : (o : Option Entry) → s.mine ≡ o → s.mine ≡ None
-    turn None e = e
-    turn (Some x) e = absurd (n x (has_cast theirs own book s.position s.mine x e f.mine))
 
 -- what stands against a pen, by the position and the book
 may_pen : {Disk Why : Type 0} (rules : Rules Why) (d : DeskId) (own theirs : List Ballot) (k : DeskState Disk) (p : Position) (book : List Entry) (e : Entry) → SeatFine d own theirs k.seat k.book
@@ -104,8 +96,7 @@ module _ {Disk Why : Type 0} (s : Setting Disk Why) where
   steady w f u = record { fine = f; up = up }
     where
       up : (d : DeskId) → (k : DeskState Disk) × IsUp (node w d) k × (k.votes ≡ votes_by (all_votes w) d)
-      up A = let r = (u A).1.runs in ((u A).0, (u A).1, grind (arith, r))
-      up B = let r = (u B).1.runs in ((u B).0, (u B).1, grind (arith, r))
+      up d = let r = (u d).1.runs in ((u d).0, (u d).1, grind (arith, r))
 
   -- at one configuration
   module _ (v : AllVotes) (w : Configuration Disk) (st : Steady s v w) where

@@ -11,8 +11,8 @@ use Rattle.agree_core.specs.Desks.{DeskState, ReceiveAnswer, ask_for}
 use Rattle.agree_core.specs.Readers.{other}
 use Rattle.headline.specs.Configurations.{node}
 use Rattle.progress.proofs.CalmSteps.{one_process}
+use Rattle.progress.proofs.Possible.{stays}
 use Rattle.agree_core.specs.Positions.{first}
-use Rattle.agree_core.specs.FileView.{Stays}
 use Rattle.agree_core.specs.WorkedSteps.{Shown, says, shows, waits}
 use Rattle.headline.specs.declared.event.{Station.Station}
 use Rattle.headline.specs.Runs.{Run}
@@ -20,9 +20,6 @@ use Rattle.progress.specs.Exchange.{Exchange, HandsOut, IsAnswered, Reaches}
 use Rattle.progress.specs.Calm.{IsUp}
 use Rattle.progress.specs.InStep.{EachKnows}
 use Rattle.progress.specs.WorkedExchange.{WorkedExchange, a_answers, a_ticks, all_said, answer_given, ask_given, at, b_ticks, both_said, exchanged, heard, unheard, up, vote_given, worked}
-
-stays : (disk : Shown) → Stays shows disk disk
-stays disk = (refl, λ image. (λ i. i, λ i. i))
 
 differ : A ≢ B
 differ e = cc
@@ -37,28 +34,24 @@ module _ {Why : Type 0} (rules : Rules Why) (e : Entry) where
             (tt, (up (waits e), _, (waits e, refl, inl (refl, (omega arith, omega arith), refl), refl, refl), refl)),
             (up unheard, _, (unheard, refl, inl (refl, (omega arith, omega arith), refl), refl, refl), refl),
           ),
-          (up (heard e), [], (unheard, heard e, _, ReceiveAnswer.Told Heard.Noted, refl, inl refl, (refl, ((differ, refl), refl, refl, refl), stays _, refl, refl), (refl, refl)), refl),
+          (up (heard e), [], (unheard, heard e, _, ReceiveAnswer.Told Heard.Noted, refl, inl refl, (refl, ((differ, refl), refl, refl, refl), stays shows _, refl, refl), (refl, refl)), refl),
         ),
-        (up (heard e), [], (heard e, heard e, _, ReceiveAnswer.Asked, refl, inl refl, (refl, (stays _, refl), inr (λ f i. i, refl)), (refl, refl)), refl),
+        (up (heard e), [], (heard e, heard e, _, ReceiveAnswer.Asked, refl, inl refl, (refl, (stays shows _, refl), inr (λ f i. i, refl)), (refl, refl)), refl),
       ),
-      (up (waits e), _, (waits e, waits e, _, ReceiveAnswer.Asked, refl, inl refl, (refl, (stays _, refl), inl (e, inl refl, refl)), (refl, refl)), refl),
+      (up (waits e), _, (waits e, waits e, _, ReceiveAnswer.Asked, refl, inl refl, (refl, (stays shows _, refl), inl (e, inl refl, refl)), (refl, refl)), refl),
     ),
-    (up (heard e), [], (heard e, heard e, _, ReceiveAnswer.Told Heard.Again, refl, inl refl, (refl, ((differ, refl), refl, refl), stays _, refl, refl), (refl, refl)), refl),
+    (up (heard e), [], (heard e, heard e, _, ReceiveAnswer.Told Heard.Again, refl, inl refl, (refl, ((differ, refl), refl, refl), stays shows _, refl, refl), (refl, refl)), refl),
   )
 
   none : (reply : Message) (n : ℕ) → 3 ≤ n → slice_get (both_said e) n ≡ Some reply → {Z : Type 0} → Z
-  none reply zero low get = absurd (omega (arith, low))
-  none reply (suc zero) low get = absurd (omega (arith, low))
-  none reply (suc (suc zero)) low get = absurd (omega (arith, low))
   none reply (suc (suc (suc n))) low get = absurd (cc)
+  none reply n low get = absurd (omega (arith, low))
 
   answer : (reply : Message) (n : ℕ) → 3 ≤ n → slice_get (all_said e) n ≡ Some reply
       → Reaches (at e (heard e) (all_said e)) (Station.Desk B) reply (answer_given {Why = Why} e ∷ [])
-  answer reply zero low get = absurd (omega (arith, low))
-  answer reply (suc zero) low get = absurd (omega (arith, low))
-  answer reply (suc (suc zero)) low get = absurd (omega (arith, low))
   answer reply (suc (suc (suc zero))) low get = inl (3, refl, get)
   answer reply (suc (suc (suc (suc n)))) low get = absurd (cc)
+  answer reply n low get = absurd (omega (arith, low))
 
   -- each message of A's tick is given to B, which has no answer
   told_b : (message : Message) → HandsOut (at e unheard []) (a_ticks {Why = Why} e) message
