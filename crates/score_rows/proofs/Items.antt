@@ -32,9 +32,9 @@ pub balls_at : (items : List Placed) (k : ℕ) (x : Placed) → k < length items
     → (get_or items k x ≡ get_or items k x) × (balls_of (take (k + 1) items) ≡ bowled x.item (balls_of (take k items)))
 balls_at items k x within here = (refl, balls_more items k x within here)
 
--- with these a walk over the items of an over needs no answer
+-- what a walk over the items of an over needs
 pub ruleset item_by_item =
-    (common_steps, balls_all, balls_at, marks-bowled, runs-bowled, counts-bowled, appends_both, appends_none, behind_both, behind_nothing)
+    (arith, common_steps, balls_all, balls_at, marks-bowled, runs-bowled, counts-bowled, appends_both, appends_none, behind_both, behind_nothing)
 
 bowled-first : (item : Plain) (over : List Ball) → bowled item over ≡ bowled item [] ++ over
 bowled-first item over = grind arith

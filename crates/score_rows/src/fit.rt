@@ -47,7 +47,6 @@ fn back_room<B: BookOf>(
 }
 
 /// What is left of a row behind the bowler's of an innings.
-#[tactic(auto, using(std::proofs::lemmas::Grind::common_steps, crate::proofs::Rooms::behind_both))]
 fn line_room<B: BookOf>(
     form: Form,
     is_all: bool,

@@ -1,5 +1,5 @@
 //! How a match stands, in a row that is fitted to a screen; the check of an over; who may bowl.
-#![tactic(auto, using(std::proofs::lemmas::Grind::common_steps, streams::proofs::Appending::appends_both, streams::proofs::Appending::appends_last))]
+#![tactic(auto)]
 
 mod aim;
 mod bowlers;

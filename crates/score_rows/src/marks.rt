@@ -1,7 +1,5 @@
 //! The marks of an over, and its runs.
 
-#![tactic(auto, using(crate::proofs::Items::item_by_item))]
-
 ghost use Rattle.std.specs.Prelude.{◌≡◌, ◌≤◌, OnOk, length};
 ghost use Rattle.notation.specs.declared.entry.TheConstants.{PLACES};
 ghost use Rattle.ball_laws.specs.Sums.{tally};

@@ -28,7 +28,6 @@ fn item_counts(item: &Plain) -> u32
 }
 
 /// How many deliveries of an over count.
-#[tactic(auto, using(crate::proofs::Items::item_by_item))]
 pub fn counting_of(over: &[Placed]) -> u32
     requires { length over.now ≤ PLACES }
     ensures { result ≡ counting (balls_of over.now) }

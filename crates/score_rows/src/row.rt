@@ -302,7 +302,6 @@ fn print_bowling<W: Sink, B: BookOf>(
 }
 
 /// Prints the row of an innings, behind its batters.
-#[tactic(auto, using(std::proofs::lemmas::Grind::common_steps, streams::proofs::Appending::appends_both, streams::proofs::Appending::appends_last), unfolding(crate::specs::Row::back))]
 fn print_back<W: Sink, B: BookOf>(
     out: &mut Watched<W>,
     form: Form,
@@ -415,7 +414,6 @@ fn print_limits_below<W: Sink, B: BookOf>(
 }
 
 /// Prints the row of an innings, and those below it.
-#[tactic(auto, using(std::proofs::lemmas::Grind::common_steps, streams::proofs::Appending::appends_both, streams::proofs::Appending::appends_last), unfolding(crate::specs::Row::innings_row))]
 fn print_innings<W: Sink, B: BookOf>(
     out: &mut Watched<W>,
     sheet: &MatchSheet,

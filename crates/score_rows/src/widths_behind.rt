@@ -53,7 +53,6 @@ fn item_room(room: Room, item: &Plain) -> Room
 }
 
 /// Behind the marks of an over.
-#[tactic(auto, using(crate::proofs::Items::item_by_item))]
 fn marks_room(room: Room, over: &[Placed]) -> Room
     ensures { result ≡ fit.behind room (rows.marks (balls_of over.now)) }
 {
