@@ -26,9 +26,7 @@ use Rattle.headline.specs.Kept.{kept_at}
 use Rattle.headline.proofs.NotedRuns.{keeps_noted}
 use Rattle.headline.proofs.SecondVotes as headline
 use Rattle.live.specs.Boards as boards
-use Rattle.live.specs.Boards.{BoardStep}
 use Rattle.live.specs.Desks as desks
-use Rattle.live.specs.Desks.{DeskStep}
 use Rattle.processes.specs.Happenings.{BoardCalled, DeskCalled, Flow, Happening, Happens, after, after_one, with_process}
 use Rattle.processes.specs.SecondVotes.{Brings, SayVote, TakesSecond}
 use Rattle.processes.proofs.BoardSteps.{with_it}
