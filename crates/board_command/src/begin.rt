@@ -3,10 +3,10 @@
 use crate::files::{Files, Kept, Shown};
 use crate::notes::Notes;
 use crate::page::Page;
-use board::Board;
+use board::{Board, Witness};
 use cards::MatchSheet;
 use corrections::CheckedBook;
-use live::keep_board;
+use live::{Watch, keep_board};
 use machine::{Address, MOST_PEERS, MonotonicClock, Pieces, StandardStream};
 use machine_files::{Cause, Name, TextFile, WholeText, WriteFault};
 use setup::{Sealing, StopFault, Stopped, short_sheet_at};
@@ -14,7 +14,7 @@ use station_screens::{Errors, Shared, errors_at, output_at};
 use std::cell::RefCell;
 use std::net::SocketAddr;
 use std::rt::Stderr;
-use streams::Watched;
+use streams::{Sink, Watched};
 
 /// Where a board tells what it can't take, and which file it can't write.
 pub type Told<'s, 'a> = Shared<'s, Pieces<StandardStream<'a, Stderr>>>;
@@ -107,6 +107,17 @@ fn board_of(rt: &HostRuntime, sheet: &MatchSheet) -> Result<Board<CheckedBook>, 
     }
 }
 
+/// What a board tells of what it can't take, and what it remembers: nothing yet.
+fn watch_over<E: Sink + Drop>(rt: &HostRuntime, errors: E) -> Result<Watch<Notes<E>>, Stopped<'static>> {
+    match Witness::new(rt.alloc()) {
+        Ok(witness) => Ok(Watch {
+            notices: Notes::new(errors),
+            witness,
+        }),
+        Err(why) => Err(Stopped::at("-", StopFault::from(why))),
+    }
+}
+
 /// `ground board`: keeps a board that listens at an address, shows its six lines at the start and whenever they
 /// change, and tells standard error what it can't take. Its text is also put into a file, its state as JSON into another
 /// one, and the same as a script into a third, where they are named; a failed write of these ends no board. A page shows
@@ -142,7 +153,7 @@ pub fn start_board<'a>(
     let _ = sealing.tell_fingerprints(&mut Shared::of(&errors));
     page.tell(&mut Shared::of(&errors));
     let mut clock = page.clock(rt);
-    let mut notes = Notes::new(Shared::of(&errors));
+    let mut watch = watch_over(rt, Shared::of(&errors))?;
     let mut shown = Shown {
         files,
         page: page.panes(rt.alloc(), &errors),
@@ -154,7 +165,7 @@ pub fn start_board<'a>(
         &sheet,
         &mut link,
         &mut clock,
-        &mut notes,
+        &mut watch,
         &mut out,
         &mut shown,
         u64::MAX,

@@ -1,13 +1,14 @@
 -- Runs of a board.
-use Rattle.std.proofs.Common.{◌≡◌, ◌⊎◌, ◌<◌, ◌+◌, ℕ, List, [], ◌∷◌, ◌++◌, Option, None, Some, Result, true, inl, inr, ⊎_elim}
+use Rattle.std.proofs.Common.{◌≡◌, ◌⊎◌, ◌<◌, ◌+◌, ℕ, List, [], ◌∷◌, ◌++◌, Option, None, Some, Result, true, false, inl, inr, ⊎_elim}
 use Rattle.std.proofs.Common.{refl, sym, ◌∙◌, subst, append-nil}
 use Rattle.std.proofs.lemmas.List.Elements.{All-nil}
 use Rattle.streams.proofs.Appending.{appends_none}
-use Rattle.wire.specs.Layout.{IsMessage}
+use Rattle.wire.specs.Layout.{IsMessage, Says}
+use Rattle.wire.specs.inner.Fields.{place_in}
 use Rattle.std.specs.Prelude.{All, Ok, Err, IsErr, IsErrAnd, IsSome, OnOk}
 use Rattle.std.specs.Io.KnownBytes.{Appends}
 use Rattle.notation.specs.declared.entry.Entry.{Entry}
-use Rattle.agree_core.specs.declared.messages.Message.{Message}
+use Rattle.agree_core.specs.declared.messages.{Message.Message, Vote.Vote}
 use Rattle.corrections.specs.CleanList.{history_of}
 use Rattle.corrections.specs.Refusal.{book_refusal}
 use Rattle.wire.specs.declared.what.What.{What}
@@ -15,17 +16,18 @@ use Rattle.cards.specs.Board.{board as board_text}
 use Rattle.cards.specs.Sheet.{Sheet}
 use Rattle.board.specs.declared.{refusal.BoardRefusal.BoardRefusal, board.Board.Board}
 use Rattle.board.specs.Board.{SameMatch, book_of, game_of, state_of}
+use Rattle.board.specs.Rounds.{parts}
 use Rattle.board.specs.Takes.{Takes}
 use Rattle.links.specs.Passed.{Passed, Came, sends}
 use Rattle.links.specs.declared.link.Receivers.TheVariants.{ToAll}
 use Rattle.live.specs.Runs.{Goes, Logs, known_where, with_told}
-use Rattle.live.specs.Boards.{Asks, BoardCall, BoardGoes, BoardLives, BoardRuns, BoardTurn, Given, Looked, Read, Ticked, TurnEnded, TurnStep, Unopened}
-use Rattle.live.specs.Boards.{at_turn, beat_of, board_kind, given, in_turn, shown, sight_at, unless_stopped}
+use Rattle.live.specs.Boards.{Asks, BoardCall, BoardGoes, BoardLives, BoardRuns, BoardTurn, Given, Looked, Memory, Parted, Read, Ticked, TurnEnded, TurnStep, Unopened}
+use Rattle.live.specs.Boards.{at_turn, beat_of, board_kind, given, in_turn, memory_given, memory_parted, memory_unopened, shown, sight_at, unheard, unless_stopped}
 use Rattle.live.specs.Sights.{Sight}
 use Rattle.live.specs.Ticks.{IsInTime, Ticking, after_look, reads, unticked}
-use Rattle.station_texts.specs.Notices.{untold, notices_after, notices_unopened, telling_after, telling_unopened}
+use Rattle.station_texts.specs.Notices.{notices_after, notices_parted, notices_unopened}
 use Rattle.links.specs.declared.link.TheConstants.{MOST_TAKEN}
-use Rattle.station_texts.specs.declared.{notices.Notice.Notice, notices.Telling.Telling}
+use Rattle.station_texts.specs.declared.notices.Notice.{Notice}
 use Rattle.live.proofs.TellingLemmas.{told_first}
 use Rattle.live.proofs.RunLemmas.{both, none_logged, one, stays, unsaid}
 
@@ -62,22 +64,32 @@ module _ {B : Type 0} {g : _} {content : B → List Entry} {innings_of : B → �
       → BoardGoes content innings_of sheet k l p q a b
   called call out same fine step passed types times text = record { same = same; goes = one call out fine step passed (rw (types, append-nil)) times text }
 
-  module _ {turns had taken : ℕ} {telling : Telling} {ticking : Ticking} {noted : List Notice} {seen : List Sight} {a : Logs} where
+  module _ {turns had taken : ℕ} {memory : Memory} {ticking : Ticking} {noted : List Notice} {seen : List Sight} {a : Logs} where
     -- it was given bytes
-    pub given_to : {l : Board B g} (bytes : List ℕ) (answer : Result What BoardRefusal) {later : Telling} {heard : Ticking} {notes : List Notice}
-        → IsInTime ticking → heard ≡ ticking → taken < MOST_TAKEN → SameMatch innings_of k l
+    pub given_to : {l : Board B g} (bytes : List ℕ) (answer : Result What BoardRefusal) {later : Memory} {heard : Ticking} {notes : List Notice}
+        → IsInTime ticking → heard ≡ ticking → taken < MOST_TAKEN → ((v : Vote) → Says (game_of k) bytes (Message.Vote v) → parts memory.rounds v ≡ false) → SameMatch innings_of k l
         → Takes (book_refusal (innings_of (book_of k))) (game_of k) (state_of content k) bytes answer (state_of content l)
-        → later ≡ telling_after telling answer → notes ≡ notices_after telling noted answer
-        → BoardGoes content innings_of sheet k l (in_turn content k turns had taken telling ticking noted seen) (in_turn content l turns had (taken + 1) later heard notes seen)
+        → later ≡ memory_given (state_of content k) memory bytes answer → notes ≡ notices_after memory.telling noted answer
+        → BoardGoes content innings_of sheet k l (in_turn content k turns had taken memory ticking noted seen) (in_turn content l turns had (taken + 1) later heard notes seen)
         a (record a { passed = a.passed ++ Came bytes ∷ [] })
-    given_to {l = l} bytes answer beats stands few same takes tells notices =
+    given_to {l = l} bytes answer beats stands few whole same takes tells notices =
         called (Given bytes answer) [] same (All-nil IsMessage)
-        (few, (takes, refl), (λ i. in_turn content l turns had (taken + 1) (tells i) (stands i) (notices i) seen), beats) refl refl (rw append-nil) (appends_none a.told)
+        ((few, whole), (takes, refl), (λ i. in_turn content l turns had (taken + 1) (tells i) (stands i) (notices i) seen), beats) refl refl (rw append-nil) (appends_none a.told)
+
+    -- bytes came that show that a desk's file lacks lines
+    pub parted : (bytes : List ℕ) (v : Vote) {later : Memory} {passed : Ticking} {notes : List Notice} → IsInTime ticking → passed ≡ ticking → taken < MOST_TAKEN
+        → Says (game_of k) bytes (Message.Vote v) → parts memory.rounds v ≡ true → later ≡ memory_parted memory → notes ≡ notices_parted memory.telling noted (place_in bytes)
+        → BoardGoes content innings_of sheet k k (in_turn content k turns had taken memory ticking noted seen) (in_turn content k turns had (taken + 1) later passed notes seen)
+        a (record a { passed = a.passed ++ Came bytes ∷ [] })
+    parted bytes v beats stands few says against tells notices =
+        called (Parted bytes) [] same_here (All-nil IsMessage)
+        ((few, v, says, against), (refl, refl), (λ i. in_turn content k turns had (taken + 1) (tells i) (stands i) (notices i) seen), beats)
+        refl refl (rw append-nil) (appends_none a.told)
 
     -- bytes came that don't open
-    pub passed_over : {later : Telling} {passed : Ticking} {notes : List Notice} {after : List Passed} → IsInTime ticking → passed ≡ ticking → taken < MOST_TAKEN
-        → later ≡ telling_unopened telling → notes ≡ notices_unopened telling noted → after ≡ a.passed
-        → BoardGoes content innings_of sheet k k (in_turn content k turns had taken telling ticking noted seen) (in_turn content k turns had (taken + 1) later passed notes seen)
+    pub passed_over : {later : Memory} {passed : Ticking} {notes : List Notice} {after : List Passed} → IsInTime ticking → passed ≡ ticking → taken < MOST_TAKEN
+        → later ≡ memory_unopened memory → notes ≡ notices_unopened memory.telling noted → after ≡ a.passed
+        → BoardGoes content innings_of sheet k k (in_turn content k turns had taken memory ticking noted seen) (in_turn content k turns had (taken + 1) later passed notes seen)
         a (record a { passed = after })
     passed_over beats stands few tells notices is =
         called Unopened [] same_here (All-nil IsMessage)
@@ -86,58 +98,58 @@ module _ {B : Type 0} {g : _} {content : B → List Entry} {innings_of : B → �
 
     -- it has looked at its clock
     pub looks : {n : List ℕ} {saw : Ticking} (now : ℕ) → IsInTime ticking → n ≡ a.readings ++ now ∷ [] → saw ≡ record ticking { looked = Some now }
-        → BoardGoes content innings_of sheet k k (in_turn content k turns had taken telling ticking noted seen) (in_turn content k turns had taken telling saw noted seen)
+        → BoardGoes content innings_of sheet k k (in_turn content k turns had taken memory ticking noted seen) (in_turn content k turns had taken memory saw noted seen)
         a (record a { readings = n })
     looks now beats times is =
-        called (Looked now) [] same_here (All-nil IsMessage) (tt, (refl, refl), (λ i. in_turn content k turns had taken telling (is i) noted seen), beats)
+        called (Looked now) [] same_here (All-nil IsMessage) (tt, (refl, refl), (λ i. in_turn content k turns had taken memory (is i) noted seen), beats)
         (rw append-nil) refl times (appends_none a.told)
 
     -- it has looked at its clock, and ticked
     pub speaks : {after : List Passed} {n : List ℕ} {said : Ticking} (now : ℕ) → IsInTime ticking → n ≡ a.readings ++ now ∷ [] → said ≡ after_look true ticking now
         → Asks content k a.passed after
-        → BoardGoes content innings_of sheet k k (in_turn content k turns had taken telling ticking noted seen) (in_turn content k turns had taken telling said noted seen)
+        → BoardGoes content innings_of sheet k k (in_turn content k turns had taken memory ticking noted seen) (in_turn content k turns had taken memory said noted seen)
         a (record a { passed = after; readings = n })
     speaks now beats times is asked =
         then (looks now beats times refl)
-        (called Ticked asked.out same_here asked.fine (tt, (asked.step, refl), (λ i. in_turn content k turns had taken telling (is i) noted seen), refl)
+        (called Ticked asked.out same_here asked.fine (tt, (asked.step, refl), (λ i. in_turn content k turns had taken memory (is i) noted seen), refl)
         asked.passed refl (rw append-nil) (appends_none a.told))
 
     -- it has read its clock
     pub reads_clock : {n : List ℕ} (now : ℕ) → IsInTime ticking → n ≡ a.readings ++ now ∷ []
-        → BoardGoes content innings_of sheet k k (in_turn content k turns had taken telling ticking noted seen) (in_turn content k turns had taken telling ticking noted seen)
+        → BoardGoes content innings_of sheet k k (in_turn content k turns had taken memory ticking noted seen) (in_turn content k turns had taken memory ticking noted seen)
         a (record a { readings = n })
     reads_clock now beats times =
         called (Read now) [] same_here (All-nil IsMessage) (tt, (refl, refl), refl, beats) (rw append-nil) refl times (appends_none a.told)
 
     -- its turn is over
     pub turn_over : {t : Option (List ℕ)} {rested : Ticking} {sees : List Sight} → IsSome ticking.looked → IsInTime ticking → rested ≡ record ticking { looked = None }
-        → sees ≡ seen ++ unless_stopped telling.is_stopped (sight_at content innings_of sheet k ∷ [])
-        → Appends a.told t (shown sheet (innings_of (book_of k)) (in_turn content k turns had taken telling ticking noted seen) TurnEnded (at_turn content k (turns + 1) telling rested noted sees))
-        → BoardGoes content innings_of sheet k k (in_turn content k turns had taken telling ticking noted seen) (at_turn content k (turns + 1) telling rested noted sees)
+        → sees ≡ seen ++ unless_stopped memory.telling.is_stopped (sight_at content innings_of sheet k ∷ [])
+        → Appends a.told t (shown sheet (innings_of (book_of k)) (in_turn content k turns had taken memory ticking noted seen) TurnEnded (at_turn content k (turns + 1) memory rested noted sees))
+        → BoardGoes content innings_of sheet k k (in_turn content k turns had taken memory ticking noted seen) (at_turn content k (turns + 1) memory rested noted sees)
         a (record a { told = t })
     turn_over looked beats is sights text =
         called TurnEnded [] same_here (All-nil IsMessage)
-        (tt, (refl, refl), (λ i. at_turn content k (turns + 1) telling (is i) noted (sights i)), (looked, beats)) (rw append-nil) refl (rw append-nil) text
+        (tt, (refl, refl), (λ i. at_turn content k (turns + 1) memory (is i) noted (sights i)), (looked, beats)) (rw append-nil) refl (rw append-nil) text
 
   -- nothing is seen of its clock
-  pub unread : {turns had taken : ℕ} {telling : Telling} {ticking saw : Ticking} {noted : List Notice} {seen : List Sight} {a : Logs} → saw ≡ ticking
-      → BoardGoes content innings_of sheet k k (in_turn content k turns had taken telling ticking noted seen) (in_turn content k turns had taken telling saw noted seen)
+  pub unread : {turns had taken : ℕ} {memory : Memory} {ticking saw : Ticking} {noted : List Notice} {seen : List Sight} {a : Logs} → saw ≡ ticking
+      → BoardGoes content innings_of sheet k k (in_turn content k turns had taken memory ticking noted seen) (in_turn content k turns had taken memory saw noted seen)
       a a
   unread is = rw is rests
 
-  module _ {l : Board B g} {E : Type 0} {from to : ℕ} {telling : Telling} {ticking : Ticking}
+  module _ {l : Board B g} {E : Type 0} {from to : ℕ} {memory : Memory} {ticking : Ticking}
       {noted notes : List Notice} {seen sees : List Sight} where
     -- a write failed
     pub stopped : (a b : Logs) {last : BoardTurn} (p : BoardTurn) (r : Result (Unit {0}) E) (fault : E) → IsErrAnd r (λ e. e ≡ fault) → last.board ≡ state_of content l → last.notices ≡ notes → last.seen ≡ sees
-        → BoardGoes content innings_of sheet k l (at_turn content k from telling ticking noted seen) last (record a { told = None }) (record b { told = None })
-        → (runs : BoardRuns content innings_of sheet k l a b from to telling ticking noted notes seen sees r) × OnOk r (runs.last ≡ p)
+        → BoardGoes content innings_of sheet k l (at_turn content k from memory ticking noted seen) last (record a { told = None }) (record b { told = None })
+        → (runs : BoardRuns content innings_of sheet k l a b from to memory ticking noted notes seen sees r) × OnOk r (runs.last ≡ p)
     stopped a b p (Ok done) fault h is notices sights v = absurd h
     stopped a b {last = last} p (Err e) fault h is notices sights v = (record { last = last; is = is; noticed = notices; sighted = sights; goes = v; whole = tt }, tt)
 
     -- all turns are over
-    pub finished : {a b : Logs} {later : Telling} {rested : Ticking} (r : Result (Unit {0}) E)
-        → BoardGoes content innings_of sheet k l (at_turn content k from telling ticking noted seen) (at_turn content l to later rested notes sees) a b
-        → (runs : BoardRuns content innings_of sheet k l a b from to telling ticking noted notes seen sees r)
+    pub finished : {a b : Logs} {later : Memory} {rested : Ticking} (r : Result (Unit {0}) E)
+        → BoardGoes content innings_of sheet k l (at_turn content k from memory ticking noted seen) (at_turn content l to later rested notes sees) a b
+        → (runs : BoardRuns content innings_of sheet k l a b from to memory ticking noted notes seen sees r)
         × OnOk r (runs.last ≡ at_turn content l to later rested notes sees)
     finished {later = later} {rested = rested} (Ok done) v =
         (record { last = at_turn content l to later rested notes sees; is = refl; noticed = refl; sighted = refl; goes = v; whole = refl }, refl)
@@ -146,15 +158,15 @@ module _ {B : Type 0} {g : _} {content : B → List Entry} {innings_of : B → �
 
     -- turns that are over
     pub whole_turns : {a b : Logs} (p : BoardTurn) (r : Result (Unit {0}) E)
-        (runs : BoardRuns content innings_of sheet k l a b from to telling ticking noted notes seen sees r) → OnOk r (runs.last ≡ p)
-        → OnOk r (BoardGoes content innings_of sheet k l (at_turn content k from telling ticking noted seen) p (known_where r a) (known_where r b))
-    whole_turns {a = a} {b = b} p (Ok done) runs e = subst (λ (p : BoardTurn). BoardGoes content innings_of sheet k l (at_turn content k from telling ticking noted seen) p a b) e runs.goes
+        (runs : BoardRuns content innings_of sheet k l a b from to memory ticking noted notes seen sees r) → OnOk r (runs.last ≡ p)
+        → OnOk r (BoardGoes content innings_of sheet k l (at_turn content k from memory ticking noted seen) p (known_where r a) (known_where r b))
+    whole_turns {a = a} {b = b} p (Ok done) runs e = subst (λ (p : BoardTurn). BoardGoes content innings_of sheet k l (at_turn content k from memory ticking noted seen) p a b) e runs.goes
     whole_turns p (Err fault) runs e = tt
 
   -- what is shown at first comes before a run, and a reading of the clock
   shown_first : {E : Type 0} {noted : List Notice} {seen : List Sight} (a : Logs) {readings : List ℕ} (r : Result (Unit {0}) E) (t : Option (List ℕ)) (text : List ℕ) (now : ℕ)
       → readings ≡ a.readings ++ now ∷ [] → Appends a.told t text
-      → BoardGoes content innings_of sheet k k (at_turn content k 0 untold unticked noted seen) (at_turn content k 0 untold unticked noted seen)
+      → BoardGoes content innings_of sheet k k (at_turn content k 0 unheard unticked noted seen) (at_turn content k 0 unheard unticked noted seen)
       (known_where r (with_told a text)) (known_where r (record a { readings = readings; told = t }))
   shown_first a (Ok done) t text now times first =
       then (record {
@@ -167,7 +179,7 @@ module _ {B : Type 0} {g : _} {content : B → List Entry} {innings_of : B → �
   pub lives_on : {l : Board B g} {E : Type 0} (a : Logs) {b : Logs} {readings : List ℕ} {t : Option (List ℕ)} {to : ℕ} {noted notes : List Notice} {seen had sees : List Sight}
       (r : Result (Unit {0}) E) (now : ℕ) → readings ≡ a.readings ++ now ∷ [] → Appends a.told t (board_text sheet (innings_of (book_of k)) (history_of (content (book_of k))))
       → had ≡ seen ++ sight_at content innings_of sheet k ∷ []
-      → BoardRuns content innings_of sheet k l (record a { readings = readings; told = t }) b 0 to untold unticked noted notes had sees r
+      → BoardRuns content innings_of sheet k l (record a { readings = readings; told = t }) b 0 to unheard unticked noted notes had sees r
       → BoardLives content innings_of sheet k l a b to noted notes seen sees r
   lives_on a {t = t} r now times text is v = record {
     first = sight_at content innings_of sheet k ∷ [];
@@ -192,7 +204,7 @@ module _ {B : Type 0} {g : _} {content : B → List Entry} {innings_of : B → �
       let failed : Result (Unit {0}) E = Err e in
       let Lives : Type 0 = BoardLives content innings_of sheet k k a (record a { readings = readings; told = t }) to noted noted seen sees failed in
       let ends : (first : List Sight) → (first ≡ sight_at content innings_of sheet k ∷ []) ⊎ ((first ≡ []) × IsErr failed) → seen ++ first ≡ sees → Lives = λ first shows is.
-      let last = at_turn content k 0 untold unticked noted (seen ++ first) in
+      let last = at_turn content k 0 unheard unticked noted (seen ++ first) in
       record {
         first = first;
         shows_first = shows;

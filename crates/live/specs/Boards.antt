@@ -1,18 +1,21 @@
 -- A board's process, turn by turn.
-use Rattle.std.specs.Prelude.{◌≡◌, ◌⊎◌, ◌<◌, ◌+◌, ℕ, Bool, true, false, nat_eq, List, [], ◌∷◌, ◌++◌, All, length, Result, IsErr, OnOk}
+use Rattle.std.specs.Prelude.{◌≡◌, ◌⊎◌, ◌<◌, ◌+◌, ℕ, Bool, true, false, if◌then◌else◌, nat_eq, List, [], ◌∷◌, ◌++◌, All, length, Result, Ok, IsErr, OnOk}
 use Rattle.notation.specs.declared.entry.Entry.{Entry}
 use Rattle.corrections.specs.CleanList.{history_of}
 use Rattle.corrections.specs.Refusal.{book_refusal}
-use Rattle.agree_core.specs.declared.messages.Message.{Message}
+use Rattle.agree_core.specs.declared.{messages.Message.Message, messages.Vote.Vote, seat.Heard.Heard}
 use Rattle.agree_core.specs.Boards.{BoardState, BoardTicks}
-use Rattle.wire.specs.Layout.{IsMessage}
+use Rattle.vote_store.specs.Record.{entry_coded}
+use Rattle.wire.specs.Layout.{IsMessage, Says, body_in}
+use Rattle.wire.specs.inner.Fields.{place_in}
 use Rattle.wire.specs.declared.what.What.{What}
 use Rattle.cards.specs.Sheet.{Sheet}
 use Rattle.cards.specs.Board.{board as board_text}
-use Rattle.board.specs.declared.{refusal.BoardRefusal.BoardRefusal, board.Board.Board}
+use Rattle.board.specs.declared.{refusal.BoardRefusal.BoardRefusal, board.Board.Board, witness.Round.Round}
 use Rattle.board.specs.Board.{SameMatch, book_of, game_of, state_of}
+use Rattle.board.specs.Rounds.{parts, whole_round, with_round}
 use Rattle.board.specs.Takes.{Takes}
-use Rattle.station_texts.specs.Notices.{notices_after, notices_unopened, telling_after, telling_unopened, untold}
+use Rattle.station_texts.specs.Notices.{notices_after, notices_parted, notices_unopened, telling_after, telling_parted, telling_unopened, untold}
 use Rattle.links.specs.Passed.{Passed, Came, sends}
 use Rattle.links.specs.declared.link.Receivers.TheVariants.{ToAll}
 use Rattle.live.specs.Runs.{Goes, Kind, Logs, known_where, with_told}
@@ -21,10 +24,12 @@ use Rattle.live.specs.Ticks.{Beat, Look, MayBeat, Other, Reading, Tick, Ticking,
 use Rattle.links.specs.declared.link.TheConstants.{MOST_TAKEN}
 use Rattle.station_texts.specs.declared.{notices.Notice.Notice, notices.Telling.Telling}
 
--- a call of a board: it is given bytes, bytes came that don't open, of which it is given nothing, a look at its clock,
--- whether a tick is due, a tick, another reading of its clock, each with what it shows, or the end of a turn
+-- a call of a board: it is given bytes; bytes came that show that a desk's file lacks lines, or don't open, of which it is given
+-- nothing; a look at its clock, whether a tick is due, a tick, another reading of its clock, each with what it shows, or the
+-- end of a turn
 pub data BoardCall : Type 0 where
   Given : List ℕ → Result What BoardRefusal → BoardCall
+  Parted : List ℕ → BoardCall
   Unopened : BoardCall
   Looked : ℕ → BoardCall
   Ticked : BoardCall
@@ -45,46 +50,84 @@ beat_of Ticked = Tick
 beat_of TurnEnded = TurnEnd
 beat_of call = Other
 
+-- what a board's process remembers: what it has told of what it can't take, and the rounds that it has heard whole, the
+-- oldest first
+pub record Memory : Type 0 where
+  pub telling : Telling
+  pub rounds : List Round
+
+abbrev pub memory_of : Telling → List Round → Memory
+memory_of telling rounds = record { telling = telling; rounds = rounds }
+
+-- nothing was told or heard
+abbrev pub unheard : Memory
+unheard = memory_of untold []
+
+-- an answer by which the board goes on to another position: both votes of its own were heard
+abbrev pub settles : Result What BoardRefusal → Bool
+settles (Ok (What.Heard Heard.Agreed)) = true
+settles (Ok (What.Heard Heard.Differ)) = true
+settles answer = false
+
+-- the rounds once a board has answered so to bytes
+abbrev pub rounds_after : BoardState → List Round → List ℕ → Result What BoardRefusal → List Round
+rounds_after k rounds bytes answer =
+    if settles answer then with_round rounds (whole_round k.reader (entry_coded (body_in bytes))) else rounds
+
+abbrev pub memory_given : BoardState → Memory → List ℕ → Result What BoardRefusal → Memory
+memory_given k memory bytes answer =
+    memory_of (telling_after memory.telling answer) (rounds_after k memory.rounds bytes answer)
+
+abbrev pub memory_parted : Memory → Memory
+memory_parted memory = record memory { telling = telling_parted memory.telling }
+
+abbrev pub memory_unopened : Memory → Memory
+memory_unopened memory = record memory { telling = telling_unopened memory.telling }
+
 -- a board in a turn: how many turns are over, how many entries its book had as this one began, how many datagrams were
--- taken in it, what it has told of what it can't take, what it saw of its clock, all notices the oldest first, and what it
--- has handed to be shown, likewise
+-- taken in it, what it remembers, what it saw of its clock, all notices the oldest first, and what it has handed to be shown,
+-- likewise
 pub record BoardTurn : Type 0 where
   pub board : BoardState
   pub turns : ℕ
   pub had : ℕ
   pub taken : ℕ
-  pub telling : Telling
+  pub memory : Memory
   pub ticking : Ticking
   pub notices : List Notice
   pub seen : List Sight
 
 -- a turn begins
-abbrev pub begun : BoardState → ℕ → Telling → Ticking → List Notice → List Sight → BoardTurn
-begun k turns telling ticking notices seen = record {
+abbrev pub begun : BoardState → ℕ → Memory → Ticking → List Notice → List Sight → BoardTurn
+begun k turns memory ticking notices seen = record {
   board = k;
   turns = turns;
   had = length k.book;
   taken = 0;
-  telling = telling;
+  memory = memory;
   ticking = ticking;
   notices = notices;
   seen = seen;
 }
 
--- in a turn a board takes eight datagrams at most
-abbrev pub MayCall : BoardTurn → BoardCall → Type 0
-MayCall k (Given bytes answer) = k.taken < MOST_TAKEN
-MayCall k Unopened = k.taken < MOST_TAKEN
-MayCall k call = Unit {0}
+-- In a turn a board takes eight datagrams at most. It is given those that don't show, by the rounds that it has heard, that a
+-- desk's file lacks lines.
+abbrev pub MayCall : ℕ → BoardTurn → BoardCall → Type 0
+MayCall game k (Given bytes answer) =
+    (k.taken < MOST_TAKEN) × ((v : Vote) → Says game bytes (Message.Vote v) → parts k.memory.rounds v ≡ false)
+MayCall game k (Parted bytes) =
+    (k.taken < MOST_TAKEN) × (v : Vote) × Says game bytes (Message.Vote v) × (parts k.memory.rounds v ≡ true)
+MayCall game k Unopened = k.taken < MOST_TAKEN
+MayCall game k call = Unit {0}
 
--- these, unless both desks' votes were refused: what the book shows may be wrong then
+-- these, unless both desks' votes were refused, or a desk's file lacks lines: what the book shows may be wrong then
 abbrev pub unless_stopped : {T : Type 0} → Bool → List T → List T
 unless_stopped true these = []
 unless_stopped false these = these
 
 -- at the end of a turn the book is handed to be shown
 abbrev pub handed : Sheet → ℕ → BoardTurn → BoardCall → BoardState → List Sight
-handed sheet innings k TurnEnded l = unless_stopped k.telling.is_stopped (sight_of sheet innings l.book ∷ [])
+handed sheet innings k TurnEnded l = unless_stopped k.memory.telling.is_stopped (sight_of sheet innings l.book ∷ [])
 handed sheet innings k call l = []
 
 abbrev pub after_call : Sheet → ℕ → BoardTurn → BoardCall → BoardState → BoardTurn
@@ -92,28 +135,36 @@ after_call sheet innings k (Given bytes answer) l =
     record k {
       board = l;
       taken = k.taken + 1;
-      telling = telling_after k.telling answer;
-      notices = notices_after k.telling k.notices answer;
+      memory = memory_given k.board k.memory bytes answer;
+      notices = notices_after k.memory.telling k.notices answer;
+    }
+after_call sheet innings k (Parted bytes) l =
+    record k {
+      board = l;
+      taken = k.taken + 1;
+      memory = memory_parted k.memory;
+      notices = notices_parted k.memory.telling k.notices (place_in bytes);
     }
 after_call sheet innings k Unopened l =
     record k {
       board = l;
       taken = k.taken + 1;
-      telling = telling_unopened k.telling;
-      notices = notices_unopened k.telling k.notices;
+      memory = memory_unopened k.memory;
+      notices = notices_unopened k.memory.telling k.notices;
     }
 after_call sheet innings k TurnEnded l =
-    begun l (k.turns + 1) k.telling (after_beat k.ticking TurnEnd) k.notices (k.seen ++ handed sheet innings k TurnEnded l)
+    begun l (k.turns + 1) k.memory (after_beat k.ticking TurnEnd) k.notices (k.seen ++ handed sheet innings k TurnEnded l)
 after_call sheet innings k call l = record k { board = l; ticking = after_beat k.ticking (beat_of call) }
 
 -- a board makes a call, and ticks in time
 abbrev pub TurnStep : Sheet → ℕ → ℕ → BoardTurn → BoardCall → List Message → BoardTurn → Type 0
 TurnStep sheet game innings k call out l =
-    MayCall k call × BoardStep game innings k.board call out l.board × (l ≡ after_call sheet innings k call l.board)
+    MayCall game k call × BoardStep game innings k.board call out l.board × (l ≡ after_call sheet innings k call l.board)
     × MayBeat k.ticking (beat_of call)
 
 abbrev pub given : BoardCall → List Passed
 given (Given bytes answer) = Came bytes ∷ []
+given (Parted bytes) = Came bytes ∷ []
 given call = []
 
 -- the text, where the book isn't as long as it was
@@ -124,7 +175,7 @@ grown false text = text
 -- at the end of a turn the six lines of the book, where it has grown in the turn
 abbrev pub shown : Sheet → ℕ → BoardTurn → BoardCall → BoardTurn → List ℕ
 shown sheet innings k TurnEnded l =
-    unless_stopped k.telling.is_stopped
+    unless_stopped k.memory.telling.is_stopped
     (grown (nat_eq (length k.board.book) k.had) (board_text sheet innings (history_of k.board.book)))
 shown sheet innings k call l = []
 
@@ -150,13 +201,13 @@ module _ {B : Type 0} {g : _} (content : B → List Entry) where
     pub step : BoardTicks (state_of content k) out
 
   -- a board in a turn
-  abbrev pub in_turn : Board B g → ℕ → ℕ → ℕ → Telling → Ticking → List Notice → List Sight → BoardTurn
-  in_turn k turns had taken telling ticking notices seen =
-      record (begun (state_of content k) turns telling ticking notices seen) { had = had; taken = taken }
+  abbrev pub in_turn : Board B g → ℕ → ℕ → ℕ → Memory → Ticking → List Notice → List Sight → BoardTurn
+  in_turn k turns had taken memory ticking notices seen =
+      record (begun (state_of content k) turns memory ticking notices seen) { had = had; taken = taken }
 
   -- at the beginning of a turn
-  abbrev pub at_turn : Board B g → ℕ → Telling → Ticking → List Notice → List Sight → BoardTurn
-  at_turn k turns telling ticking notices seen = begun (state_of content k) turns telling ticking notices seen
+  abbrev pub at_turn : Board B g → ℕ → Memory → Ticking → List Notice → List Sight → BoardTurn
+  at_turn k turns memory ticking notices seen = begun (state_of content k) turns memory ticking notices seen
 
 module _ {B : Type 0} {g : _} (content : B → List Entry) (innings_of : B → ℕ) where
   -- from a board's turn on there is a run to another turn of the board of the same match
@@ -164,20 +215,20 @@ module _ {B : Type 0} {g : _} (content : B → List Entry) (innings_of : B → �
     pub same : SameMatch innings_of old new
     pub goes : Goes (board_kind sheet (game_of old) (innings_of (book_of old))) k l before after
 
-  -- A board's process from the beginning of a turn, at which it has told this, to that of another one. Unless a write
+  -- A board's process from the beginning of a turn, at which it remembers this, to that of another one. Unless a write
   -- failed, all turns between them are over, and the six lines were printed at the end of each in which the book has
   -- grown. What it told of what it can't take are just the notices that were handed on, and what it handed to be shown is
-  -- just its book at the end of each turn, but once both desks' votes were refused.
+  -- just its book at the end of each turn, but once both desks' votes were refused or a desk's file was seen to lack lines.
   pub record BoardRuns
-      {E : Type 0} (sheet : Sheet) (old new : Board B g) (before after : Logs) (from to : ℕ) (telling : Telling)
+      {E : Type 0} (sheet : Sheet) (old new : Board B g) (before after : Logs) (from to : ℕ) (memory : Memory)
       (ticking : Ticking) (noted notes : List Notice) (seen sees : List Sight) (result : Result (Unit {0}) E) : Type 0 where
     pub last : BoardTurn
     pub is : last.board ≡ state_of content new
     pub noticed : last.notices ≡ notes
     pub sighted : last.seen ≡ sees
-    pub goes : BoardGoes sheet old new (at_turn content old from telling ticking noted seen) last
+    pub goes : BoardGoes sheet old new (at_turn content old from memory ticking noted seen) last
         (known_where result before) (known_where result after)
-    pub whole : OnOk result (last ≡ at_turn content new to last.telling last.ticking notes sees)
+    pub whole : OnOk result (last ≡ at_turn content new to last.memory last.ticking notes sees)
 
   -- a board's book, as it is handed to be shown
   abbrev pub sight_at : Sheet → Board B g → Sight
@@ -192,4 +243,4 @@ module _ {B : Type 0} {g : _} (content : B → List Entry) (innings_of : B → �
     pub first : List Sight
     pub shows_first : (first ≡ sight_at sheet old ∷ []) ⊎ ((first ≡ []) × IsErr result)
     pub runs : BoardRuns sheet old new
-        (with_told before (board_text sheet (innings_of (book_of old)) (history_of (content (book_of old))))) after 0 turns untold unticked noted notes (seen ++ first) sees result
+        (with_told before (board_text sheet (innings_of (book_of old)) (history_of (content (book_of old))))) after 0 turns unheard unticked noted notes (seen ++ first) sees result

@@ -10,6 +10,7 @@ ghost use Rattle.live.specs.Runs.{untyped};
 
 use crate::board_loop::run_board;
 use crate::shows::Shows;
+use crate::watch::Watch;
 use board::Board;
 use cards::{MatchSheet, board_lines};
 use corrections::BookOf;
@@ -43,17 +44,18 @@ pub fn keep_board<B: BookOf, L: Link, C: Clock, N: Notices, W: Sink, S: Shows<B>
     sheet: &MatchSheet,
     link: &mut L,
     clock: &mut C,
-    notices: &mut N,
+    watch: &mut Watch<N>,
     out: &mut Watched<W>,
     state: &mut S,
     turns: u64,
 ) -> Result<(), WriteFailed>
+    requires fresh { watch.old.witness ≡ [] }
     ensures lives { BoardLives B.content B.innings_a_side sheet.now board.old board.new
         (untyped (L.log link.old) (C.readings clock.old) (W.contents (stream_of out.old)))
         (untyped (L.log link.new) (C.readings clock.new) (W.contents (stream_of out.new))) turns
-        (N.told notices.old) (N.told notices.new) (S.seen state.old) (S.seen state.new) result }
+        (N.told watch.old.notices) (N.told watch.new.notices) (S.seen state.old) (S.seen state.new) result }
     ensures failed { OnErr result (has_failed out.new ≡ true ⊎ S.failed state.new ≡ true) }
 {
     begin(board, sheet, clock.millis(), out, state)?;
-    run_board(board, sheet, link, clock, notices, out, state, turns)
+    run_board(board, sheet, link, clock, watch, out, state, turns)
 }

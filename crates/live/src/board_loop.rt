@@ -1,20 +1,23 @@
 //! A board's process.
 
-ghost use Rattle.std.specs.Prelude.{◌≡◌, ◌<◌, ◌+◌, ℕ, true, false, Option, List, [], ◌∷◌, ◌++◌, ◌⊎◌, IsSome, OnErr, OnOk, length, nat_eq};
+ghost use Rattle.std.specs.Prelude.{◌≡◌, ◌<◌, ◌+◌, ℕ, true, false, Option, Some, None, Ok, List, [], ◌∷◌, ◌++◌, ◌⊎◌, IsSome, OnErr, OnOk, length, nat_eq};
 ghost use Rattle.std.specs.Result.{ForOk};
 ghost use Rattle.corrections.specs.CleanList.{history_of};
 ghost use Rattle.cards.specs.Board.{board as board_text};
 ghost use Rattle.cards.specs.Sheet.{Sheet};
 ghost use Rattle.streams.specs.Watched.{Prints, TellsFailure, has_failed, stream_of};
 ghost use Rattle.board.specs.Board.{book_of, game_of};
-ghost use Rattle.live.specs.Boards.{BoardGoes, BoardRuns, at_turn, grown, in_turn};
-ghost use Rattle.station_texts.specs.Notices.{notices_unopened, telling_unopened, untold};
+ghost use Rattle.board.specs.Rounds.{parts};
+ghost use Rattle.live.specs.Boards as laws;
+ghost use Rattle.live.specs.Boards.{BoardGoes, BoardRuns, Memory, at_turn, grown, in_turn, memory_of, unheard};
+ghost use Rattle.station_texts.specs.Notices.{notices_parted, notices_unopened, telling_parted, telling_unopened};
 ghost use Rattle.live.specs.Paces.{ticking_of};
 ghost use Rattle.live.specs.Runs.{Logs, untyped};
 ghost use Rattle.live.specs.Sights.{Sight};
 ghost use Rattle.live.specs.Ticks.{unticked};
 ghost use Rattle.links.specs.Passed.{Came};
 ghost use Rattle.links.specs.declared.link.TheConstants.{MOST_TAKEN};
+ghost use Rattle.agree_core.specs.declared.messages.Vote.{Vote as AVote};
 ghost use Rattle.station_texts.specs.declared.notices.Notice.{Notice};
 ghost use Rattle.wire.specs.Layout.{IsMessage};
 ghost use Rattle.wire.specs.Reading.{Reads};
@@ -23,14 +26,16 @@ use crate::board_calls::tick;
 use crate::hearing::promises_more;
 use crate::pace::Pace;
 use crate::shows::Shows;
-use agree_core::Message;
-use board::Board;
+use crate::watch::Watch;
+use agree_core::{Heard, Message};
+use board::{Board, BoardRefusal, Witness};
 use cards::{MatchSheet, board_lines};
 use corrections::BookOf;
 use links::{Arrival, Clock, Link, MOST_TAKEN, ROOM};
+use notation::Entry;
 use station_texts::notices::{Notices, Telling};
 use streams::{Sink, Watched, WriteFailed};
-use wire::WireFault;
+use wire::{What, WireFault};
 
 /// What a board's process keeps between its calls.
 #[derive(Clone, Copy, Debug)]
@@ -47,10 +52,10 @@ fn say<B: BookOf, L: Link, C: Clock>(
     clock: &mut C,
     pace: &mut Pace,
 ) -> u64
-    ensures goes { (sheet : Sheet) (shown : Option (List ℕ)) (seen : List Sight) (turns had taken : ℕ) (telling : Telling) (notices : List Notice) →
+    ensures goes { (sheet : Sheet) (shown : Option (List ℕ)) (seen : List Sight) (turns had taken : ℕ) (memory : Memory) (notices : List Notice) →
         BoardGoes B.content B.innings_a_side sheet board.now board.now
-        (in_turn B.content board.now turns had taken telling (ticking_of pace.old) notices seen)
-        (in_turn B.content board.now turns had taken telling (ticking_of pace.new) notices seen)
+        (in_turn B.content board.now turns had taken memory (ticking_of pace.old) notices seen)
+        (in_turn B.content board.now turns had taken memory (ticking_of pace.new) notices seen)
         (untyped (L.log link.old) (C.readings clock.old) shown) (untyped (L.log link.new) (C.readings clock.new) shown) }
     ensures looked { IsSome (ticking_of pace.new).looked }
 {
@@ -64,11 +69,82 @@ fn say<B: BookOf, L: Link, C: Clock>(
     wait
 }
 
-/// A board takes what came at its position, as it was read, and tells what it can't take.
+/// Whether a vote came that shows, by the rounds that were heard, that a desk's file lacks lines; its place.
+fn parting(witness: &Witness, read: Result<Message, WireFault>) -> Option<u32>
+    ensures parted { (place : ℕ) → result ≡ Some place →
+        (v : AVote) × (read ≡ Ok (Message.Vote v)) × (v.place ≡ place) × (parts witness.now v ≡ true) }
+    ensures none { result ≡ None → (v : AVote) → read ≡ Ok (Message.Vote v) → parts witness.now v ≡ false }
+{
+    match read {
+        Ok(Message::Vote(vote)) if witness.parts(&vote) => Some(vote.place),
+        _ => None,
+    }
+}
+
+/// The entry of the vote that came, where it is one.
+fn entry_in(read: Result<Message, WireFault>) -> Option<Entry>
+    ensures { (v : AVote) → read ≡ Ok (Message.Vote v) → result ≡ Some v.entry }
+{
+    match read {
+        Ok(Message::Vote(vote)) => Some(vote.entry),
+        Ok(Message::Ask(_)) | Err(_) => None,
+    }
+}
+
+/// Whether both votes of a board's position were heard, by its answer.
+fn settles(answer: Result<What, BoardRefusal>) -> bool
+    ensures { result ≡ laws.settles answer }
+{
+    matches!(answer, Ok(What::Heard(Heard::Agreed | Heard::Differ)))
+}
+
+/// A board takes what came at its position, as it was read, and tells what it can't take. A round that it has heard whole is
+/// remembered.
 fn give<B: BookOf, N: Notices>(
     board: &mut Board<B>,
     read: Result<Message, WireFault>,
-    notices: &mut N,
+    watch: &mut Watch<N>,
+    between: &mut Between,
+    now: u64,
+)
+    requires message { ForOk read IsMessage }
+    requires whole { (v : AVote) → read ≡ Ok (Message.Vote v) → parts watch.old.witness v ≡ false }
+    ensures goes { (bytes : List ℕ) (sheet : Sheet) (logs : Logs) (seen : List Sight) (turns had taken : ℕ) →
+        Reads (game_of board.old) bytes read → taken < MOST_TAKEN →
+        BoardGoes B.content B.innings_a_side sheet board.old board.new
+        (in_turn B.content board.old turns had taken (memory_of between.old.telling watch.old.witness) (ticking_of between.old.pace) (N.told watch.old.notices) seen)
+        (in_turn B.content board.new turns had (taken + 1) (memory_of between.new.telling watch.new.witness) (ticking_of between.new.pace) (N.told watch.new.notices) seen)
+        logs (record logs { passed = logs.passed ++ Came bytes ∷ [] }) }
+    ensures ticking { ticking_of between.new.pace ≡ ticking_of between.old.pace }
+{
+    let at = board.position();
+    let round = board.round_with(entry_in(read));
+    let answer = board.take(read);
+    if settles(answer) {
+        watch.witness.note(round);
+    }
+    let telling = between.telling;
+    telling.tell(answer, &mut watch.notices);
+    between.telling = telling.after(answer);
+    let may_come = answer.is_ok_and(promises_more);
+    between.pace.note(board.position() != at, may_come, now);
+}
+
+/// Tells that a desk's file lacks lines, as a vote for this place shows. The board isn't given that vote.
+fn part<N: Notices>(watch: &mut Watch<N>, between: &mut Between, place: u32)
+    ensures telling { between.new.telling ≡ telling_parted between.old.telling }
+    ensures told { N.told watch.new.notices ≡ notices_parted between.old.telling (N.told watch.old.notices) place }
+    ensures witness { watch.new.witness ≡ watch.old.witness }
+    ensures pace { between.new.pace ≡ between.old.pace }
+{
+    between.telling = between.telling.part(place, &mut watch.notices);
+}
+
+/// A board hears what came, as it was read: it is given it, unless it shows that a desk's file lacks lines.
+fn hear<B: BookOf, N: Notices>(
+    board: &mut Board<B>,
+    read: Result<Message, WireFault>,
+    watch: &mut Watch<N>,
     between: &mut Between,
     now: u64,
 )
@@ -76,27 +152,25 @@ fn give<B: BookOf, N: Notices>(
     ensures goes { (bytes : List ℕ) (sheet : Sheet) (logs : Logs) (seen : List Sight) (turns had taken : ℕ) →
         Reads (game_of board.old) bytes read → taken < MOST_TAKEN →
         BoardGoes B.content B.innings_a_side sheet board.old board.new
-        (in_turn B.content board.old turns had taken between.old.telling (ticking_of between.old.pace) (N.told notices.old) seen)
-        (in_turn B.content board.new turns had (taken + 1) between.new.telling (ticking_of between.new.pace) (N.told notices.new) seen)
+        (in_turn B.content board.old turns had taken (memory_of between.old.telling watch.old.witness) (ticking_of between.old.pace) (N.told watch.old.notices) seen)
+        (in_turn B.content board.new turns had (taken + 1) (memory_of between.new.telling watch.new.witness) (ticking_of between.new.pace) (N.told watch.new.notices) seen)
         logs (record logs { passed = logs.passed ++ Came bytes ∷ [] }) }
     ensures ticking { ticking_of between.new.pace ≡ ticking_of between.old.pace }
 {
-    let at = board.position();
-    let answer = board.take(read);
-    let telling = between.telling;
-    telling.tell(answer, notices);
-    between.telling = telling.after(answer);
-    let may_come = answer.is_ok_and(promises_more);
-    between.pace.note(board.position() != at, may_come, now);
+    match parting(&watch.witness, read) {
+        Some(place) => part(watch, between, place),
+        None => give(board, read, watch, between, now),
+    }
 }
 
 /// Tells that bytes came that don't open, unless it was told. Nothing else changes: what is said unasked, and when.
-fn pass_over<N: Notices>(notices: &mut N, between: &mut Between)
+fn pass_over<N: Notices>(watch: &mut Watch<N>, between: &mut Between)
     ensures telling { between.new.telling ≡ telling_unopened between.old.telling }
-    ensures told { N.told notices.new ≡ notices_unopened between.old.telling (N.told notices.old) }
+    ensures told { N.told watch.new.notices ≡ notices_unopened between.old.telling (N.told watch.old.notices) }
+    ensures witness { watch.new.witness ≡ watch.old.witness }
     ensures pace { between.new.pace ≡ between.old.pace }
 {
-    between.telling = between.telling.unopened(notices);
+    between.telling = between.telling.unopened(&mut watch.notices);
 }
 
 /// Says what is due, and takes the next datagram. The first one of a turn is waited for, until something is due. It answers
@@ -105,20 +179,20 @@ fn take_next<B: BookOf, L: Link, C: Clock, N: Notices>(
     board: &mut Board<B>,
     link: &mut L,
     clock: &mut C,
-    notices: &mut N,
+    watch: &mut Watch<N>,
     between: &mut Between,
 ) -> bool
     ensures taken { result ≡ true →
         (sheet : Sheet) (shown : Option (List ℕ)) (seen : List Sight) (turns had taken : ℕ) → taken < MOST_TAKEN →
         BoardGoes B.content B.innings_a_side sheet board.old board.new
-        (in_turn B.content board.old turns had taken between.old.telling (ticking_of between.old.pace) (N.told notices.old) seen)
-        (in_turn B.content board.new turns had (taken + 1) between.new.telling (ticking_of between.new.pace) (N.told notices.new) seen)
+        (in_turn B.content board.old turns had taken (memory_of between.old.telling watch.old.witness) (ticking_of between.old.pace) (N.told watch.old.notices) seen)
+        (in_turn B.content board.new turns had (taken + 1) (memory_of between.new.telling watch.new.witness) (ticking_of between.new.pace) (N.told watch.new.notices) seen)
         (untyped (L.log link.old) (C.readings clock.old) shown) (untyped (L.log link.new) (C.readings clock.new) shown) }
     ensures none { result ≡ false →
         (sheet : Sheet) (shown : Option (List ℕ)) (seen : List Sight) (turns had taken : ℕ) →
         BoardGoes B.content B.innings_a_side sheet board.old board.new
-        (in_turn B.content board.old turns had taken between.old.telling (ticking_of between.old.pace) (N.told notices.old) seen)
-        (in_turn B.content board.new turns had taken between.new.telling (ticking_of between.new.pace) (N.told notices.new) seen)
+        (in_turn B.content board.old turns had taken (memory_of between.old.telling watch.old.witness) (ticking_of between.old.pace) (N.told watch.old.notices) seen)
+        (in_turn B.content board.new turns had taken (memory_of between.new.telling watch.new.witness) (ticking_of between.new.pace) (N.told watch.new.notices) seen)
         (untyped (L.log link.old) (C.readings clock.old) shown) (untyped (L.log link.new) (C.readings clock.new) shown) }
     ensures looked { IsSome (ticking_of between.new.pace).looked }
 {
@@ -127,11 +201,11 @@ fn take_next<B: BookOf, L: Link, C: Clock, N: Notices>(
     match link.take_message(board.game(), &mut buffer, wait) {
         Arrival::Datagram(_, read) => {
             let now = clock.millis();
-            give(board, read, notices, between, now);
+            hear(board, read, watch, between, now);
             true
         }
         Arrival::Unopened => {
-            pass_over(notices, between);
+            pass_over(watch, between);
             true
         }
         Arrival::Nothing | Arrival::Lost => false,
@@ -143,19 +217,19 @@ fn take_all<B: BookOf, L: Link, C: Clock, N: Notices>(
     board: &mut Board<B>,
     link: &mut L,
     clock: &mut C,
-    notices: &mut N,
+    watch: &mut Watch<N>,
     between: &mut Between,
 )
     ensures goes { (sheet : Sheet) (shown : Option (List ℕ)) (seen : List Sight) (turns had : ℕ) → (taken : ℕ) ×
         BoardGoes B.content B.innings_a_side sheet board.old board.new
-        (in_turn B.content board.old turns had 0 between.old.telling (ticking_of between.old.pace) (N.told notices.old) seen)
-        (in_turn B.content board.new turns had taken between.new.telling (ticking_of between.new.pace) (N.told notices.new) seen)
+        (in_turn B.content board.old turns had 0 (memory_of between.old.telling watch.old.witness) (ticking_of between.old.pace) (N.told watch.old.notices) seen)
+        (in_turn B.content board.new turns had taken (memory_of between.new.telling watch.new.witness) (ticking_of between.new.pace) (N.told watch.new.notices) seen)
         (untyped (L.log link.old) (C.readings clock.old) shown) (untyped (L.log link.new) (C.readings clock.new) shown) }
     ensures looked { IsSome (ticking_of between.new.pace).looked }
 {
     between.pace.set_waits(true);
     for taken in 0..MOST_TAKEN {
-        if !take_next(board, link, clock, notices, between) {
+        if !take_next(board, link, clock, watch, between) {
             break;
         }
     }
@@ -187,7 +261,7 @@ fn turn<B: BookOf, L: Link, C: Clock, N: Notices, W: Sink, S: Shows<B>>(
     sheet: &MatchSheet,
     link: &mut L,
     clock: &mut C,
-    notices: &mut N,
+    watch: &mut Watch<N>,
     out: &mut Watched<W>,
     state: &mut S,
     between: &mut Between,
@@ -195,14 +269,14 @@ fn turn<B: BookOf, L: Link, C: Clock, N: Notices, W: Sink, S: Shows<B>>(
     ensures runs { (turns : ℕ) → (runs : BoardRuns B.content B.innings_a_side sheet.now board.old board.new
         (untyped (L.log link.old) (C.readings clock.old) (W.contents (stream_of out.old)))
         (untyped (L.log link.new) (C.readings clock.new) (W.contents (stream_of out.new))) turns (turns + 1)
-        between.old.telling (ticking_of between.old.pace) (N.told notices.old) (N.told notices.new)
+        (memory_of between.old.telling watch.old.witness) (ticking_of between.old.pace) (N.told watch.old.notices) (N.told watch.new.notices)
         (S.seen state.old) (S.seen state.new) result)
         × OnOk result (runs.last ≡ at_turn B.content board.new (turns + 1)
-        between.new.telling (ticking_of between.new.pace) (N.told notices.new) (S.seen state.new)) }
+        (memory_of between.new.telling watch.new.witness) (ticking_of between.new.pace) (N.told watch.new.notices) (S.seen state.new)) }
     ensures failed { OnErr result (has_failed out.new ≡ true ⊎ S.failed state.new ≡ true) }
 {
     let before = board.book().len();
-    take_all(board, link, clock, notices, between);
+    take_all(board, link, clock, watch, between);
     between.pace.end_turn();
     if between.telling.is_stopped {
         return Ok(());
@@ -221,15 +295,16 @@ pub fn run_board<B: BookOf, L: Link, C: Clock, N: Notices, W: Sink, S: Shows<B>>
     sheet: &MatchSheet,
     link: &mut L,
     clock: &mut C,
-    notices: &mut N,
+    watch: &mut Watch<N>,
     out: &mut Watched<W>,
     state: &mut S,
     turns: u64,
 ) -> Result<(), WriteFailed>
+    requires fresh { watch.old.witness ≡ [] }
     ensures runs { BoardRuns B.content B.innings_a_side sheet.now board.old board.new
         (untyped (L.log link.old) (C.readings clock.old) (W.contents (stream_of out.old)))
         (untyped (L.log link.new) (C.readings clock.new) (W.contents (stream_of out.new))) 0 turns
-        untold unticked (N.told notices.old) (N.told notices.new) (S.seen state.old) (S.seen state.new) result }
+        unheard unticked (N.told watch.old.notices) (N.told watch.new.notices) (S.seen state.old) (S.seen state.new) result }
     ensures failed { OnErr result (has_failed out.new ≡ true ⊎ S.failed state.new ≡ true) }
 {
     let mut between = Between {
@@ -237,7 +312,7 @@ pub fn run_board<B: BookOf, L: Link, C: Clock, N: Notices, W: Sink, S: Shows<B>>
         telling: Telling::NOTHING,
     };
     for number in 0..turns {
-        turn(board, sheet, link, clock, notices, out, state, &mut between)?;
+        turn(board, sheet, link, clock, watch, out, state, &mut between)?;
     }
     Ok(())
 }

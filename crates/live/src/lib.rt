@@ -18,6 +18,7 @@ mod peer;
 mod reminding;
 mod shows;
 mod sight_log;
+mod watch;
 
 pub use begin::begin_desk;
 pub use board_life::keep_board;
@@ -31,3 +32,4 @@ pub use laws::{
 pub use outside::Outside;
 pub use shows::Shows;
 pub use sight_log::SightLog;
+pub use watch::Watch;

@@ -32,6 +32,7 @@ use Rattle.processes.specs.PublicScores.{ShowsAgreed}
 use Rattle.processes.specs.SecondVotes.{AtEachHappening, TakesSecond}
 use Rattle.processes.proofs.Flowing.{Flows, at_some, fine, runs, stands}
 use Rattle.processes.proofs.LostLines.{lacks, shows_none}
+use Rattle.processes.proofs.Parting.{no_vote_parts}
 use Rattle.processes.proofs.PublicScores.{prints, shows}
 use Rattle.processes.proofs.SecondVotes.{takes_second}
 
@@ -113,6 +114,7 @@ module _ {Disk : Type 0} (seen : Disk → List ℕ) (images : Disk → Images) (
               (λ gs g flow. lacks s game innings (after w gs) (stands s game innings refl version boards w begins gs flow.0) (fine_at gs flow.0) g flow.1) hs f;
           shows_no_loss = each (ShowsNoLoss game)
               (λ gs g flow. shows_none s game innings (after w gs) (stands s game innings refl version boards w begins gs flow.0) (fine_at gs flow.0) (entries gs flow.0) g flow.1) hs f;
+          no_vote_parts = no_vote_parts s game innings refl version boards w begins hs f (entries hs f);
         }
 
 module _ {Disk : Type 0} (seen : Disk → List ℕ) (images : Disk → Images) where

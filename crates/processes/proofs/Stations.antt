@@ -18,7 +18,6 @@ use Rattle.desk.specs.Desk.{disk_of}
 use Rattle.headline.specs.Configurations.{Running}
 use Rattle.live.specs.Boards as boards
 use Rattle.live.specs.Boards.{BoardTurn, board_kind}
-use Rattle.station_texts.specs.Notices.{untold}
 use Rattle.live.specs.Runs as own
 use Rattle.live.specs.Runs.{LogsGrow, known_where, with_told}
 use Rattle.live.specs.Ticks.{unticked}
@@ -62,7 +61,7 @@ module _ {B : Type 0} {g : _} (content : B → List Entry) (innings_of : B → �
       let goes = r.runs.goes.goes in
       let innings = innings_of (board.book_of old) in
       let kind = board_kind sheet (board.game_of old) innings in
-      let from : BoardState → BoardTurn = λ k. boards.begun k 0 untold unticked noted (seen ++ r.first) in
+      let from : BoardState → BoardTurn = λ k. boards.begun k 0 boards.unheard unticked noted (seen ++ r.first) in
       let Lives : BoardState → Type 0 = λ k.
       HandsBook sheet innings k.book r.first × own.Run kind (from k) goes.moments × ((λ (t : BoardTurn). t.board) (own.last_of (from k) goes.moments) ≡ board.state_of content new)
       × LogsGrow kind (from k) goes.moments (known_where result (with_told before (board_text sheet innings (history_of k.book)))) (known_where result after)

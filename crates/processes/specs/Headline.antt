@@ -16,6 +16,7 @@ use Rattle.live.specs.Desks as desks
 use Rattle.station_texts.specs.Saying.{SaysEntry}
 use Rattle.processes.specs.Happenings.{BoardCalled, BoardGreeted, DeskCalled, DeskGreeted, Happening, after}
 use Rattle.processes.specs.LostLines.{LacksNoLines, ShowsNoLoss}
+use Rattle.processes.specs.Parting.{NoVoteParts}
 use Rattle.processes.specs.Printing.{Greets, Hands, Prints, Tells, greeting_of}
 use Rattle.processes.specs.PublicScores.{ShowsAgreed}
 use Rattle.processes.specs.SecondVotes.{AtEachHappening, TakesSecond}
@@ -86,3 +87,5 @@ pub record ProcessHeadline {Disk : Type 0} (game innings : ℕ) (w : Configurati
   pub lacks_no_lines : AtEachHappening w hs LacksNoLines
   -- and by no message that a station handed out is it shown that the other's file lacks some
   pub shows_no_loss : AtEachHappening w hs (ShowsNoLoss game)
+  -- nor is any vote that a station handed out against a round that a board has heard
+  pub no_vote_parts : NoVoteParts w hs

@@ -14,5 +14,6 @@ pub mod Sealing
 pub mod Weaving
 pub mod SecondVotes
 pub mod LostLines
+pub mod Parting
 pub mod Stations
 pub mod Worked

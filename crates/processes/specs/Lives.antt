@@ -19,7 +19,6 @@ use Rattle.live.specs.Boards as boards
 use Rattle.live.specs.Boards.{BoardCall, BoardTurn, board_kind, handed, shown}
 use Rattle.live.specs.DeskLife.{BeginsOn, fresh}
 use Rattle.live.specs.Desks.{DeskCall, DeskProcess, DeskStep, FitsLongest, course_after, desk_kind, told_of}
-use Rattle.station_texts.specs.Notices.{untold}
 use Rattle.live.specs.Runs as own
 use Rattle.live.specs.Sights.{Sight}
 use Rattle.live.specs.Ticks.{unticked}
@@ -126,7 +125,7 @@ life_happens innings d (x ∷ xs) = stage_happens innings d x ++ life_happens in
 
 -- a board's process at its beginning, with an empty book, behind any notices and whatever was handed over to be shown
 abbrev pub fresh_turn : List Notice → List Sight → BoardTurn
-fresh_turn noted seen = boards.begun fresh_board 0 untold unticked noted seen
+fresh_turn noted seen = boards.begun fresh_board 0 boards.unheard unticked noted seen
 
 -- the moments are a run of a board's process, with this sheet, from its beginning on
 abbrev pub BoardRuns : ℕ → ℕ → Sheet → BoardTurn → List (own.Moment BoardTurn BoardCall) → Type 0

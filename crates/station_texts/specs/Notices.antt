@@ -5,7 +5,7 @@ use Rattle.wire.specs.declared.what.What.{What}
 use Rattle.board.specs.declared.refusal.BoardRefusal.{BoardRefusal}
 use Rattle.station_texts.specs.Texts.{at_place, bad_text, unopened_line, unwarned, warned_after, warned_unopened}
 use Rattle.station_texts.specs.declared.notices.{Notice.Notice, Telling.Telling}
-use Rattle.station_texts.specs.declared.notices.Notice.TheVariants.{Bytes, Unopened, TwoVotes, BadVotes}
+use Rattle.station_texts.specs.declared.notices.Notice.TheVariants.{Bytes, Unopened, TwoVotes, BadVotes, Parted}
 
 -- the line of a notice
 abbrev pub notice_text : Notice → List ℕ
@@ -13,6 +13,8 @@ notice_text (Bytes fault) = bad_text fault
 notice_text Unopened = unopened_line
 notice_text TwoVotes = codes "peer: two votes\n"
 notice_text (BadVotes place) = at_place place (codes "refused 64 BadVotes: no score is shown from here on")
+notice_text (Parted place) =
+    at_place place (codes "is written anew: a desk's file lacks lines that this board has; no score is shown from here on")
 
 -- nothing was told
 abbrev pub untold : Telling
@@ -34,6 +36,13 @@ notices_after k notices (Err (BoardRefusal.BadVotes place)) = noted k.is_stopped
 -- the notices once bytes came that don't open: one, until a vote that it takes comes
 abbrev pub notices_unopened : Telling → List Notice → List Notice
 notices_unopened k notices = noted k.warned.of_seal notices Unopened
+
+-- the notices once a vote for this place came which shows that a desk's file lacks lines: one, where a score was shown till then
+abbrev pub notices_parted : Telling → List Notice → ℕ → List Notice
+notices_parted k notices place = noted k.is_stopped notices (Parted place)
+
+abbrev pub telling_parted : Telling → Telling
+telling_parted k = record k { is_stopped = true }
 
 abbrev pub telling_unopened : Telling → Telling
 telling_unopened k = record k { warned = warned_unopened k.warned }

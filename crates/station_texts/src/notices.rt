@@ -21,6 +21,9 @@ pub enum Notice {
     TwoVotes,
     /// Both desks' votes of this place for an entry that its book refuses. What it has shown may be wrong.
     BadVotes { place: u32 },
+    /// A vote for this place that no desk casts whose file has all its lines: the desk voted for another entry at the same
+    /// position before, or both had voted alike in an earlier round.
+    Parted { place: u32 },
 }
 
 /// Takes what a board tells. Nothing is known of who reads it; what was handed to it is told.
@@ -53,11 +56,15 @@ pub fn print_notice<W: Sink>(out: &mut Watched<W>, notice: Notice) -> Result<(),
                 "{place} refused 64 BadVotes: no score is shown from here on"
             )
         }
+        Notice::Parted { place } => writeln!(
+            out,
+            "{place} is written anew: a desk's file lacks lines that this board has; no score is shown from here on"
+        ),
     }
 }
 
-/// What a board has told since a vote that it takes came, and whether it has told that it refuses both desks' votes:
-/// from then on it shows no score.
+/// What a board has told since a vote that it takes came, and whether it has told that it refuses both desks' votes or that a
+/// desk's file lacks lines: from then on it shows no score.
 #[derive(Clone, Copy, Debug)]
 pub struct Telling {
     pub warned: Warned,
@@ -104,6 +111,19 @@ impl Telling {
         note(notices, self.warned.of_seal, Notice::Unopened);
         Telling {
             warned: self.warned.after_unopened(),
+            ..self
+        }
+    }
+
+    /// Tells that a vote for this place came which shows that a desk's file lacks lines, unless it shows no score already,
+    /// and answers what was told then.
+    pub fn part<N: Notices>(self, place: u32, notices: &mut N) -> Telling
+        ensures told { N.told notices.new ≡ texts.notices_parted self (N.told notices.old) place }
+        ensures after { result ≡ texts.telling_parted self }
+    {
+        note(notices, self.is_stopped, Notice::Parted { place });
+        Telling {
+            is_stopped: true,
             ..self
         }
     }

@@ -1,9 +1,9 @@
 //! When stations ask, how long they wait, and that they have handed on by then what they have told.
 
 use super::*;
-use board::Board;
+use board::{Board, Witness};
 use corrections::BookOf;
-use live::{Shows, SightLog, run_board};
+use live::{Shows, SightLog, Watch, run_board};
 use station_texts::{Notice, NoticeLog, Notices};
 use streams::WriteFailed;
 use wire::SIZE;
@@ -52,8 +52,11 @@ fn show(rt: &impl Abort, alloc: Global, world: &World, link: &mut Timed<'_>, tur
     let mut board = Board::new(7, empty_book(rt, alloc));
     let mut out = Watched::new(Screen::new(alloc, world));
     let mut clock = Hand::new(world);
-    let mut notes = Notes {
-        log: NoticeLog::Empty,
+    let mut watch = Watch {
+        notices: Notes {
+            log: NoticeLog::Empty,
+        },
+        witness: Witness::new(alloc).expect(rt, "room for a witness"),
     };
     let mut states = States {
         log: SightLog::Empty,
@@ -63,7 +66,7 @@ fn show(rt: &impl Abort, alloc: Global, world: &World, link: &mut Timed<'_>, tur
         &sheet,
         link,
         &mut clock,
-        &mut notes,
+        &mut watch,
         &mut out,
         &mut states,
         turns,

@@ -1,8 +1,7 @@
 use Rattle.std.proofs.Common.{◌≡◌, ℕ, Ok, Result, ap, arith, subst}
 use Rattle.streams.specs.Watched.{stream_of}
 use Rattle.streams.specs.declared.watched.WriteFailed.{WriteFailed}
-use Rattle.live.specs.Boards.{BoardRuns}
-use Rattle.station_texts.specs.Notices.{untold}
+use Rattle.live.specs.Boards.{BoardRuns, unheard}
 use Rattle.live.specs.Paces.{Paced}
 use Rattle.live.specs.Runs.{untyped}
 use Rattle.live.specs.Ticks.{unticked}
@@ -30,5 +29,5 @@ returns-clause-runs g c =
     subst (λ (turns : ℕ). BoardRuns g.B.BookOf.content g.B.BookOf.innings_a_side c.args.sheet.now c.args.board.now c.loop-number.board
     (untyped (g.L.Link.log c.args.link.now) (g.C.Clock.readings c.args.clock.now) (g.W.Sink.contents (stream_of c.args.out.now)))
     (untyped (g.L.Link.log c.loop-number.link) (g.C.Clock.readings c.loop-number.clock) (g.W.Sink.contents (stream_of c.loop-number.out))) 0 turns
-    untold unticked (g.N.Notices.told c.args.notices.now) (g.N.Notices.told c.loop-number.notices)
+    unheard unticked (g.N.Notices.told c.args.watch.now.notices) (g.N.Notices.told c.loop-number.watch.notices)
     (g.S.Shows.seen c.args.state.now) (g.S.Shows.seen c.loop-number.state) done) over (finished done c.loop-number.invariant).0

@@ -1,12 +1,13 @@
-use Rattle.std.proofs.Common.{ap, sym, take}
+use Rattle.std.proofs.Common.{ap, ap₂, sym, take}
+use Rattle.live.specs.Boards.{memory_of}
 use Rattle.live.specs.Paces.{ticking_of}
 use Rattle.live.specs.Runs.{untyped}
 use Rattle.live.proofs.BoardLemmas.{logged, passed_over, reads_clock, then}
 use Rattle.live.proofs.LostLemmas.{is_message}
 use Rattle.live.proofs.board_loop.take_next.Goals as goal
 
-pub give-requires : goal.give-requires
-give-requires g c = is_message c.game.result (take c.in-Datagram.field-0 c.take_message.new.buffer) c.in-Datagram.read c.in-Datagram.ensures.1
+pub hear-requires : goal.hear-requires
+hear-requires g c = is_message c.game.result (take c.in-Datagram.field-0 c.take_message.new.buffer) c.in-Datagram.read c.in-Datagram.ensures.1
 
 pub returns-in-Datagram-clause-taken : goal.returns-in-Datagram-clause-taken
 returns-in-Datagram-clause-taken g c = λ is sheet shown seen turns had taken few.
@@ -14,7 +15,7 @@ returns-in-Datagram-clause-taken g c = λ is sheet shown seen turns had taken fe
     then (said.ensures.goes sheet shown seen turns had taken _ _)
     (then (reads_clock {ticking = ticking_of said.new.pace} c.millis-now.result said.new.pace.in_time c.millis-now.ensures)
     (logged (sym c.in-Datagram.ensures.0.1)
-    (c.give.ensures.goes _ sheet (untyped (g.L.Link.log said.new.link) (g.C.Clock.readings c.millis-now.new.self) shown) seen turns had taken
+    (c.hear.ensures.goes _ sheet (untyped (g.L.Link.log said.new.link) (g.C.Clock.readings c.millis-now.new.self) shown) seen turns had taken
     (rw c.game.ensures at c.in-Datagram.ensures.1) few)))
 
 pub returns-in-Unopened-clause-taken : goal.returns-in-Unopened-clause-taken
@@ -22,4 +23,4 @@ returns-in-Unopened-clause-taken g c = λ is sheet shown seen turns had taken fe
     let said = c.say-wait in
     let unopened = c.pass_over.ensures in
     then (said.ensures.goes sheet shown seen turns had taken _ _)
-    (passed_over {ticking = ticking_of said.new.pace} said.new.pace.in_time (ap ticking_of unopened.pace) few unopened.telling unopened.told c.in-Unopened.ensures)
+    (passed_over {ticking = ticking_of said.new.pace} said.new.pace.in_time (ap ticking_of unopened.pace) few (ap₂ memory_of unopened.telling unopened.witness) unopened.told c.in-Unopened.ensures)

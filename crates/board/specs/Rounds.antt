@@ -1,0 +1,52 @@
+-- The rounds that a board has heard whole, and the votes that no desk casts whose file has all its lines.
+use Rattle.std.specs.Prelude.{ℕ, Bool, ◌==◌, ◌&&◌, ◌||◌, not, nat_lt, if◌then◌else◌, List, [], ◌∷◌, ◌++◌, length, Option, Some, None}
+use Rattle.std.specs.List.{list_any}
+use Rattle.std.specs.Str.{bytes_eq}
+use Rattle.notation.specs.Code.{code}
+use Rattle.notation.specs.declared.entry.Entry.{Entry}
+use Rattle.agree_core.specs.declared.messages.{DeskId.DeskId, Vote.Vote}
+use Rattle.agree_core.specs.declared.messages.DeskId.TheVariants.{A, B}
+use Rattle.agree_core.specs.LostLines.{is_at}
+use Rattle.agree_core.specs.Positions.{position_of}
+use Rattle.agree_core.specs.Readers.{ReaderState}
+use Rattle.board.specs.declared.witness.Round.{Round}
+use Rattle.board.specs.declared.witness.TheConstants.{MOST_ROUNDS}
+
+-- what a desk voted for in it
+abbrev pub cast_by : DeskId → Round → Entry
+cast_by A round = round.a
+cast_by B round = round.b
+
+-- two entries are one where their codes are
+abbrev pub is_alike : Entry → Entry → Bool
+is_alike one other = bytes_eq (code one) (code other)
+
+-- A desk votes once for a position. And once both desks have voted alike, neither votes in a later round of that place. This
+-- vote is against that, by a round that was heard.
+abbrev pub is_another : Vote → Round → Bool
+is_another v round = is_at round.at (position_of v) && not (is_alike (cast_by v.desk round) v.entry)
+
+abbrev pub is_later : Vote → Round → Bool
+is_later v round = ((round.at.place == v.place) && nat_lt round.at.round v.round) && is_alike round.a round.b
+
+abbrev pub is_against : Vote → Round → Bool
+is_against v round = is_another v round || is_later v round
+
+-- So it shows that a desk's file lacks lines that this board has heard.
+abbrev pub parts : List Round → Vote → Bool
+parts rounds v = list_any (is_against v) rounds
+
+-- the round that this entry makes whole, as the vote of the desk whose vote isn't noted yet
+abbrev pub whole_with : ReaderState → Option Entry → Option Entry → Entry → Option Round
+whole_with r (Some a) None e = Some (record { at = r.position; a = a; b = e })
+whole_with r None (Some b) e = Some (record { at = r.position; a = e; b = b })
+whole_with r a b e = None
+
+abbrev pub whole_round : ReaderState → Option Entry → Option Round
+whole_round r None = None
+whole_round r (Some e) = whole_with r r.a r.b e
+
+-- the rounds with this one, of which so many are remembered: a desk's file has no more votes
+abbrev pub with_round : List Round → Option Round → List Round
+with_round rounds None = rounds
+with_round rounds (Some round) = if nat_lt (length rounds) MOST_ROUNDS then rounds ++ round ∷ [] else rounds

@@ -1,0 +1,51 @@
+-- The rounds that a board's process remembers.
+use Rattle.std.proofs.Common.{◌≡◌, ◌∙◌, ℕ, Bool, true, false, List, Option, Some, Result, Ok, refl, sym, ap}
+use Rattle.std.specs.Prelude.{if◌then◌else◌}
+use Rattle.notation.specs.declared.entry.Entry.{Entry}
+use Rattle.agree_core.specs.declared.{messages.Message.Message, messages.Vote.Vote, seat.Heard.Heard}
+use Rattle.agree_core.specs.Boards.{BoardState}
+use Rattle.agree_core.specs.Books.{Rules}
+use Rattle.vote_store.specs.Record.{entry_coded}
+use Rattle.wire.specs.Layout.{Says, body_in}
+use Rattle.wire.specs.Reading.{Reads}
+use Rattle.wire.specs.declared.{fault.WireFault.WireFault, what.What.What}
+use Rattle.wire.proofs.FaultLemmas.{reads_once}
+use Rattle.board.specs.declared.{refusal.BoardRefusal.BoardRefusal, witness.Round.Round}
+use Rattle.board.specs.Rounds.{parts, whole_round, with_round}
+use Rattle.board.specs.Takes.{Takes}
+use Rattle.live.specs.Boards.{rounds_after, settles}
+use Rattle.live.proofs.HiddenLemmas.{entry_of_vote}
+
+module _ {Why : Type 0} (rules : Rules Why) (game : ℕ) (k l : BoardState) (bytes : List ℕ) where
+  -- a round is made whole by a vote
+  heard_vote : (answer : Result What BoardRefusal) → Takes rules game k bytes answer l → settles answer ≡ true → (v : Vote) × Says game bytes (Message.Vote v)
+  heard_vote (Ok (What.Heard Heard.Agreed)) (Message.Vote v, says, r) e = (v, says)
+  heard_vote (Ok (What.Heard Heard.Agreed)) (Message.Ask q, says, r) e = absurd r
+  heard_vote (Ok (What.Heard Heard.Differ)) (Message.Vote v, says, r) e = (v, says)
+  heard_vote (Ok (What.Heard Heard.Differ)) (Message.Ask q, says, r) e = absurd r
+  heard_vote _ t e = absurd (cc)
+
+  module _ (read : Result Message WireFault) (reads : Reads game bytes read) where
+    -- whose entry is that of its bytes
+    entry_so : (answer : Result What BoardRefusal) (entry : Option Entry) → ((v : Vote) → read ≡ Ok (Message.Vote v) → entry ≡ Some v.entry)
+        → Takes rules game k bytes answer l → settles answer ≡ true → entry ≡ entry_coded (body_in bytes)
+    entry_so answer entry is takes e =
+        let said = heard_vote answer takes e in
+        is said.0 (reads_once game bytes read (Ok (Message.Vote said.0)) reads said.1) ∙ sym (entry_of_vote game bytes said.0 said.1)
+
+    noted_when : (b : Bool) (answer : Result What BoardRefusal) (entry : Option Entry) (rounds : List Round) → settles answer ≡ b
+        → ((v : Vote) → read ≡ Ok (Message.Vote v) → entry ≡ Some v.entry) → Takes rules game k bytes answer l
+        → (if b then with_round rounds (whole_round k.reader entry) else rounds) ≡ (if b then with_round rounds (whole_round k.reader (entry_coded (body_in bytes))) else rounds)
+    noted_when true answer entry rounds e is takes = ap (λ (entry : Option Entry). with_round rounds (whole_round k.reader entry)) (entry_so answer entry is takes e)
+    noted_when false answer entry rounds e is takes = refl
+
+    -- what is remembered of a message that was read is what is remembered of its bytes
+    pub rounds_noted : (answer : Result What BoardRefusal) (entry : Option Entry) (rounds : List Round)
+        → ((v : Vote) → read ≡ Ok (Message.Vote v) → entry ≡ Some v.entry) → Takes rules game k bytes answer l
+        → (if settles answer then with_round rounds (whole_round k.reader entry) else rounds) ≡ rounds_after k rounds bytes answer
+    rounds_noted answer entry rounds is takes = noted_when (settles answer) answer entry rounds refl is takes
+
+  -- what doesn't part, read so, doesn't by its bytes
+  pub unparted : (read : Result Message WireFault) → Reads game bytes read → (rounds : List Round) → ((v : Vote) → read ≡ Ok (Message.Vote v) → parts rounds v ≡ false)
+      → (v : Vote) → Says game bytes (Message.Vote v) → parts rounds v ≡ false
+  unparted read reads rounds h v says = h v (reads_once game bytes read (Ok (Message.Vote v)) reads says)

@@ -1,0 +1,28 @@
+-- No board sees that a desk's file lacks lines, while both desks' files are kept.
+use Rattle.std.specs.Prelude.{◌≡◌, ℕ, false, nat_eq, if◌then◌else◌, List, [], ◌∷◌, Option, Some, slice_get}
+use Rattle.agree_core.specs.declared.messages.{Message.Message, Vote.Vote}
+use Rattle.agree_core.specs.Boards.{BoardState}
+use Rattle.board.specs.Rounds.{parts}
+use Rattle.board.specs.declared.witness.Round.{Round}
+use Rattle.headline.specs.Configurations.{Configuration, board_at}
+use Rattle.live.specs.Boards as boards
+use Rattle.live.specs.Boards.{BoardCall, rounds_after}
+use Rattle.processes.specs.Happenings.{BoardBegun, BoardCalled, Happening, after}
+
+-- the rounds that a board has heard whole, the oldest first, after a call
+abbrev pub rounds_called : Option BoardState → BoardCall → List Round → List Round
+rounds_called (Some k) (boards.Given bytes answer) rounds = rounds_after k rounds bytes answer
+rounds_called k call rounds = rounds
+
+-- the rounds that the board of this number has heard whole since it began last
+abbrev pub rounds_at : {Disk : Type 0} → Configuration Disk → ℕ → List (Happening Disk) → List Round
+rounds_at w n [] = []
+rounds_at w n (BoardCalled m s call out l text seen ∷ hs) =
+    if nat_eq n m then rounds_called (board_at (after w hs).boards m) call (rounds_at w n hs) else rounds_at w n hs
+rounds_at w n (BoardBegun m ∷ hs) = if nat_eq n m then [] else rounds_at w n hs
+rounds_at w n (h ∷ hs) = rounds_at w n hs
+
+-- no vote that a station ever handed out is against a round that a board has heard
+abbrev pub NoVoteParts : {Disk : Type 0} → Configuration Disk → List (Happening Disk) → Type 0
+NoVoteParts w hs =
+    (n i : ℕ) (v : Vote) → slice_get (after w hs).sent i ≡ Some (Message.Vote v) → parts (rounds_at w n hs) v ≡ false
