@@ -1,6 +1,6 @@
 //! What a board remembers of the rounds that it has heard, and which votes show by it that a desk's file lacks lines.
 
-ghost use Rattle.std.specs.Prelude.{◌≡◌, IfOk, []};
+ghost use Rattle.std.specs.Prelude.{◌≡◌, ◌<◌, ◌≤◌, ◌∷◌, ◌++◌, IfOk, [], vec_capacity, vec_len};
 ghost use Rattle.board.specs.Rounds as laws;
 
 use agree_core::{DeskId, Position, Vote};
@@ -77,6 +77,15 @@ impl Model for Witness {
     ghost invariant = { λ w. 16384 ≤ vec_capacity w.rounds };
 }
 
+/// Adds a value to a list that has room for it.
+fn add<T: Copy + Drop>(list: &mut Vec<T>, value: T)
+    requires room { vec_len list.old < vec_capacity list.old }
+    ensures items { list.new.items ≡ list.old.items ++ value ∷ [] }
+    ensures capacity { vec_capacity list.old ≤ vec_capacity list.new }
+{
+    list.push(value).unwrap();
+}
+
 impl Witness {
     /// It has heard none.
     pub fn new(alloc: Global) -> Result<Witness, AllocError>
@@ -102,7 +111,7 @@ impl Witness {
         if let Some(round) = round
             && self.rounds.len() < MOST_ROUNDS
         {
-            self.rounds.push(round).unwrap();
+            add(&mut self.rounds, round);
         }
     }
 }

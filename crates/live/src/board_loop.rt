@@ -1,13 +1,13 @@
 //! A board's process.
 
-ghost use Rattle.std.specs.Prelude.{◌≡◌, ◌<◌, ◌+◌, ℕ, true, false, Option, Some, None, Ok, List, [], ◌∷◌, ◌++◌, ◌⊎◌, IsSome, OnErr, OnOk, length, nat_eq};
+ghost use Rattle.std.specs.Prelude.{◌≡◌, ◌<◌, ◌+◌, ℕ, true, false, if◌then◌else◌, Option, Some, None, Ok, List, [], ◌∷◌, ◌++◌, ◌⊎◌, IsSome, OnErr, OnOk, length, nat_eq};
 ghost use Rattle.std.specs.Result.{ForOk};
 ghost use Rattle.corrections.specs.CleanList.{history_of};
 ghost use Rattle.cards.specs.Board.{board as board_text};
 ghost use Rattle.cards.specs.Sheet.{Sheet};
 ghost use Rattle.streams.specs.Watched.{Prints, TellsFailure, has_failed, stream_of};
 ghost use Rattle.board.specs.Board.{book_of, game_of};
-ghost use Rattle.board.specs.Rounds.{parts};
+ghost use Rattle.board.specs.Rounds.{parts, with_round};
 ghost use Rattle.live.specs.Boards as laws;
 ghost use Rattle.live.specs.Boards.{BoardGoes, BoardRuns, Memory, at_turn, grown, in_turn, memory_of, unheard};
 ghost use Rattle.station_texts.specs.Notices.{notices_parted, notices_unopened, telling_parted, telling_unopened};
@@ -28,7 +28,7 @@ use crate::pace::Pace;
 use crate::shows::Shows;
 use crate::watch::Watch;
 use agree_core::{Heard, Message};
-use board::{Board, BoardRefusal, Witness};
+use board::{Board, BoardRefusal, Round, Witness};
 use cards::{MatchSheet, board_lines};
 use corrections::BookOf;
 use links::{Arrival, Clock, Link, MOST_TAKEN, ROOM};
@@ -70,20 +70,20 @@ fn say<B: BookOf, L: Link, C: Clock>(
 }
 
 /// Whether a vote came that shows, by the rounds that were heard, that a desk's file lacks lines; its place.
-fn parting(witness: &Witness, read: Result<Message, WireFault>) -> Option<u32>
+fn parting(witness: &Witness, read: &Result<Message, WireFault>) -> Option<u32>
     ensures parted { (place : ℕ) → result ≡ Some place →
-        (v : AVote) × (read ≡ Ok (Message.Vote v)) × (v.place ≡ place) × (parts witness.now v ≡ true) }
-    ensures none { result ≡ None → (v : AVote) → read ≡ Ok (Message.Vote v) → parts witness.now v ≡ false }
+        (v : AVote) × (read.now ≡ Ok (Message.Vote v)) × (v.place ≡ place) × (parts witness.now v ≡ true) }
+    ensures none { result ≡ None → (v : AVote) → read.now ≡ Ok (Message.Vote v) → parts witness.now v ≡ false }
 {
     match read {
-        Ok(Message::Vote(vote)) if witness.parts(&vote) => Some(vote.place),
+        Ok(Message::Vote(vote)) if witness.parts(vote) => Some(vote.place),
         _ => None,
     }
 }
 
 /// The entry of the vote that came, where it is one.
-fn entry_in(read: Result<Message, WireFault>) -> Option<Entry>
-    ensures { (v : AVote) → read ≡ Ok (Message.Vote v) → result ≡ Some v.entry }
+fn entry_in(read: &Result<Message, WireFault>) -> Option<Entry>
+    ensures { (v : AVote) → read.now ≡ Ok (Message.Vote v) → result ≡ Some v.entry }
 {
     match read {
         Ok(Message::Vote(vote)) => Some(vote.entry),
@@ -98,19 +98,28 @@ fn settles(answer: Result<What, BoardRefusal>) -> bool
     matches!(answer, Ok(What::Heard(Heard::Agreed | Heard::Differ)))
 }
 
+/// Remembers a round, where both votes of it were heard, by the board's answer.
+fn remember(witness: &mut Witness, round: Option<Round>, answer: Result<What, BoardRefusal>)
+    ensures { witness.new ≡ (if laws.settles answer then with_round witness.old round else witness.old) }
+{
+    if settles(answer) {
+        witness.note(round);
+    }
+}
+
 /// A board takes what came at its position, as it was read, and tells what it can't take. A round that it has heard whole is
 /// remembered.
 fn give<B: BookOf, N: Notices>(
     board: &mut Board<B>,
-    read: Result<Message, WireFault>,
+    read: &Result<Message, WireFault>,
     watch: &mut Watch<N>,
     between: &mut Between,
     now: u64,
 )
-    requires message { ForOk read IsMessage }
-    requires whole { (v : AVote) → read ≡ Ok (Message.Vote v) → parts watch.old.witness v ≡ false }
+    requires message { ForOk read.now IsMessage }
+    requires whole { (v : AVote) → read.now ≡ Ok (Message.Vote v) → parts watch.old.witness v ≡ false }
     ensures goes { (bytes : List ℕ) (sheet : Sheet) (logs : Logs) (seen : List Sight) (turns had taken : ℕ) →
-        Reads (game_of board.old) bytes read → taken < MOST_TAKEN →
+        Reads (game_of board.old) bytes read.now → taken < MOST_TAKEN →
         BoardGoes B.content B.innings_a_side sheet board.old board.new
         (in_turn B.content board.old turns had taken (memory_of between.old.telling watch.old.witness) (ticking_of between.old.pace) (N.told watch.old.notices) seen)
         (in_turn B.content board.new turns had (taken + 1) (memory_of between.new.telling watch.new.witness) (ticking_of between.new.pace) (N.told watch.new.notices) seen)
@@ -119,12 +128,11 @@ fn give<B: BookOf, N: Notices>(
 {
     let at = board.position();
     let round = board.round_with(entry_in(read));
-    let answer = board.take(read);
-    if settles(answer) {
-        watch.witness.note(round);
-    }
+    let answer = board.take(*read);
+    let Watch { notices, witness } = watch;
+    remember(witness, round, answer);
     let telling = between.telling;
-    telling.tell(answer, &mut watch.notices);
+    telling.tell(answer, notices);
     between.telling = telling.after(answer);
     let may_come = answer.is_ok_and(promises_more);
     between.pace.note(board.position() != at, may_come, now);
@@ -137,20 +145,21 @@ fn part<N: Notices>(watch: &mut Watch<N>, between: &mut Between, place: u32)
     ensures witness { watch.new.witness ≡ watch.old.witness }
     ensures pace { between.new.pace ≡ between.old.pace }
 {
-    between.telling = between.telling.part(place, &mut watch.notices);
+    let Watch { notices, .. } = watch;
+    between.telling = between.telling.part(place, notices);
 }
 
 /// A board hears what came, as it was read: it is given it, unless it shows that a desk's file lacks lines.
 fn hear<B: BookOf, N: Notices>(
     board: &mut Board<B>,
-    read: Result<Message, WireFault>,
+    read: &Result<Message, WireFault>,
     watch: &mut Watch<N>,
     between: &mut Between,
     now: u64,
 )
-    requires { ForOk read IsMessage }
+    requires { ForOk read.now IsMessage }
     ensures goes { (bytes : List ℕ) (sheet : Sheet) (logs : Logs) (seen : List Sight) (turns had taken : ℕ) →
-        Reads (game_of board.old) bytes read → taken < MOST_TAKEN →
+        Reads (game_of board.old) bytes read.now → taken < MOST_TAKEN →
         BoardGoes B.content B.innings_a_side sheet board.old board.new
         (in_turn B.content board.old turns had taken (memory_of between.old.telling watch.old.witness) (ticking_of between.old.pace) (N.told watch.old.notices) seen)
         (in_turn B.content board.new turns had (taken + 1) (memory_of between.new.telling watch.new.witness) (ticking_of between.new.pace) (N.told watch.new.notices) seen)
@@ -170,7 +179,8 @@ fn pass_over<N: Notices>(watch: &mut Watch<N>, between: &mut Between)
     ensures witness { watch.new.witness ≡ watch.old.witness }
     ensures pace { between.new.pace ≡ between.old.pace }
 {
-    between.telling = between.telling.unopened(&mut watch.notices);
+    let Watch { notices, .. } = watch;
+    between.telling = between.telling.unopened(notices);
 }
 
 /// Says what is due, and takes the next datagram. The first one of a turn is waited for, until something is due. It answers
@@ -201,7 +211,7 @@ fn take_next<B: BookOf, L: Link, C: Clock, N: Notices>(
     match link.take_message(board.game(), &mut buffer, wait) {
         Arrival::Datagram(_, read) => {
             let now = clock.millis();
-            hear(board, read, watch, between, now);
+            hear(board, &read, watch, between, now);
             true
         }
         Arrival::Unopened => {

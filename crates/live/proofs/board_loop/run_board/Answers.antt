@@ -9,7 +9,7 @@ use Rattle.live.proofs.BoardLemmas.{finished, silent, stopped, then, unread, who
 use Rattle.live.proofs.board_loop.run_board.Goals as goal
 
 pub loop-number-init : goal.loop-number-init
-loop-number-init g c = unread {ticking = unticked} (ap (λ (p : Paced). p.ticking) c.new.ensures)
+loop-number-init g c = rw c.requires.fresh (unread {ticking = unticked} (ap (λ (p : Paced). p.ticking) c.new.ensures))
 
 pub loop-number-preserved : goal.loop-number-preserved
 loop-number-preserved g c =
