@@ -1,5 +1,5 @@
 -- No board sees that a desk's file lacks lines, while both desks' files are kept.
-use Rattle.std.proofs.Common.{arith, ◌≡◌, ℕ, Bool, true, false, not, ◌&&◌, ◌||◌, nat_eq, nat_lt, List, [], ◌∷◌, ◌++◌, Option, Some, None, Result, Ok, Err, refl, ap, ap₂, ◌<◌, subst, length}
+use Rattle.std.proofs.Common.{arith, ◌≡◌, ℕ, Bool, true, false, not, ◌&&◌, ◌||◌, nat_eq, nat_lt, List, [], ◌∷◌, ◌++◌, Option, Some, None, Result, Ok, Err, refl, sym, ap, ap₂, ◌<◌, subst, length}
 use Rattle.std.specs.Prelude.{◌==◌, if◌then◌else◌, slice_get}
 use Rattle.std.specs.List.{list_any}
 use Rattle.std.specs.Str.{bytes_eq}
@@ -13,7 +13,7 @@ use Rattle.corrections.specs.Refusal.{book_refusal}
 use Rattle.corrections.specs.declared.refusal.Refusal.{Refusal}
 use Rattle.agree_core.specs.declared.{messages.DeskId.DeskId, messages.Message.Message, messages.Vote.Vote, position.Position.Position, seat.Heard.Heard}
 use Rattle.agree_core.specs.declared.messages.DeskId.TheVariants.{A, B}
-use Rattle.agree_core.specs.Ballots.{AllJustified, AllVotes, Ballot, In, VotesGrow, ballot_of, votes_by}
+use Rattle.agree_core.specs.Ballots.{AllJustified, AllVotes, Ballot, In, VotesGrow, ballot_at, ballot_of, votes_by}
 use Rattle.agree_core.specs.Boards.{BoardAnswer, BoardReceives, BoardState}
 use Rattle.agree_core.specs.Keeping.{BoardFine, Each, MessageFine, NotedFine}
 use Rattle.agree_core.specs.LostLines.{is_at}
@@ -118,8 +118,14 @@ module _ (v : AllVotes) (j : AllJustified v) (entries : (d : DeskId) (b : Ballot
 
   -- no desk votes in a later round than the one in which both voted alike
   none_after : (d : DeskId) (r : Round) (b : Ballot) → RoundFine v r → r.a ≡ r.b → In b (votes_by v d) → r.at.place ≡ b.at.place → r.at.round < b.at.round → ⊥
-  none_after A r b h same i place later = grind (arith, none_later v.a v.b j.0 j.1 b.at.place r.at.round b.at.round r.a b.entry)
-  none_after B r b h same i place later = grind (arith, none_later v.b v.a j.1 j.0 b.at.place r.at.round b.at.round r.b b.entry)
+  none_after A r b h same i place later =
+      none_later v.a v.b j.0 j.1 r.at.place r.at.round b.at.round r.a b.entry
+      (h.0, subst (λ (e : Entry). In (record { at = r.at; entry = e }) v.b) (sym same) h.1)
+      (subst (λ (p : ℕ). In (ballot_at p b.at.round b.entry) v.a) (sym place) i) later
+  none_after B r b h same i place later =
+      none_later v.b v.a j.1 j.0 r.at.place r.at.round b.at.round r.b b.entry
+      (h.1, subst (λ (e : Entry). In (record { at = r.at; entry = e }) v.a) same h.0)
+      (subst (λ (p : ℕ). In (ballot_at p b.at.round b.entry) v.b) (sym place) i) later
 
   module _ (x : Vote) (i : In (ballot_of x) (votes_by v x.desk)) (r : Round) (h : RoundFine v r) where
     not_another : is_another x r ≡ false
@@ -145,8 +151,8 @@ module _ (v : AllVotes) (j : AllJustified v) (entries : (d : DeskId) (b : Ballot
 
 -- ---- in a flow
 
-module _ {Disk : Type 0} (s : Setting Disk Refusal) (game innings : ℕ) (rules : s.rules ≡ book_refusal innings) (version : FileVersion) (boards : ℕ)
-    (w : Configuration Disk) (begins : Begins s version boards w)
+module _ {Disk : Type 0} (s : Setting Disk Refusal) (game innings : ℕ) (rules : s.rules ≡ book_refusal innings) (version : FileVersion) (count : ℕ)
+    (w : Configuration Disk) (begins : Begins s version count w)
   where
   abbrev Happened : List (Happening Disk) → Type 0
   Happened hs = Flow s.view game innings w hs
@@ -155,12 +161,12 @@ module _ {Disk : Type 0} (s : Setting Disk Refusal) (game innings : ℕ) (rules 
   votes_after hs = all_votes (after w hs)
 
   fine_after : (hs : List (Happening Disk)) → Happened hs → Fine s (after w hs)
-  fine_after hs f = fine s game innings rules version boards w begins hs f
+  fine_after hs f = fine s game innings rules version count w begins hs f
 
   grows : (hs : List (Happening Disk)) (h : Happening Disk) → Happened (h ∷ hs) → VotesGrow (votes_after hs) (votes_after (h ∷ hs))
   grows hs h f =
       let v = after w hs in
-      let led = happening s game innings rules v (stays_calm s game innings rules w (begins_calm s game innings rules version boards w begins) hs) h f.1 in
+      let led = happening s game innings rules v (stays_calm s game innings rules w (begins_calm s game innings rules version count w begins) hs) h f.1 in
       subst (λ (u : Configuration Disk). VotesGrow (all_votes v) (all_votes u)) led.ends (run_grows s v led.moments (fine_after hs f.0) led.run)
 
   -- what came was voted

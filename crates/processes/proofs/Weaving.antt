@@ -61,7 +61,7 @@ board_came seal game sent _ fine h = tt
 desk_then : {Disk : Type 0} (v : Configuration Disk) (h : Happening Disk) (d : DeskId) → node (after_one v h) d ≡ cond (is_at_desk d h) (next_desk (node v d) h) (node v d)
 desk_then v h d = grind arith
 
-board_then : {Disk : Type 0} (v : Configuration Disk) (h : Happening Disk) (n : ℕ)
+pub board_then : {Disk : Type 0} (v : Configuration Disk) (h : Happening Disk) (n : ℕ)
     → board_at (after_one v h).boards n ≡ cond (is_at_board n h) (next_board (board_at v.boards n) h) (board_at v.boards n)
 board_then v (BoardCalled m sheet call out l text seen) n = board_set v.boards m n l
 board_then v (BoardBegun m) n = board_set v.boards m n fresh_board

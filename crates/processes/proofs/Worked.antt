@@ -191,9 +191,9 @@ module _ (s : Sheet) where
 
   board_hears : BoardRuns 7 1 s (fresh_turn [] at_first) heard
   board_hears = (
-    (board_asks_it, none_out, (omega arith, ((a_says, (is_message A, refl), ((refl, refl, refl, refl), (λ e. cc), refl)), refl), refl, omega arith)),
+    (board_asks_it, none_out, ((omega arith, λ v says. refl), ((a_says, (is_message A, refl), ((refl, refl, refl, refl), (λ e. cc), refl)), refl), refl, omega arith)),
     none_out,
-    (omega arith, ((b_says, (is_message B, refl), ((refl, refl, refl, refl), (λ e. taken 1), refl)), refl), refl, omega arith),
+    ((omega arith, λ v says. refl), ((b_says, (is_message B, refl), ((refl, refl, refl, refl), (λ e. taken 1), refl)), refl), refl, omega arith),
   )
 
   board_runs : BoardRuns 7 1 s (fresh_turn [] at_first) calls_of_board

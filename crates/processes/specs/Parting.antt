@@ -26,3 +26,12 @@ rounds_at w n (h ∷ hs) = rounds_at w n hs
 abbrev pub NoVoteParts : {Disk : Type 0} → Configuration Disk → List (Happening Disk) → Type 0
 NoVoteParts w hs =
     (n i : ℕ) (v : Vote) → slice_get (after w hs).sent i ≡ Some (Message.Vote v) → parts (rounds_at w n hs) v ≡ false
+
+-- a board's process drops a vote as one by which a desk's file lacks lines
+abbrev pub IsParted : {Disk : Type 0} → Happening Disk → Type 0
+IsParted (BoardCalled n s (boards.Parted bytes) out l text seen) = Unit {0}
+IsParted what = ⊥
+
+abbrev pub NoneIsParted : {Disk : Type 0} → List (Happening Disk) → Type 0
+NoneIsParted [] = Unit {0}
+NoneIsParted (h ∷ hs) = NoneIsParted hs × (IsParted h → ⊥)

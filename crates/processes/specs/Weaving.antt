@@ -14,6 +14,7 @@ use Rattle.processes.specs.Lives.{BeginsFirst, BoardProcess, IsBoardLife, IsLife
 use Rattle.processes.specs.Files.{NoneShowNone}
 use Rattle.processes.specs.Headline.{ProcessHeadline}
 use Rattle.processes.specs.Laws.{IsFlow}
+use Rattle.processes.specs.Parting.{NoneIsParted}
 use Rattle.processes.specs.Sealing.{BoardAuthentic, DeskAuthentic}
 
 -- it happens at this desk; at this board
@@ -95,3 +96,11 @@ module _ {Disk : Type 0} (seen : Disk → List ℕ) (images : Disk → Images) (
       → BothBegin (contents version) game innings a b
       → IsWoven seal contents game innings (start version boards a b) hs
       → ProcessHeadline game innings (start version boards a b) hs
+
+  -- and no board drops a vote as one by which a desk's file lacks lines
+  abbrev pub WovenLivesPartNone : Type 0
+  WovenLivesPartNone =
+      (seal : List ℕ) (contents : FileVersion → FileContents) (game innings : ℕ) (version : FileVersion) (boards : ℕ)
+      (a b : DeskState Disk) (hs : List (Happening Disk)) → NoneShowNone contents game
+      → BothBegin (contents version) game innings a b
+      → IsWoven seal contents game innings (start version boards a b) hs → NoneIsParted hs
