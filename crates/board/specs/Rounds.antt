@@ -1,8 +1,9 @@
 -- The rounds that a board has heard whole, and the votes that no desk casts whose file has all its lines.
-use Rattle.std.specs.Prelude.{ℕ, Bool, ◌==◌, ◌&&◌, ◌||◌, not, nat_lt, if◌then◌else◌, List, [], ◌∷◌, ◌++◌, length, Option, Some, None}
+use Rattle.std.specs.Prelude.{◌≡◌, ◌≢◌, ◌<◌, ◌⊎◌, ℕ, Bool, true, ◌==◌, ◌&&◌, ◌||◌, not, nat_lt, if◌then◌else◌, List, [], ◌∷◌, ◌++◌, length, Option, Some, None}
 use Rattle.std.specs.List.{list_any}
 use Rattle.std.specs.Str.{bytes_eq}
 use Rattle.notation.specs.Code.{code}
+use Rattle.notation.specs.Written.{IsEntry}
 use Rattle.notation.specs.declared.entry.Entry.{Entry}
 use Rattle.agree_core.specs.declared.messages.{DeskId.DeskId, Vote.Vote}
 use Rattle.agree_core.specs.declared.messages.DeskId.TheVariants.{A, B}
@@ -50,3 +51,23 @@ whole_round r (Some e) = whole_with r r.a r.b e
 abbrev pub with_round : List Round → Option Round → List Round
 with_round rounds None = rounds
 with_round rounds (Some round) = if nat_lt (length rounds) MOST_ROUNDS then rounds ++ round ∷ [] else rounds
+
+-- ---- a split is seen
+
+-- this round is one of these
+abbrev pub IsOneOf : Round → List Round → Type 0
+IsOneOf round [] = ⊥
+IsOneOf round (r ∷ rs) = (round ≡ r) ⊎ IsOneOf round rs
+
+-- both desks were heard to vote alike for this entry in this round of the place, and otherwise in each round before it
+pub record HeardAgreed (rounds : List Round) (place round : ℕ) (e : Entry) : Type 0 where
+  pub agreed : IsOneOf (record { at = record { place = place; round = round }; a = e; b = e }) rounds
+  pub differed : (r : ℕ) → r < round → (x : Round) × IsOneOf x rounds × (x.at ≡ record { place = place; round = r }) × (x.a ≢ x.b)
+  pub entries : (x : Round) → IsOneOf x rounds → IsEntry x.a × IsEntry x.b
+
+-- Where the desks then agree another entry for that place, in whatever round, the vote of one of them shows it.
+abbrev pub SplitsAreSeen : Type 0
+SplitsAreSeen =
+    (rounds : List Round) (place round other : ℕ) (e f : Entry) → HeardAgreed rounds place round e → IsEntry f → e ≢ f
+    → (parts rounds (record { desk = A; place = place; round = other; entry = f }) ≡ true)
+    ⊎ (parts rounds (record { desk = B; place = place; round = other; entry = f }) ≡ true)

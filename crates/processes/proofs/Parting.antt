@@ -1,8 +1,6 @@
 -- No board sees that a desk's file lacks lines, while both desks' files are kept.
-use Rattle.std.proofs.Common.{arith, ◌≡◌, ℕ, Bool, true, false, not, ◌&&◌, ◌||◌, nat_eq, nat_lt, List, [], ◌∷◌, ◌++◌, Option, Some, None, Result, Ok, Err, refl, sym, ap, ap₂, ◌<◌, subst, length}
-use Rattle.std.specs.Prelude.{◌==◌, if◌then◌else◌, slice_get}
-use Rattle.std.specs.List.{list_any}
-use Rattle.std.specs.Str.{bytes_eq}
+use Rattle.std.proofs.Common.{arith, ◌≡◌, ℕ, Bool, true, false, not, ◌&&◌, ◌||◌, nat_eq, nat_lt, List, [], ◌∷◌, ◌++◌, Option, Some, None, Result, Ok, refl, sym, ap, ap₂, ◌<◌, subst, length}
+use Rattle.std.specs.Prelude.{◌==◌, if◌then◌else◌}
 use Rattle.std.proofs.lemmas.Bool.Decides.{nat_tests}
 use Rattle.std.proofs.lemmas.Slice.Eq.{bytes_eq-Decides}
 use Rattle.notation.specs.declared.entry.Entry.{Entry}
@@ -14,14 +12,14 @@ use Rattle.corrections.specs.declared.refusal.Refusal.{Refusal}
 use Rattle.agree_core.specs.declared.{messages.DeskId.DeskId, messages.Message.Message, messages.Vote.Vote, position.Position.Position, seat.Heard.Heard}
 use Rattle.agree_core.specs.declared.messages.DeskId.TheVariants.{A, B}
 use Rattle.agree_core.specs.Ballots.{AllJustified, AllVotes, Ballot, In, VotesGrow, ballot_at, ballot_of, votes_by}
-use Rattle.agree_core.specs.Boards.{BoardAnswer, BoardReceives, BoardState}
+use Rattle.agree_core.specs.Boards.{BoardState}
 use Rattle.agree_core.specs.Keeping.{BoardFine, Each, MessageFine, NotedFine}
 use Rattle.agree_core.specs.LostLines.{is_at}
 use Rattle.agree_core.specs.Positions.{position_of}
-use Rattle.agree_core.specs.Readers.{Listens, ReaderState, noted_of, other}
+use Rattle.agree_core.specs.Readers.{ReaderState, noted_of, other}
 use Rattle.agree_core.proofs.Order.{one_vote}
 use Rattle.agree_core.proofs.Settling.{none_later}
-use Rattle.board.specs.Rounds.{cast_by, is_against, is_alike, is_another, is_later, parts, whole_round, whole_with, with_round}
+use Rattle.board.specs.Rounds.{cast_by, is_against, is_alike, is_another, is_later, parts, whole_round, with_round}
 use Rattle.board.specs.Takes.{Takes}
 use Rattle.board.specs.declared.{refusal.BoardRefusal.BoardRefusal, witness.Round.Round}
 use Rattle.vote_store.specs.Record.{entry_coded}
@@ -42,7 +40,7 @@ use Rattle.live.proofs.HiddenLemmas.{entry_of_vote}
 use Rattle.processes.specs.Happenings.{BoardBegun, BoardCalled, BoardCame, Flow, Happening, WasSent, after}
 use Rattle.processes.specs.Parting.{NoVoteParts, rounds_at, rounds_called}
 use Rattle.processes.proofs.Flowing.{begins_calm, fine, stays_calm}
-use Rattle.processes.proofs.FlowSteps.{IsCalm, happening}
+use Rattle.processes.proofs.FlowSteps.{happening}
 
 -- both desks have these votes
 abbrev RoundFine : AllVotes → Round → Type 0
@@ -154,60 +152,60 @@ module _ (v : AllVotes) (j : AllJustified v) (entries : (d : DeskId) (b : Ballot
 module _ {Disk : Type 0} (s : Setting Disk Refusal) (game innings : ℕ) (rules : s.rules ≡ book_refusal innings) (version : FileVersion) (count : ℕ)
     (w : Configuration Disk) (begins : Begins s version count w)
   where
-  abbrev Happened : List (Happening Disk) → Type 0
-  Happened hs = Flow s.view game innings w hs
+    abbrev Happened : List (Happening Disk) → Type 0
+    Happened hs = Flow s.view game innings w hs
 
-  abbrev votes_after : List (Happening Disk) → AllVotes
-  votes_after hs = all_votes (after w hs)
+    abbrev votes_after : List (Happening Disk) → AllVotes
+    votes_after hs = all_votes (after w hs)
 
-  fine_after : (hs : List (Happening Disk)) → Happened hs → Fine s (after w hs)
-  fine_after hs f = fine s game innings rules version count w begins hs f
+    fine_after : (hs : List (Happening Disk)) → Happened hs → Fine s (after w hs)
+    fine_after hs f = fine s game innings rules version count w begins hs f
 
-  grows : (hs : List (Happening Disk)) (h : Happening Disk) → Happened (h ∷ hs) → VotesGrow (votes_after hs) (votes_after (h ∷ hs))
-  grows hs h f =
-      let v = after w hs in
-      let led = happening s game innings rules v (stays_calm s game innings rules w (begins_calm s game innings rules version count w begins) hs) h f.1 in
-      subst (λ (u : Configuration Disk). VotesGrow (all_votes v) (all_votes u)) led.ends (run_grows s v led.moments (fine_after hs f.0) led.run)
+    grows : (hs : List (Happening Disk)) (h : Happening Disk) → Happened (h ∷ hs) → VotesGrow (votes_after hs) (votes_after (h ∷ hs))
+    grows hs h f =
+        let v = after w hs in
+        let led = happening s game innings rules v (stays_calm s game innings rules w (begins_calm s game innings rules version count w begins) hs) h f.1 in
+        subst (λ (u : Configuration Disk). VotesGrow (all_votes v) (all_votes u)) led.ends (run_grows s v led.moments (fine_after hs f.0) led.run)
 
-  -- what came was voted
-  came_fine : (hs : List (Happening Disk)) → Happened hs → (bytes : List ℕ) → WasSent game (after w hs).sent bytes → (m : Message) → Says game bytes m → MessageFine (votes_after hs) m
-  came_fine hs f bytes came m says =
-      let found = came m says in
-      given_fine (votes_after hs) (after w hs).sent found.0 m (fine_after hs f).on_sent found.1
+    -- what came was voted
+    came_fine : (hs : List (Happening Disk)) → Happened hs → (bytes : List ℕ) → WasSent game (after w hs).sent bytes → (m : Message) → Says game bytes m → MessageFine (votes_after hs) m
+    came_fine hs f bytes came m says =
+        let found = came m says in
+        given_fine (votes_after hs) (after w hs).sent found.0 m (fine_after hs f).on_sent found.1
 
-  called_fine : (hs : List (Happening Disk)) → Happened hs → (m : ℕ) (k l : BoardState) (call : BoardCall) (out : List Message) → board_at (after w hs).boards m ≡ Some k
-      → BoardCame game (after w hs).sent call → BoardStep game innings k call out l → (rounds : List Round) → Each (RoundFine (votes_after hs)) rounds
-      → Each (RoundFine (votes_after hs)) (rounds_called (Some k) call rounds)
-  called_fine hs f m k l (boards.Given bytes answer) out at came step rounds r =
-      call_fine game innings (votes_after hs) k l (board_fine_at (votes_after hs) (after w hs).boards m k at (fine_after hs f).on_boards) bytes answer rounds
-      (came_fine hs f bytes came) step.0 r
-  called_fine hs f m k l _ out at came step rounds r = r
+    called_fine : (hs : List (Happening Disk)) → Happened hs → (m : ℕ) (k l : BoardState) (call : BoardCall) (out : List Message) → board_at (after w hs).boards m ≡ Some k
+        → BoardCame game (after w hs).sent call → BoardStep game innings k call out l → (rounds : List Round) → Each (RoundFine (votes_after hs)) rounds
+        → Each (RoundFine (votes_after hs)) (rounds_called (Some k) call rounds)
+    called_fine hs f m k l (boards.Given bytes answer) out at came step rounds r =
+        call_fine game innings (votes_after hs) k l (board_fine_at (votes_after hs) (after w hs).boards m k at (fine_after hs f).on_boards) bytes answer rounds
+        (came_fine hs f bytes came) step.0 r
+    called_fine hs f m k l _ out at came step rounds r = r
 
-  stepped : (hs : List (Happening Disk)) (h : Happening Disk) → Happened (h ∷ hs) → (n : ℕ) → Each (RoundFine (votes_after hs)) (rounds_at w n hs)
-      → Each (RoundFine (votes_after hs)) (rounds_at w n (h ∷ hs))
-  stepped hs (BoardCalled m sheet call out l text seen) f n r = here (nat_eq n m)
-    where
-      there : Each (RoundFine (votes_after hs)) (rounds_called (board_at (after w hs).boards m) call (rounds_at w n hs))
-      there = rw f.1.1 (called_fine hs f.0 m f.1.0 l call out f.1.1 f.1.2 f.1.3 (rounds_at w n hs) r)
+    stepped : (hs : List (Happening Disk)) (h : Happening Disk) → Happened (h ∷ hs) → (n : ℕ) → Each (RoundFine (votes_after hs)) (rounds_at w n hs)
+        → Each (RoundFine (votes_after hs)) (rounds_at w n (h ∷ hs))
+    stepped hs (BoardCalled m sheet call out l text seen) f n r = here (nat_eq n m)
+      where
+        there : Each (RoundFine (votes_after hs)) (rounds_called (board_at (after w hs).boards m) call (rounds_at w n hs))
+        there = rw f.1.1 (called_fine hs f.0 m f.1.0 l call out f.1.1 f.1.2 f.1.3 (rounds_at w n hs) r)
 
-      here : (b : Bool) → Each (RoundFine (votes_after hs)) (if b then rounds_called (board_at (after w hs).boards m) call (rounds_at w n hs) else rounds_at w n hs)
-      here true = there
-      here false = r
-  stepped hs (BoardBegun m) f n r = here (nat_eq n m)
-    where
-      here : (b : Bool) → Each (RoundFine (votes_after hs)) (if b then [] else rounds_at w n hs)
-      here true = tt
-      here false = r
-  stepped hs h f n r = grind arith
+        here : (b : Bool) → Each (RoundFine (votes_after hs)) (if b then rounds_called (board_at (after w hs).boards m) call (rounds_at w n hs) else rounds_at w n hs)
+        here true = there
+        here false = r
+    stepped hs (BoardBegun m) f n r = here (nat_eq n m)
+      where
+        here : (b : Bool) → Each (RoundFine (votes_after hs)) (if b then [] else rounds_at w n hs)
+        here true = tt
+        here false = r
+    stepped hs h f n r = grind arith
 
-  rounds_fine : (hs : List (Happening Disk)) → Happened hs → (n : ℕ) → Each (RoundFine (votes_after hs)) (rounds_at w n hs)
-  rounds_fine [] f n = tt
-  rounds_fine (h ∷ hs) f n =
-      each_other (RoundFine (votes_after hs)) (RoundFine (votes_after (h ∷ hs))) (round_grows (votes_after hs) (votes_after (h ∷ hs)) (grows hs h f)) (rounds_at w n (h ∷ hs))
-      (stepped hs h f n (rounds_fine hs f.0 n))
+    rounds_fine : (hs : List (Happening Disk)) → Happened hs → (n : ℕ) → Each (RoundFine (votes_after hs)) (rounds_at w n hs)
+    rounds_fine [] f n = tt
+    rounds_fine (h ∷ hs) f n =
+        each_other (RoundFine (votes_after hs)) (RoundFine (votes_after (h ∷ hs))) (round_grows (votes_after hs) (votes_after (h ∷ hs)) (grows hs h f)) (rounds_at w n (h ∷ hs))
+        (stepped hs h f n (rounds_fine hs f.0 n))
 
-  pub no_vote_parts : (hs : List (Happening Disk)) → Happened hs → AllAreEntries (votes_after hs) → NoVoteParts w hs
-  no_vote_parts hs f entries n i x at =
-      let fine = fine_after hs f in
-      none_parts (votes_after hs) (all_justified s (after w hs) fine) entries x (item_at (MessageFine (votes_after hs)) (after w hs).sent i (Message.Vote x) at fine.on_sent)
-      (rounds_at w n hs) (rounds_fine hs f n)
+    pub no_vote_parts : (hs : List (Happening Disk)) → Happened hs → AllAreEntries (votes_after hs) → NoVoteParts w hs
+    no_vote_parts hs f entries n i x at =
+        let fine = fine_after hs f in
+        none_parts (votes_after hs) (all_justified s (after w hs) fine) entries x (item_at (MessageFine (votes_after hs)) (after w hs).sent i (Message.Vote x) at fine.on_sent)
+        (rounds_at w n hs) (rounds_fine hs f n)

@@ -1,6 +1,5 @@
 -- In woven lives no board drops a vote as one by which a desk's file lacks lines.
-use Rattle.std.proofs.Common.{arith, ◌≡◌, ℕ, true, nat_eq, Option, Some, None, List, [], ◌∷◌, cond, refl, sym, ap, ap₂, ◌∙◌, subst}
-use Rattle.std.specs.Prelude.{option_map}
+use Rattle.std.proofs.Common.{arith, ◌≡◌, ℕ, true, Option, Some, None, List, [], ◌∷◌, cond, refl, sym, ap, ◌∙◌}
 use Rattle.std.specs.List.{filter}
 use Rattle.std.proofs.lemmas.Bool.{eq-eqb}
 use Rattle.entry_log.specs.Disk.{Faults, Images}
@@ -85,7 +84,9 @@ module _ (Disk : Type 0) (game innings : ℕ) where
       ((before.3.0, tt), rw before.3.1 (rw before.2 refl)) in
       let last : BoardTurn = own.last_of (first_turn p) p.calls in
       let made : List (Happening Disk) = board_calls innings n p.sheet (first_turn p) p.first p.calls in (
-        hearing_of last, (λ (t : BoardTurn). t.board) last, refl,
+        hearing_of last,
+        (λ (t : BoardTurn). t.board) last,
+        refl,
         goes-append next_heard MayHear s fresh (hearing_of last) made (BoardBegun n ∷ board_happens innings n ps) begins
             (calls n p.sheet (first_turn p) p.first p.calls h.1.1),
       )
