@@ -13,12 +13,12 @@ BOUNDARIES = {"four": 4, "six": 6}
 NOBODY = [None, None]
 
 
-def begun(match, title, overs=()):
-    """The file of a match without an entry, of so many overs an innings."""
+def begun(match, title, overs=(), a=None, b=None):
+    """The file of a match without an entry, of so many overs an innings, of a board that heard its desks so many seconds ago."""
     with open(BEGUN) as it:
         value = json.load(it)
     limits = {**value["limits"], "overs": list(overs)}
-    return json.dumps({**value, "match": match, "title": title, "limits": limits}, separators=(",", ":"), ensure_ascii=False) + "\n"
+    return json.dumps({**value, "match": match, "title": title, "limits": limits, "heard": {"a": a, "b": b}}, separators=(",", ":"), ensure_ascii=False) + "\n"
 
 
 def counts(line):

@@ -43,7 +43,7 @@ class Board(boards.Board):
         self.words = [boards.PROGRAM, "board", *words, "--json", self.json, "--serve", self.place]
         self.log = open(f"{folder}/told", "w+")
         self.ran = subprocess.Popen(self.words, stdin=subprocess.DEVNULL, stdout=subprocess.DEVNULL, stderr=self.log)
-        until("the board's file", lambda: content(self.json) is not None, SOON)
+        self.begin()
 
     def told(self):
         return content(self.log.name)

@@ -1,6 +1,7 @@
 //! `ground board`: a scoreboard.
 
 use crate::files::{Files, Kept, Shown};
+use crate::hearing::{HeardAt, Listening, Silence};
 use crate::notes::Notes;
 use crate::page::Page;
 use board::{Board, Witness};
@@ -11,7 +12,7 @@ use machine::{Address, MOST_PEERS, MonotonicClock, Pieces, StandardStream};
 use machine_files::{Cause, Name, TextFile, WholeText, WriteFault};
 use setup::{Sealing, StopFault, Stopped, short_sheet_at};
 use station_screens::{Errors, Shared, errors_at, output_at};
-use std::cell::RefCell;
+use std::cell::{Cell, RefCell};
 use std::net::SocketAddr;
 use std::rt::Stderr;
 use streams::{Sink, Watched};
@@ -119,9 +120,10 @@ fn watch_over<E: Sink + Drop>(rt: &HostRuntime, errors: E) -> Result<Watch<Notes
 }
 
 /// `ground board`: keeps a board that listens at an address, shows its six lines at the start and whenever they
-/// change, and tells standard error what it can't take. Its text is also put into a file, its state as JSON into another
-/// one, and the same as a script into a third, where they are named; a failed write of these ends no board. A page shows
-/// text and state at an address, where one is given. Its datagrams are sealed with the sheet and the key in a file, where one is named.
+/// change, and tells standard error what it can't take, and that no desk is heard. Its text is also put into a file, its state
+/// as JSON into another one, and the same as a script into a third, where they are named, once it has heard a desk; a failed
+/// write of these ends no board. A page shows text and state at an address, where one is given. Its datagrams are sealed with
+/// the sheet and the key in a file, where one is named.
 #[inline(never)]
 pub fn start_board<'a>(
     rt: &'a HostRuntime,
@@ -148,8 +150,11 @@ pub fn start_board<'a>(
     let files = paths.files(rt, &errors)?;
     let page = Page::at(rt, serve)?;
     let mut board = board_of(rt, &sheet)?;
+    page.wait(rt, &sheet, board.book(), json);
     let sealed = sealing.sealed_at(rt, at, peers, page.wait_ends(), Shared::of(&errors))?;
-    let mut link = sealing.link_over(rt.alloc(), MonotonicClock::new(rt), sealed);
+    let hearing = Cell::new(HeardAt::begun(0));
+    let link = sealing.link_over(rt.alloc(), MonotonicClock::new(rt), sealed);
+    let mut link = Listening::over(link, MonotonicClock::new(rt), &hearing);
     let _ = sealing.tell_fingerprints(&mut Shared::of(&errors));
     page.tell(&mut Shared::of(&errors));
     let mut clock = page.clock(rt);
@@ -159,6 +164,9 @@ pub fn start_board<'a>(
         page: page.panes(rt.alloc(), &errors),
         errors: &errors,
         viewers: page.viewers(),
+        hearing: &hearing,
+        heard: hearing.get(),
+        silence: Silence::NOTHING,
     };
     match keep_board(
         &mut board,

@@ -7,20 +7,22 @@ ghost use Rattle.machine_files.specs.Texts.{Takes};
 ghost use Rattle.scoreboard.specs.Value as laws;
 ghost use Rattle.board_command.specs.Files as given;
 ghost use Rattle.board_command.specs.Files.{AreKept};
+ghost use Rattle.board_command.specs.Hearing.{last_heard};
 ghost use Rattle.board_command.specs.inner.Due as due;
 ghost use Rattle.board_command.specs.inner.Due.{IsMade};
 ghost use Rattle.board_command.specs.declared.files.TheConstants.{FOREVER};
 ghost use Rattle.waits.specs.declared.times.TheConstants.{LONGEST_STATE_AGE};
 
+use crate::hearing::{HeardAt, Silence};
 use cards::{MatchSheet, board_lines};
 use corrections::BookOf;
 use live::{Shows, SightLog};
 use machine_files::Replaces;
 use scoreboard::board_text;
 use setup::{StopFault, print_fault, printable};
-use station_screens::{Errors, retry};
+use station_screens::{Errors, Shared, retry};
 use std::alloc::{AllocError, Global};
-use std::cell::RefCell;
+use std::cell::{Cell, RefCell};
 use streams::{Sink, Watched, WriteFailed};
 use viewers::Viewers;
 use waits::{FILE_RETRY_WAIT, LONGEST_STATE_AGE, SHORTEST_FILE_AGE};
@@ -28,10 +30,35 @@ use waits::{FILE_RETRY_WAIT, LONGEST_STATE_AGE, SHORTEST_FILE_AGE};
 /// A text stands as long as its book does.
 const FOREVER: u64 = u64::MAX;
 
-/// When a file was written, or couldn't be, and how many entries the book had.
+/// What a board hands its book over at: how many entries that has, when the board heard its desks, and the time.
+#[derive(Clone, Copy)]
+struct Moment {
+    entries: u32,
+    heard: HeardAt,
+    now: u64,
+}
+
+impl Moment {
+    /// Whether the desks are silent.
+    fn is_silent(self) -> bool
+        ensures { result ≡ given.silent_at self }
+    {
+        self.heard.is_silent(self.now)
+    }
+}
+
+/// Whether both are so, or neither.
+fn same(one: bool, other: bool) -> bool
+    ensures { result ≡ given.same one other }
+{
+    one == other
+}
+
+/// When a file was written, or couldn't be, how many entries the book had, and whether the desks were silent.
 #[derive(Clone, Copy)]
 struct Tried {
     entries: u32,
+    is_silent: bool,
     at: u64,
     has_failed: bool,
 }
@@ -40,19 +67,19 @@ impl Tried {
     ghost use Rattle.std.specs.Prelude.{◌-◌, nat_le};
     ghost use Rattle.board_command.specs.Files.{wait_of};
 
-    /// Whether a file that stands so long at most is to be written at this time, of a book of so many entries: the last time
-    /// it couldn't be, the book has grown, or the file becomes old.
-    fn is_past(self, entries: u32, now: u64, longest: u64) -> bool
-        ensures { result ≡ nat_le (wait_of self entries longest) (now - self.at) }
+    /// Whether a file that stands so long at most is to be written at this moment: the last time it couldn't be, the book has
+    /// grown, a silence has begun or ended, or the file becomes old.
+    fn is_past(self, moment: Moment, longest: u64) -> bool
+        ensures { result ≡ nat_le (wait_of self moment longest) (moment.now - self.at) }
     {
         let wait = if self.has_failed {
             FILE_RETRY_WAIT
-        } else if self.entries == entries {
+        } else if self.entries == moment.entries && same(self.is_silent, moment.is_silent()) {
             longest
         } else {
             SHORTEST_FILE_AGE
         };
-        now.saturating_sub(self.at) >= wait
+        moment.now.saturating_sub(self.at) >= wait
     }
 }
 
@@ -79,19 +106,22 @@ impl<'a, T: Replaces, E: Sink> Kept<'a, T, E> {
         }
     }
 
-    /// Whether it is to be written.
-    fn is_due(&self, entries: u32, now: u64, longest: u64) -> bool
-        ensures { result ≡ is_due self.now.tried entries now longest }
+    /// Whether it is to be written: not before a desk was heard.
+    fn is_due(&self, moment: Moment, longest: u64) -> bool
+        ensures { result ≡ is_due self.now.tried moment longest }
     {
+        if !moment.heard.is_heard() {
+            return false;
+        }
         match self.tried {
-            Some(tried) => tried.is_past(entries, now, longest),
+            Some(tried) => tried.is_past(moment, longest),
             None => true,
         }
     }
 
     /// Notes that it was written, or couldn't be.
-    fn note(&mut self, written: Result<(), StopFault>, entries: u32, now: u64)
-        ensures tried { self.new.tried ≡ Some (tried_at entries now (is_err written)) }
+    fn note(&mut self, written: Result<(), StopFault>, moment: Moment)
+        ensures tried { self.new.tried ≡ Some (tried_at moment (is_err written)) }
         ensures file { self.new.file ≡ self.old.file }
     {
         let was_told = match self.tried {
@@ -104,24 +134,20 @@ impl<'a, T: Replaces, E: Sink> Kept<'a, T, E> {
             }
         }
         self.tried = Some(Tried {
-            entries,
-            at: now,
+            entries: moment.entries,
+            is_silent: moment.is_silent(),
+            at: moment.now,
             has_failed: written.is_err(),
         });
     }
 }
 
 /// Whether there is a file that is to be written.
-fn is_due<T: Replaces, E: Sink>(
-    file: &Option<Kept<'_, T, E>>,
-    entries: u32,
-    now: u64,
-    longest: u64,
-) -> bool
-    ensures { result ≡ due.is_due longest entries now file.now }
+fn is_due<T: Replaces, E: Sink>(file: &Option<Kept<'_, T, E>>, moment: Moment, longest: u64) -> bool
+    ensures { result ≡ due.is_due longest moment file.now }
 {
     match file {
-        Some(kept) => kept.is_due(entries, now, longest),
+        Some(kept) => kept.is_due(moment, longest),
         None => false,
     }
 }
@@ -139,6 +165,19 @@ fn lines_of<B: BookOf>(alloc: Global, sheet: &MatchSheet, book: &B) -> Result<Ve
         Ok(()) => Ok(out.into_inner()),
         Err(_) => Err(AllocError),
     }
+}
+
+/// The state of a board with this book, as JSON.
+fn state_of<B: BookOf>(
+    alloc: Global,
+    sheet: &MatchSheet,
+    book: &B,
+    moment: Moment,
+) -> Result<Vec<u8>, AllocError>
+    ensures { IfOk result (λ text.
+        text.items ≡ laws.board_text sheet.now (B.innings_a_side book.now) (B.content book.now) (last_heard moment.heard moment.now)) }
+{
+    board_text(alloc, sheet, book, moment.heard.last(moment.now))
 }
 
 /// The script of a state that was made.
@@ -159,13 +198,13 @@ fn lines_due<B: BookOf, T: Replaces, E: Sink>(
     alloc: Global,
     sheet: &MatchSheet,
     book: &B,
-    now: u64,
+    moment: Moment,
     file: &Option<Kept<'_, T, E>>,
 ) -> Made
-    ensures { IsMade FOREVER (length (B.content book.now)) now
+    ensures { IsMade FOREVER moment
         (texts.board sheet.now (B.innings_a_side book.now) (history_of (B.content book.now))) file.now result }
 {
-    is_due(file, book.len(), now, FOREVER).then(|| lines_of(alloc, sheet, book))
+    is_due(file, moment, FOREVER).then(|| lines_of(alloc, sheet, book))
 }
 
 /// A board's state for both of its files.
@@ -180,25 +219,25 @@ fn states_due<B: BookOf, T: Replaces, E: Sink>(
     alloc: Global,
     sheet: &MatchSheet,
     book: &B,
-    now: u64,
+    moment: Moment,
     file: &Option<Kept<'_, T, E>>,
     script: &Option<Kept<'_, T, E>>,
 ) -> States
-    ensures json { IsMade LONGEST_STATE_AGE (length (B.content book.now)) now
-        (laws.board_text sheet.now (B.innings_a_side book.now) (B.content book.now)) file.now result.json }
-    ensures script { IsMade LONGEST_STATE_AGE (length (B.content book.now)) now
-        (given.script_with (laws.board_text sheet.now (B.innings_a_side book.now) (B.content book.now))) script.now result.script }
+    ensures json { IsMade LONGEST_STATE_AGE moment
+        (laws.board_text sheet.now (B.innings_a_side book.now) (B.content book.now) (last_heard moment.heard moment.now)) file.now result.json }
+    ensures script { IsMade LONGEST_STATE_AGE moment
+        (given.script_with (laws.board_text sheet.now (B.innings_a_side book.now) (B.content book.now) (last_heard moment.heard moment.now)))
+        script.now result.script }
 {
-    let entries = book.len();
-    let is_json_due = is_due(file, entries, now, LONGEST_STATE_AGE);
-    let is_script_due = is_due(script, entries, now, LONGEST_STATE_AGE);
+    let is_json_due = is_due(file, moment, LONGEST_STATE_AGE);
+    let is_script_due = is_due(script, moment, LONGEST_STATE_AGE);
     if !is_json_due && !is_script_due {
         return States {
             json: None,
             script: None,
         };
     }
-    let state = board_text(alloc, sheet, book);
+    let state = state_of(alloc, sheet, book, moment);
     let script = is_script_due.then(|| script_of(alloc, &state));
     States {
         json: is_json_due.then_some(state),
@@ -219,15 +258,15 @@ fn put_text<T: Replaces>(file: &mut T, made: Result<Vec<u8>, AllocError>) -> Res
 }
 
 /// Puts what is due into its file, where there is one, and notes whether that could be.
-fn put<T: Replaces, E: Sink>(file: &mut Option<Kept<'_, T, E>>, made: Made, entries: u32, now: u64)
-    ensures { (longest : ℕ) (text : List ℕ) → IsMade longest entries now text file.old made →
-        AreKept T.given longest entries now text file.old file.new }
+fn put<T: Replaces, E: Sink>(file: &mut Option<Kept<'_, T, E>>, made: Made, moment: Moment)
+    ensures { (longest : ℕ) (text : List ℕ) → IsMade longest moment text file.old made →
+        AreKept T.given longest moment text file.old file.new }
 {
     if let Some(kept) = file
         && let Some(text) = made
     {
         let written = put_text(&mut kept.file, text);
-        kept.note(written, entries, now);
+        kept.note(written, moment);
     }
 }
 
@@ -259,39 +298,48 @@ impl<'a, T: Replaces, E: Sink, B: BookOf> Files<'a, T, E, B> {
     }
 }
 
-impl<T: Replaces, E: Sink, B: BookOf + Drop> Shows<B> for Files<'_, T, E, B> {
+impl<T: Replaces, E: Sink, B: BookOf + Drop> Files<'_, T, E, B> {
+    ghost use Rattle.std.specs.Prelude.{◌∷◌, ◌++◌, []};
+    ghost use Rattle.live.specs.Sights.{sight_of};
     ghost use Rattle.live.specs.SightLogs.{sights_of};
     ghost use Rattle.board_command.specs.Files.{FilesGoOn};
 
-    ghost seen = { λ files. sights_of B.content B.innings_a_side files.log };
-
-    ghost goes_on = { FilesGoOn T.given };
-
-    /// A file that can't be written ends no board.
-    ghost failed = { λ _. false };
-
-    /// Writes each at the first call, then where the book has grown, at most ten times a second, and where it couldn't be
-    /// written, once a second. State and script are otherwise written anew before ten seconds are over.
-    fn show(&mut self, sheet: &MatchSheet, book: &B, now: u64) -> Result<(), WriteFailed> {
-        let entries = book.len();
-        let lines = lines_due(self.alloc, sheet, book, now, &self.text);
-        let states = states_due(self.alloc, sheet, book, now, &self.state, &self.script);
-        put(&mut self.text, lines, entries, now);
-        put(&mut self.state, states.json, entries, now);
-        put(&mut self.script, states.script, entries, now);
+    /// Writes each once a desk was heard, then where the book has grown or a silence of the desks has begun or ended, at most
+    /// ten times a second, and where it couldn't be written, once a second. State and script are otherwise written anew before
+    /// ten seconds are over. A file that can't be written ends no board.
+    fn show(&mut self, sheet: &MatchSheet, book: &B, heard: HeardAt, now: u64)
+        ensures seen { sights_of B.content B.innings_a_side self.new.log ≡ sights_of B.content B.innings_a_side self.old.log
+            ++ sight_of sheet.now (B.innings_a_side book.now) (B.content book.now) ∷ [] }
+        ensures goes_on { FilesGoOn T.given heard self.old
+            (sight_of sheet.now (B.innings_a_side book.now) (B.content book.now)) now self.new }
+    {
+        let moment = Moment {
+            entries: book.len(),
+            heard,
+            now,
+        };
+        let lines = lines_due(self.alloc, sheet, book, moment, &self.text);
+        let states = states_due(self.alloc, sheet, book, moment, &self.state, &self.script);
+        put(&mut self.text, lines, moment);
+        put(&mut self.state, states.json, moment);
+        put(&mut self.script, states.script, moment);
         self.log = self.log.handed(sheet, book);
-        Ok(())
     }
 }
 
 /// All that a board shows at the end of a turn: its files and its page, each handed the same books, of which neither keeps the
-/// other from being written. What waits for standard error and for who looks at its page is handed on, as far as it is taken.
+/// other from being written, and at standard error that its desks are silent. What waits for that and for who looks at its page
+/// is handed on, as far as it is taken.
 #[derive(Drop)]
-pub struct Shown<'e, 'v, 'a, F, P> {
-    pub files: F,
-    pub page: P,
+pub struct Shown<'e, 'v, 'h, 'a, T, P, E, B> {
+    pub files: Files<'a, T, E, B>,
+    pub page: Files<'a, P, E, B>,
     pub errors: &'e RefCell<Errors<'a>>,
     pub viewers: Option<&'v RefCell<Viewers>>,
+    /// When the board's link heard the desks, and what was read of that last.
+    pub hearing: &'h Cell<HeardAt>,
+    pub heard: HeardAt,
+    pub silence: Silence,
 }
 
 /// Tells those who look at a page what it shows now, where there is one.
@@ -303,19 +351,27 @@ fn tell(viewers: Option<&RefCell<Viewers>>, now: u64) {
     }
 }
 
-impl<B: BookOf, F: Shows<B>, P: Shows<B>> Shows<B> for Shown<'_, '_, '_, F, P> {
-    ghost seen = { λ shown. F.seen shown.files };
+impl<T: Replaces, P: Replaces, E: Sink, B: BookOf + Drop> Shows<B>
+    for Shown<'_, '_, '_, '_, T, P, E, B> {
+    ghost use Rattle.live.specs.SightLogs.{sights_of};
+    ghost use Rattle.board_command.specs.Files.{FilesGoOn};
+
+    ghost seen = { λ shown. sights_of B.content B.innings_a_side shown.files.log };
 
     ghost goes_on = { λ old sight now new.
-        F.goes_on old.files sight now new.files × P.goes_on old.page sight now new.page };
+        FilesGoOn T.given new.heard old.files sight now new.files × FilesGoOn P.given new.heard old.page sight now new.page };
 
-    ghost failed = { λ shown. F.failed shown.files };
+    /// A file that can't be written ends no board.
+    ghost failed = { λ _. false };
 
     fn show(&mut self, sheet: &MatchSheet, book: &B, now: u64) -> Result<(), WriteFailed> {
         retry(self.errors);
-        let _ = self.page.show(sheet, book, now);
-        let shown = self.files.show(sheet, book, now);
+        self.heard = self.hearing.get();
+        self.silence
+            .tell(self.heard, now, &mut Shared::of(self.errors));
+        self.page.show(sheet, book, self.heard, now);
+        self.files.show(sheet, book, self.heard, now);
         tell(self.viewers, now);
-        shown
+        Ok(())
     }
 }

@@ -3,8 +3,10 @@
 
 mod begin;
 mod files;
+mod hearing;
 mod notes;
 mod page;
 mod pane;
+mod waiting;
 
 pub use crate::begin::start_board;

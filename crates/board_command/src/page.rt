@@ -2,7 +2,9 @@
 
 use crate::begin::Told;
 use crate::files::{Files, Kept};
-use crate::pane::{Kind, Pane};
+use crate::pane::{Kind, Pane, copy_of};
+use crate::waiting::{LINES, waiting_state};
+use cards::MatchSheet;
 use corrections::CheckedBook;
 use machine::{Address, MonotonicClock, WaitEnds};
 use setup::{StopFault, Stopped};
@@ -88,7 +90,26 @@ impl<'a> Page<'a> {
         }
     }
 
-    /// What it shows of a board: nothing yet.
+    /// Shows that the desks are waited for: what the file of the board's state has of the match, if there is one, and otherwise
+    /// this book. Where memory is refused nothing is shown yet.
+    pub fn wait(
+        &self,
+        rt: &HostRuntime,
+        sheet: &MatchSheet,
+        book: &CheckedBook,
+        path: Option<&str>,
+    ) {
+        if let Some(served) = &self.served
+            && let Ok(state) = waiting_state(rt, sheet, book, path)
+            && let Ok(lines) = copy_of(rt.alloc(), LINES)
+            && let Ok(mut viewers) = served.viewers.try_borrow_mut()
+        {
+            viewers.put_lines(lines);
+            viewers.put_state(state);
+        }
+    }
+
+    /// What it is given of a board: nothing yet.
     pub fn panes<'v, 's>(
         &'v self,
         alloc: Global,

@@ -42,7 +42,7 @@ pub struct Pane<'v> {
 }
 
 /// A copy of a text.
-fn copy_of(alloc: Global, text: &[u8]) -> Result<Vec<u8>, AllocError>
+pub fn copy_of(alloc: Global, text: &[u8]) -> Result<Vec<u8>, AllocError>
     ensures { IfOk result (λ copy. copy.items ≡ text.now) }
 {
     let mut copy = Vec::new(alloc);

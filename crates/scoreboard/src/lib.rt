@@ -15,4 +15,4 @@ mod told;
 mod value;
 
 pub use laws::boards_add_up;
-pub use value::{board_text, put_board_value};
+pub use value::{LastHeard, board_text, put_board_value};

@@ -5,6 +5,7 @@ ghost use Rattle.notation.specs.declared.entry.TheConstants.{PLACES};
 ghost use Rattle.corrections.specs.CleanList.{history_of};
 ghost use Rattle.limits.specs.inner.Walks.{walk};
 ghost use Rattle.json_fields.specs.Values.{PutsFields, PutsValues};
+ghost use Rattle.scoreboard.specs.Limited.{number_or_null};
 ghost use Rattle.scoreboard.specs.OverRuns.{over_runs, over_value, overs_field};
 ghost use Rattle.scoreboard.specs.Value as laws;
 ghost use Rattle.scoreboard.specs.inner.Counting as counting;
@@ -19,7 +20,8 @@ use corrections::{BookOf, Placed, overs_of};
 use falls::falls_at;
 use itoa::Buffer;
 use json_fields::{
-    Compact, begin_array, begin_object, end_array, end_object, put_figure, put_text,
+    Compact, begin_array, begin_field, begin_object, end_array, end_object, put_figure, put_null,
+    put_number, put_text,
 };
 use notation::Plain;
 use std::alloc::{AllocError, Global};
@@ -98,22 +100,20 @@ fn put_head(out: &mut Compact, sheet: &MatchSheet, entries: u32) -> Result<(), A
     put_figure(out, "entries", entries)
 }
 
-/// Puts the state of a board with this book as one value: the score of each innings with its cards, who bats and who bowls,
-/// this over and the last, what is needed, and the result. It fails only where memory is refused.
-pub fn put_board_value<B: BookOf>(
+/// Puts what is told of a book.
+fn put_book<B: BookOf>(
     out: &mut Compact,
     alloc: Global,
     sheet: &MatchSheet,
     book: &B,
 ) -> Result<(), AllocError>
-    ensures { PutsValues result out.old out.new
-        (laws.board_value sheet.now (B.innings_a_side book.now) (B.content book.now) ∷ []) }
+    ensures { PutsFields result out.old out.new
+        (laws.book_fields sheet.now (B.innings_a_side book.now) (B.content book.now)) }
 {
     let score = book.score();
     let overs = overs_of(book);
     let falls = falls_at(alloc, book)?;
     let told = told_of(sheet, book, &overs);
-    begin_object(out)?;
     put_head(out, sheet, book.len())?;
     put_limits(out, sheet.limits())?;
     put_all_innings(out, alloc, sheet, score, falls.as_slice())?;
@@ -126,21 +126,81 @@ pub fn put_board_value<B: BookOf>(
         &told,
         partnership_now(book),
     )?;
-    put_over_runs(out, alloc, book)?;
+    put_over_runs(out, alloc, book)
+}
+
+/// Puts the state of a board with this book as one value: the score of each innings with its cards, who bats and who bowls,
+/// this over and the last, what is needed, and the result. It fails only where memory is refused.
+pub fn put_board_value<B: BookOf>(
+    out: &mut Compact,
+    alloc: Global,
+    sheet: &MatchSheet,
+    book: &B,
+) -> Result<(), AllocError>
+    ensures { PutsValues result out.old out.new
+        (laws.board_value sheet.now (B.innings_a_side book.now) (B.content book.now) ∷ []) }
+{
+    begin_object(out)?;
+    put_book(out, alloc, sheet, book)?;
     end_object(out)
 }
 
-/// The state of a board with this book as JSON on one line, and a newline.
+/// How many seconds ago a board heard each desk last, if it ever did.
+#[derive(Clone, Copy)]
+pub struct LastHeard {
+    pub a: Option<u64>,
+    pub b: Option<u64>,
+}
+
+/// Puts how many seconds ago a desk was heard last.
+fn put_seconds(out: &mut Compact, desk: &str, seconds: Option<u64>) -> Result<(), AllocError>
+    ensures { PutsFields result out.old out.new ((desk.now, number_or_null seconds) ∷ []) }
+{
+    match seconds {
+        Some(seconds) => put_number(out, desk, seconds),
+        None => put_null(out, desk),
+    }
+}
+
+/// Puts when a board heard its desks.
+fn put_heard(out: &mut Compact, heard: LastHeard) -> Result<(), AllocError>
+    ensures { PutsFields result out.old out.new (laws.heard_field heard ∷ []) }
+{
+    begin_field(out, "heard")?;
+    put_seconds(out, "a", heard.a)?;
+    put_seconds(out, "b", heard.b)?;
+    end_object(out)
+}
+
+/// Puts the same value, and in it when the board heard its desks.
+fn put_told<B: BookOf>(
+    out: &mut Compact,
+    alloc: Global,
+    sheet: &MatchSheet,
+    book: &B,
+    heard: LastHeard,
+) -> Result<(), AllocError>
+    ensures { PutsValues result out.old out.new
+        (laws.told_value sheet.now (B.innings_a_side book.now) (B.content book.now) heard ∷ []) }
+{
+    begin_object(out)?;
+    put_book(out, alloc, sheet, book)?;
+    put_heard(out, heard)?;
+    end_object(out)
+}
+
+/// The state of a board with this book, which heard its desks so, as JSON on one line, and a newline.
 pub fn board_text<B: BookOf>(
     alloc: Global,
     sheet: &MatchSheet,
     book: &B,
+    heard: LastHeard,
 ) -> Result<Vec<u8>, AllocError>
     ensures { IfOk result (λ text.
-        text.items ≡ laws.board_text sheet.now (B.innings_a_side book.now) (B.content book.now)) }
+        text.items ≡ laws.board_text sheet.now (B.innings_a_side book.now) (B.content book.now) heard) }
 {
     let mut out = Compact::new(alloc);
-    put_board_value(&mut out, alloc, sheet, book)?;
+    put_told(&mut out, alloc, sheet, book, heard)?;
     let mut text = out.into_inner();
     text.push(b'\n')?;
     Ok(text)

@@ -2,7 +2,7 @@
 
 /// What may be run and loaded in the page: its own style and script, and what it asks of its station.
 pub const POLICY: &[u8] =
-    b"default-src 'none'; script-src 'sha256-RvPHEjnOlT8Y4CVnG/8GGIEA9Dcm18wc0SSH/wgRfDU='; style-src 'sha256-QTzaF9fK6xdGbJz7DGRRKpa/QtTpHcO/oL3P59HrW1w='; connect-src 'self'; img-src data:; base-uri 'none'; form-action 'none'; frame-ancestors 'none'";
+    b"default-src 'none'; script-src 'sha256-B9HOqGoNwPnWu+4+6N5zR5xXC87dmp7I5LzPaSXLSJY='; style-src 'sha256-QTzaF9fK6xdGbJz7DGRRKpa/QtTpHcO/oL3P59HrW1w='; connect-src 'self'; img-src data:; base-uri 'none'; form-action 'none'; frame-ancestors 'none'";
 
 /// The page.
 pub const PAGE: &[u8] = b"<!DOCTYPE html>
@@ -195,6 +195,7 @@ html.overlay { background: transparent; }
 const EVERY = 1000;      // milliseconds between two looks at the file
 const isServed = document.querySelector(\"meta[name=served]\") !== null;
 const OLD = isServed ? 7 : 30;   // seconds from which on a state is old: a living board writes it at least every 10, and tells each 2 that it is there
+const SILENT = 10;       // seconds from which on a desk isn't heard
 const TURN = 10000;      // milliseconds that a wall shows the score, or a card
 const PLAYERS = 11;
 const words = new URLSearchParams(location.search);
@@ -404,7 +405,7 @@ function show(board, before) {
   put(\"title\", board.title);
   document.title = last ? last.team + \" \" + last.runs + \"/\" + last.wickets : board.title;
   const label = now.result !== null ? \"Last innings: \" : last && last.closed ? \"Innings closed: \" : \"Batting: \";
-  at(\"team\").replaceChildren(...(last ? [element(\"span\", label, \"label\"), last.team] : [\"No play yet\"]));
+  at(\"team\").replaceChildren(...(last ? [element(\"span\", label, \"label\"), last.team] : [waits(board) ? \"Waiting for the desks\" : \"No play yet\"]));
   putIf(\"missing\", \"\");
   put(\"runs\", last ? last.runs + \"/\" + last.wickets : \"\");
   put(\"overs\", last ? last.overs + (known(now.overs) ? \" of \" + now.overs : \"\") + \" overs\" : \"\");
@@ -468,16 +469,26 @@ let age = NaN;           // seconds, as it came
 let came = 0;            // when it came, by this looker's clock
 let lost = true;         // nothing came at the last look
 
+// How many seconds ago the board heard its desks, those that it ever heard. One of an earlier version doesn't tell.
+const heard = board => board.heard ? [board.heard.a, board.heard.b].filter(known) : [0];
+
+// It has heard neither since it began: what it shows is what its file had.
+const waits = board => heard(board).length === 0;
+
+const isSilent = board => !waits(board) && Math.min(...heard(board)) >= SILENT;
+
 function showAge() {
   const seconds = Math.max(0, Math.round(age + (performance.now() - came) / 1000));
   const known = !Number.isNaN(seconds);
   const isFinal = board !== null && board.now.result !== null;
   const isOld = known && seconds >= OLD && !isFolder;
-  at(\"age\").classList.toggle(\"old\", (lost || isOld) && !isFinal);
+  const isWaiting = board !== null && waits(board);
+  const desks = isWaiting ? \"waiting for the desks\" : board !== null && isSilent(board) ? \"no desk is heard\" : \"\";
+  at(\"age\").classList.toggle(\"old\", isWaiting || ((lost || isOld || desks !== \"\") && !isFinal));
   if (!known) put(\"age\", lost ? \"no board to be seen\" : \"\");
-  else if (isFinal && seconds >= OLD) put(\"age\", \"final\");
-  else if (isServed && !lost && !isOld) put(\"age\", \"live\");
-  else put(\"age\", (lost ? \"connection lost, \" : \"\") + (isOld ? \"NOT NEW: \" : \"\") + (isFolder ? \"changed \" : isServed ? \"heard \" : \"written \") + seconds + \" s ago\");
+  else if (isFinal && !isWaiting && (seconds >= OLD || desks)) put(\"age\", \"final\");
+  else if (isServed && !lost && !isOld) put(\"age\", desks || \"live\");
+  else put(\"age\", (lost ? \"connection lost, \" : \"\") + (isOld ? \"NOT NEW: \" : \"\") + (isFolder ? \"changed \" : isServed ? \"heard \" : \"written \") + seconds + \" s ago\" + (desks ? \", \" + desks : \"\"));
 }
 
 // What to do where nothing was ever to be seen.

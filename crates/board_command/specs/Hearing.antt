@@ -1,0 +1,58 @@
+-- When a board heard its desks, and what it tells of that.
+use Rattle.std.specs.Prelude.{ℕ, ◌-◌, ◌/◌, ◌&&◌, ◌||◌, Bool, true, false, nat_le, is_some, Option, Some, None, Ok}
+use Rattle.agree_core.specs.declared.messages.{Asker.Asker, DeskId.DeskId, Message.Message}
+use Rattle.links.specs.declared.link.Arrival.{Arrival}
+use Rattle.scoreboard.specs.declared.value.LastHeard.{LastHeard}
+use Rattle.board_command.specs.declared.hearing.{HeardAt.HeardAt, News.News}
+use Rattle.board_command.specs.declared.hearing.TheConstants.{LONGEST_SILENCE}
+
+-- which desk says a message, if one does
+abbrev pub asking_desk : Asker → Option DeskId
+asking_desk Asker.A = Some DeskId.A
+asking_desk Asker.B = Some DeskId.B
+asking_desk Asker.Board = None
+
+abbrev pub desk_of : Message → Option DeskId
+desk_of (Message.Vote v) = Some v.desk
+desk_of (Message.Ask q) = asking_desk q.from
+
+-- a message of this desk came at this time
+abbrev pub heard_from : Option DeskId → HeardAt → ℕ → HeardAt
+heard_from None old now = old
+heard_from (Some DeskId.A) old now = record old { a = Some now }
+heard_from (Some DeskId.B) old now = record old { b = Some now }
+
+-- so it is where what came opens and is a message of the match; nothing else is heard
+abbrev pub heard_by : Arrival → HeardAt → ℕ → HeardAt
+heard_by (Arrival.Datagram count (Ok message)) old now = heard_from (desk_of message) old now
+heard_by arrival old now = old
+
+-- a desk was heard since the board began
+abbrev pub is_heard : HeardAt → Bool
+is_heard h = is_some h.a || is_some h.b
+
+-- it was so long ago that nobody is heard, if ever
+abbrev pub is_long_ago : ℕ → ℕ → Bool
+is_long_ago at now = nat_le LONGEST_SILENCE (now - at)
+
+abbrev pub was_long_ago : Option ℕ → ℕ → Bool
+was_long_ago None now = true
+was_long_ago (Some at) now = is_long_ago at now
+
+-- the board began so long ago, and heard neither desk since
+abbrev pub is_silent : HeardAt → ℕ → Bool
+is_silent h now = is_long_ago h.begun now && (was_long_ago h.a now && was_long_ago h.b now)
+
+-- how many whole seconds ago each was heard
+abbrev pub seconds_since : Option ℕ → ℕ → Option ℕ
+seconds_since None now = None
+seconds_since (Some at) now = Some ((now - at) / 1000)
+
+abbrev pub last_heard : HeardAt → ℕ → LastHeard
+last_heard h now = record { a = seconds_since h.a now; b = seconds_since h.b now }
+
+-- what is told where it was told or not that neither desk is heard, and it is so or not now
+abbrev pub news_of : Bool → Bool → Option News
+news_of false true = Some News.Silent
+news_of true false = Some News.HeardAgain
+news_of was is = None

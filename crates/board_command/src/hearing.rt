@@ -1,0 +1,245 @@
+//! When a board heard its desks: a link that notes it, and what is told of it.
+
+ghost use Rattle.std.specs.Prelude.{◌≡◌, ◌-◌, nat_le};
+ghost use Rattle.board_command.specs.Hearing as laws;
+ghost use Rattle.board_command.specs.declared.hearing.TheConstants as constants;
+
+use agree_core::{Asker, DeskId, Message};
+use links::{Arrival, Clock, DatagramBuffer, Link, Taken};
+use scoreboard::LastHeard;
+use std::cell::Cell;
+use std::io::Write;
+use wire::MessageBytes;
+
+/// For how many milliseconds neither desk is heard before a board says so.
+/// A desk says something every two seconds at least, so that many datagrams were lost, or nobody is there.
+const LONGEST_SILENCE: u64 = 10_000;
+
+/// When a board began, and when it heard each desk last since then, in milliseconds since some moment.
+#[derive(Clone, Copy)]
+pub struct HeardAt {
+    begun: u64,
+    a: Option<u64>,
+    b: Option<u64>,
+}
+
+/// The desk that asks, if one does.
+fn asking_desk(asker: Asker) -> Option<DeskId>
+    ensures { result ≡ laws.asking_desk asker }
+{
+    match asker {
+        Asker::A => Some(DeskId::A),
+        Asker::B => Some(DeskId::B),
+        Asker::Board => None,
+    }
+}
+
+/// The desk that says a message, if one does.
+fn desk_of(message: &Message) -> Option<DeskId>
+    ensures { result ≡ laws.desk_of message.now }
+{
+    match message {
+        Message::Vote(vote) => Some(vote.desk),
+        Message::Ask(ask) => asking_desk(ask.from),
+    }
+}
+
+/// Whether that was so long ago that nobody is heard.
+fn is_long_ago(at: u64, now: u64) -> bool
+    ensures { result ≡ laws.is_long_ago at now }
+{
+    now.saturating_sub(at) >= LONGEST_SILENCE
+}
+
+/// Whether it was so long ago, or never.
+fn was_long_ago(at: Option<u64>, now: u64) -> bool
+    ensures { result ≡ laws.was_long_ago at now }
+{
+    match at {
+        Some(at) => is_long_ago(at, now),
+        None => true,
+    }
+}
+
+/// How many seconds ago that was, if it ever was.
+fn seconds_since(at: Option<u64>, now: u64) -> Option<u64>
+    ensures { result ≡ laws.seconds_since at now }
+{
+    match at {
+        Some(at) => Some(now.saturating_sub(at) / 1_000),
+        None => None,
+    }
+}
+
+impl HeardAt {
+    /// A board begins at this time, and heard no desk yet.
+    pub fn begun(now: u64) -> HeardAt {
+        HeardAt {
+            begun: now,
+            a: None,
+            b: None,
+        }
+    }
+
+    /// A desk is heard now, if one is.
+    fn heard_from(self, desk: Option<DeskId>, now: u64) -> HeardAt
+        ensures { result ≡ laws.heard_from desk self now }
+    {
+        match desk {
+            Some(DeskId::A) => HeardAt {
+                a: Some(now),
+                ..self
+            },
+            Some(DeskId::B) => HeardAt {
+                b: Some(now),
+                ..self
+            },
+            None => self,
+        }
+    }
+
+    /// This came now.
+    fn heard_by(self, arrival: &Arrival, now: u64) -> HeardAt
+        ensures { result ≡ laws.heard_by arrival.now self now }
+    {
+        match arrival {
+            Arrival::Datagram(_, Ok(message)) => self.heard_from(desk_of(message), now),
+            _ => self,
+        }
+    }
+
+    /// Whether a desk was heard.
+    pub fn is_heard(self) -> bool
+        ensures { result ≡ laws.is_heard self }
+    {
+        self.a.is_some() || self.b.is_some()
+    }
+
+    /// Whether neither desk was heard for long, nor had the board begun by then.
+    pub fn is_silent(self, now: u64) -> bool
+        ensures { result ≡ laws.is_silent self now }
+    {
+        is_long_ago(self.begun, now) && was_long_ago(self.a, now) && was_long_ago(self.b, now)
+    }
+
+    /// How many seconds ago each was heard last.
+    pub fn last(self, now: u64) -> LastHeard
+        ensures { result ≡ laws.last_heard self now }
+    {
+        LastHeard {
+            a: seconds_since(self.a, now),
+            b: seconds_since(self.b, now),
+        }
+    }
+}
+
+/// A link as another is. It notes when a desk was heard by what comes, and shows it.
+#[derive(Drop)]
+pub struct Listening<'h, L, C> {
+    link: L,
+    clock: C,
+    at: HeardAt,
+    shown: &'h Cell<HeardAt>,
+}
+
+impl<'h, L: Link, C: Clock> Listening<'h, L, C> {
+    /// Of this link, by this clock, shown here. The board begins.
+    pub fn over(link: L, clock: C, shown: &'h Cell<HeardAt>) -> Listening<'h, L, C>
+        ensures { result.link ≡ link }
+    {
+        let mut clock = clock;
+        let at = HeardAt::begun(clock.millis());
+        shown.set(at);
+        Listening {
+            link,
+            clock,
+            at,
+            shown,
+        }
+    }
+}
+
+impl<L: Link, C: Clock> Link for Listening<'_, L, C> {
+    ghost use Rattle.std.specs.Prelude.{◌≡◌, ℕ};
+    ghost use Rattle.board_command.specs.Hearing.{heard_by};
+    ghost use Rattle.links.specs.Passed.{IsRead};
+
+    ghost log = { λ listening. L.log listening.link };
+
+    fn send(&mut self, bytes: &MessageBytes) {
+        self.link.send(bytes);
+    }
+
+    fn send_message(&mut self, game: u64, message: &Message, bytes: &MessageBytes) {
+        self.link.send_message(game, message, bytes);
+    }
+
+    fn reply(&mut self, bytes: &MessageBytes) {
+        self.link.reply(bytes);
+    }
+
+    // nothing is read here, and so nobody heard
+    fn take(&mut self, buffer: &mut DatagramBuffer, wait: u64) -> Taken {
+        self.link.take(buffer, wait)
+    }
+
+    fn take_message(&mut self, game: u64, buffer: &mut DatagramBuffer, wait: u64) -> Arrival
+        ensures log { IsRead game result buffer.new (L.log self.old.link) (L.log self.new.link) }
+        ensures heard { (now : ℕ) × (self.new.at ≡ heard_by result self.old.at now) }
+    {
+        let arrival = self.link.take_message(game, buffer, wait);
+        let now = self.clock.millis();
+        self.at = self.at.heard_by(&arrival, now);
+        self.shown.set(self.at);
+        arrival
+    }
+}
+
+/// What is told of a board's desks.
+#[derive(Clone, Copy)]
+pub enum News {
+    /// Neither was heard for ten seconds.
+    Silent,
+    /// One was heard since that was told.
+    HeardAgain,
+}
+
+/// Whether it was told that neither desk is heard.
+#[derive(Clone, Copy)]
+pub struct Silence {
+    is_told: bool,
+}
+
+impl Silence {
+    /// Nothing was told.
+    pub const NOTHING: Silence = Silence { is_told: false };
+
+    /// What is news at this time, once.
+    fn take_news(&mut self, heard: HeardAt, now: u64) -> Option<News>
+        ensures news { result ≡ laws.news_of self.old.is_told (laws.is_silent heard now) }
+        ensures told { self.new.is_told ≡ laws.is_silent heard now }
+    {
+        let was_told = self.is_told;
+        self.is_told = heard.is_silent(now);
+        match (was_told, self.is_told) {
+            (false, true) => Some(News::Silent),
+            (true, false) => Some(News::HeardAgain),
+            _ => None,
+        }
+    }
+
+    /// Tells what is news. That it can't be told is no fault.
+    pub fn tell<E: Write>(&mut self, heard: HeardAt, now: u64, errors: &mut E)
+        ensures { self.new.is_told ≡ laws.is_silent heard now }
+    {
+        match self.take_news(heard, now) {
+            Some(News::Silent) => {
+                let _ = writeln!(errors, "no desk is heard");
+            }
+            Some(News::HeardAgain) => {
+                let _ = writeln!(errors, "a desk is heard again");
+            }
+            None => {}
+        }
+    }
+}
