@@ -140,7 +140,7 @@ pub fn start_board<'a>(
     let sealed = sealing.sealed_at(rt, at, peers, page.wait_ends(), Shared::of(&errors))?;
     let mut link = sealing.link_over(rt.alloc(), MonotonicClock::new(rt), sealed);
     let _ = sealing.tell_fingerprints(&mut Shared::of(&errors));
-    page.tell(&mut Shared::of(&errors));
+    page.tell(rt, &mut Shared::of(&errors));
     let mut clock = page.clock(rt);
     let mut notes = Notes::new(Shared::of(&errors));
     let mut shown = Shown {
