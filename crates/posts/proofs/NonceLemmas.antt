@@ -184,7 +184,6 @@ never secret n (Judge post at waiting ∷ calls) out next below lacks =
     let known = taken secret out post at waiting line typed in
     let was : is_out out n ≡ true = subst (λ x. is_out out x ≡ true) (ap (λ x. x.nonce) (same_stamp post.stamp known.stamp s known.has_stamp has) ∙ sym e) known.was_out in
     absurd (cc (was, lacks))) later)
-
 never secret n (Look p ∷ calls) out next below lacks =
     let later = never secret n calls (out_after_pass secret out p) next below (not_true _ _ (passed_fewer (is_good_pass secret out p) n p out) lacks) in
     with_pass (All (λ m. n ≢ m)) (is_good_pass secret out p) p _ later
@@ -205,7 +204,6 @@ once secret (Judge post at waiting ∷ calls) out next below =
     let same = ap (λ x. x.nonce) (same_stamp post.stamp known.stamp s known.has_stamp has) in
     AllPairs-cons (λ m n. m ≢ n) s.nonce _
     (never secret s.nonce calls (out_after secret out post) next (below s.nonce (rw same at known.was_out)) (rw same at known.is_used)) later)
-
 once secret (Look p ∷ calls) out next below =
     let later = once secret calls (out_after_pass secret out p) next (λ n is. below n (passed_fewer (is_good_pass secret out p) n p out is)) in
     with_pass (AllPairs (λ m n. m ≢ n)) (is_good_pass secret out p) p _ later

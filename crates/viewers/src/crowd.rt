@@ -81,7 +81,9 @@ impl Crowd {
         let mut stream = stream;
         let _ = stream.set_nodelay(true);
         let both = Interest::READABLE | Interest::WRITABLE;
-        self.poll.registry().register(&mut stream, Token(place), both)?;
+        self.poll
+            .registry()
+            .register(&mut stream, Token(place), both)?;
         let guest = Guest {
             at: came_at(&stream, self.at),
             from,

@@ -310,13 +310,7 @@ impl<S: Stream> Viewer<S> {
     }
 
     /// Takes bytes that came. Those behind the first request are passed over.
-    fn take(
-        &mut self,
-        alloc: Global,
-        bytes: &[u8],
-        shown: &Shown,
-        inbox: &mut Option<Inbox>,
-    ) {
+    fn take(&mut self, alloc: Global, bytes: &[u8], shown: &Shown, inbox: &mut Option<Inbox>) {
         if !matches!(self.stage, Stage::Head | Stage::Line(_)) {
             return;
         }
@@ -406,13 +400,7 @@ impl<S: Stream> Viewer<S> {
     }
 
     /// Reads what came, as far as that goes at once, and answers it.
-    pub fn serve(
-        &mut self,
-        alloc: Global,
-        shown: &Shown,
-        inbox: &mut Option<Inbox>,
-        now: u64,
-    ) {
+    pub fn serve(&mut self, alloc: Global, shown: &Shown, inbox: &mut Option<Inbox>, now: u64) {
         for _ in 0..MOST_PIECES {
             if !self.may_read || self.is_gone {
                 break;

@@ -14,5 +14,5 @@ returns-clause-held g c =
       plain_alone = front_is_plain (g.O.Outlet.taken screen.outlet) rest screen.log screen.shown;
       whole = screen.whole;
       few = pending_few screen.lacks screen.done screen.begun.len screen.waits.len screen.begun.items screen.waits.items begun_is waits_is
-      screen.few_begun screen.few_wait;
+          screen.few_begun screen.few_wait;
     }
