@@ -156,7 +156,7 @@ pub fn start_board<'a>(
     let link = sealing.link_over(rt.alloc(), MonotonicClock::new(rt), sealed);
     let mut link = Listening::over(link, MonotonicClock::new(rt), &hearing);
     let _ = sealing.tell_fingerprints(&mut Shared::of(&errors));
-    page.tell(&mut Shared::of(&errors));
+    page.tell(rt, &mut Shared::of(&errors));
     let mut clock = page.clock(rt);
     let mut watch = watch_over(rt, Shared::of(&errors))?;
     let mut shown = Shown {

@@ -14,7 +14,7 @@ use std::alloc::Global;
 use std::cell::RefCell;
 use std::io::Write;
 use std::os::fd::RawFd;
-use viewers::{Station, Viewers};
+use viewers::{Station, Viewers, reached_at};
 
 /// What a page shows of a board, as its files do.
 type Panes<'v, 's, 'a> = Files<'a, Pane<'v>, Told<'s, 'a>, CheckedBook>;
@@ -83,10 +83,10 @@ impl<'a> Page<'a> {
     }
 
     /// Tells where it is. That it can't be told is no fault.
-    pub fn tell<W: Write>(&self, errors: &mut W) {
+    pub fn tell<W: Write>(&self, rt: &HostRuntime, errors: &mut W) {
         if let Some(served) = &self.served {
-            let text = served.at.text;
-            let _ = writeln!(errors, "page: http://{text}/");
+            let at = reached_at(rt, served.at.socket);
+            let _ = writeln!(errors, "page: http://{at}/");
         }
     }
 

@@ -19,7 +19,6 @@ use station_pages::PageLines;
 use station_screens::{Shared, errors_at, output_at};
 use std::cell::RefCell;
 use std::env::Env;
-use std::io::IsTerminal;
 use std::mem::drop;
 use std::net::SocketAddr;
 use streams::Watched;
@@ -183,7 +182,7 @@ pub fn start_desk<'a>(
     let sealed = sealing.sealed_at(rt, at, peers, ends, Shared::of(&errors))?;
     let link = sealing.link_over(rt.alloc(), MonotonicClock::new(rt), sealed);
     let _ = sealing.tell_fingerprints(&mut Shared::of(&errors));
-    page.tell(&mut Shared::of(&errors), rt.stderr().is_terminal());
+    page.tell(rt, &mut Shared::of(&errors));
     let Kept {
         ended,
         life,

@@ -1,16 +1,17 @@
 //! The page of a desk.
 
 use hex::encode_to_slice;
-use machine::{Address, WaitEnds};
+use machine::{Address, WaitEnds, draw};
 use qr::code_of;
 use setup::{StopFault, Stopped};
 use station_pages::ScorersPage;
 use std::cell::RefCell;
-use std::io::{self, ErrorKind, Write};
+use std::io::{self, ErrorKind, IsTerminal, Write};
+use std::net::SocketAddr;
 use std::os::fd::RawFd;
 use std::random::RandomSource;
 use std::str;
-use viewers::{Inbox, Station, Viewers};
+use viewers::{Inbox, Station, Viewers, reached_at};
 
 /// A page, and its link, in which alone its secret stands.
 #[derive(Drop)]
@@ -28,7 +29,7 @@ pub struct Page {
 }
 
 /// The link to a page at an address, with its secret in hex digits behind `#`.
-fn link_to(rt: &HostRuntime, at: &str, secret: &[u8; 16]) -> io::Result<String> {
+fn link_to(rt: &HostRuntime, at: SocketAddr, secret: &[u8; 16]) -> io::Result<String> {
     let mut digits = [0; 32];
     let made = encode_to_slice(&secret[..], &mut digits[..]).is_ok();
     match str::from_utf8(&digits[..]) {
@@ -44,7 +45,7 @@ fn link_to(rt: &HostRuntime, at: &str, secret: &[u8; 16]) -> io::Result<String> 
 fn served_at(rt: &HostRuntime, at: &Address<'_>) -> io::Result<Served> {
     let mut secret = [0; 16];
     rt.fill_bytes(&mut secret[..])?;
-    let link = link_to(rt, at.text, &secret)?;
+    let link = link_to(rt, reached_at(rt, at.socket), &secret)?;
     let inbox = Some(Inbox::new(secret));
     let viewers = Viewers::new(rt, rt.alloc(), at.socket, Station::Desk, inbox)?;
     Ok(Served {
@@ -52,6 +53,17 @@ fn served_at(rt: &HostRuntime, at: &Address<'_>) -> io::Result<Served> {
         ends: viewers.descriptor(),
         page: RefCell::new(ScorersPage::new(rt.alloc(), viewers)),
     })
+}
+
+/// Draws a link as a code on a terminal.
+fn draw_code(rt: &HostRuntime, link: &str) {
+    let Some(code) = code_of(link.as_bytes()) else {
+        return;
+    };
+    let mut drawing = Vec::new(rt.alloc());
+    if write!(drawing, "{code}").is_ok() {
+        draw(rt, &drawing);
+    }
 }
 
 impl Page {
@@ -85,13 +97,13 @@ impl Page {
     }
 
     /// Tells the link, and on a terminal as a code too that a camera reads. That it can't be told is no fault.
-    pub fn tell<W: Write>(&self, errors: &mut W, is_terminal: bool) {
+    pub fn tell<W: Write>(&self, rt: &HostRuntime, errors: &mut W) {
         let Some(served) = &self.served else {
             return;
         };
         let link = served.link.as_str();
-        if is_terminal && let Some(code) = code_of(link.as_bytes()) {
-            let _ = write!(errors, "{code}");
+        if rt.stderr().is_terminal() {
+            draw_code(rt, link);
         }
         let _ = writeln!(errors, "page: {link}");
     }

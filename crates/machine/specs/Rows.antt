@@ -1,7 +1,15 @@
 -- What became of the rows that were written to a screen, and what a stream has taken.
-use Rattle.std.specs.Prelude.{ℕ, Bool, true, false, ◌&&◌, ◌==◌, if◌then◌else◌, List, [], ◌∷◌, ◌++◌, take, drop, codes}
+use Rattle.std.specs.Prelude.{ℕ, Bool, true, false, ◌&&◌, ◌||◌, ◌==◌, nat_le, if◌then◌else◌, List, [], ◌∷◌, ◌++◌, map, take, drop, codes}
 use Rattle.machine.specs.declared.row_log.{RowLog.RowLog, RowLog.Empty, RowLog.Shown', RowLog.LeftOut', TakenLog.TakenLog}
 use Rattle.machine.specs.declared.row_log.TakenLog as taken
+
+-- a newline, or printable ASCII, which no terminal obeys
+abbrev pub is_plain : ℕ → Bool
+is_plain byte = byte == 10 || (nat_le 32 byte && nat_le byte 126)
+
+-- a byte as it is shown: another one is a question mark
+abbrev pub plain : ℕ → ℕ
+plain byte = if is_plain byte then byte else 63
 
 -- no bytes, or whole rows: the last byte ends a row
 abbrev pub ends_row : List ℕ → Bool
@@ -24,10 +32,10 @@ lacks_last rows = false
 abbrev pub points : List ℕ
 points = codes "..\n"
 
--- those that are shown, and one row in place of those that are left out one after another
+-- those that are shown, each byte plain, and one row in place of those that are left out one after another
 abbrev pub shown_in : RowLog → List ℕ
 shown_in Empty = []
-shown_in (Shown' marker before bytes count) = shown_in before ++ take count.value bytes.value.items
+shown_in (Shown' marker before bytes count) = shown_in before ++ map plain (take count.value bytes.value.items)
 shown_in (LeftOut' marker before bytes count) =
     if lacks_last before then shown_in before else shown_in before ++ points
 

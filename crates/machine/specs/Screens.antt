@@ -1,6 +1,7 @@
 -- What a screen has of what was written to it.
-use Rattle.std.specs.Prelude.{◌≡◌, ◌≤◌, ℕ, true, List, ◌++◌, drop, length}
-use Rattle.machine.specs.Rows.{are_whole, shown_in, written_in}
+use Rattle.std.specs.Prelude.{◌≡◌, ◌≤◌, ℕ, true, List, ◌++◌, drop, length, map}
+use Rattle.std.specs.List.{list_all}
+use Rattle.machine.specs.Rows.{are_whole, is_plain, plain, shown_in, written_in}
 use Rattle.machine.specs.declared.screen.Screen.{Screen}
 
 module _ {O : Type 0} {g : _} where
@@ -8,18 +9,21 @@ module _ {O : Type 0} {g : _} where
   abbrev pub written_of : Screen O g → List ℕ
   written_of screen = written_in screen.log ++ screen.waits.items
 
-  -- the same with a row of two points in place of rows that are left out
+  -- the same, each byte plain, with a row of two points in place of rows that are left out
   abbrev pub shown_of : Screen O g → List ℕ
-  shown_of screen = shown_in screen.log ++ screen.waits.items
+  shown_of screen = shown_in screen.log ++ map plain screen.waits.items
 
   -- what its stream hasn't taken: the rest of the rows whose writing has begun, and then what waits
   abbrev pub pending_of : Screen O g → List ℕ
-  pending_of screen = drop screen.done screen.begun.items ++ screen.waits.items
+  pending_of screen = drop screen.done screen.begun.items ++ map plain screen.waits.items
 
-  -- No byte of what was written is changed, said twice or moved, and none is left out in silence.
+  -- A plain byte of what was written isn't changed, and any other is a question mark; none is said twice, moved, or left out in
+  -- silence. Whatever is written, a terminal finds nothing to obey.
   pub record IsHeld (taken : O → List ℕ) (screen : Screen O g) : Type 0 where
     -- what its stream has taken and what is to be taken is what was written, but for a row of two points in place of rows
     pub shown : taken screen.outlet ++ pending_of screen ≡ shown_of screen
+    -- each byte that its stream has taken is a newline or printable ASCII
+    pub plain_alone : list_all is_plain (taken screen.outlet) ≡ true
     -- what is shown or left out at once are whole rows
     pub whole : are_whole screen.log ≡ true
     -- 32 KB wait at most, and 32 KB of rows whose writing has begun, with a row of two points

@@ -1,7 +1,7 @@
 //! What became of the rows that were written to a screen, and what a stream has taken. Clauses alone read both: they take
 //! no memory, and have no last value.
 
-ghost use Rattle.std.specs.Prelude.{◌≡◌, ◌++◌, ◌&&◌, if◌then◌else◌, false, true, drop, take};
+ghost use Rattle.std.specs.Prelude.{◌≡◌, ◌++◌, ◌&&◌, if◌then◌else◌, false, true, drop, map, take};
 
 use std::snapshot::Snapshot;
 
@@ -14,12 +14,12 @@ pub enum RowLog {
 }
 
 impl RowLog {
-    ghost use Rattle.machine.specs.Rows.{are_whole, ends_row, lacks_last, points, shown_in, written_in};
+    ghost use Rattle.machine.specs.Rows.{are_whole, ends_row, lacks_last, plain, points, shown_in, written_in};
 
     /// These, and then rows that are shown.
     pub fn shown(&self, bytes: &Vec<u8>, count: usize) -> RowLog
         ensures written { written_in result ≡ written_in self.now ++ take count bytes.now.items }
-        ensures shown { shown_in result ≡ shown_in self.now ++ take count bytes.now.items }
+        ensures shown { shown_in result ≡ shown_in self.now ++ map plain (take count bytes.now.items) }
         ensures last { lacks_last result ≡ false }
         ensures whole { are_whole result ≡ (are_whole self.now && ends_row (take count bytes.now.items)) }
     {

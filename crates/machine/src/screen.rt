@@ -1,6 +1,7 @@
 //! A screen that keeps nobody waiting, and the standard streams.
 
-ghost use Rattle.std.specs.Prelude.{◌≡◌, ◌++◌, ◌+◌, ◌-◌, ◌≤◌, ℕ, List, MatchResult, OnOk, if◌then◌else◌, IfOk, Some, [], true, drop, length, take, vec_len};
+ghost use Rattle.std.specs.Prelude.{◌≡◌, ◌++◌, ◌+◌, ◌-◌, ◌≤◌, ℕ, List, MatchResult, OnOk, if◌then◌else◌, IfOk, Some, [], true, drop, length, map, take, vec_len};
+ghost use Rattle.machine.specs.Rows as rows;
 ghost use Rattle.machine.specs.Rows.{are_whole, ends_row, lacks_last, shown_in};
 
 use crate::row_log::{RowLog, TakenLog};
@@ -25,6 +26,9 @@ const POINTS: [u8; 3] = [b'.', b'.', b'\n'];
 
 /// How often a screen that takes bytes may let a wait for a piece pass, before it is left alone.
 const PATIENCE: u8 = 50;
+
+/// How long a terminal is waited for that takes nothing of a drawing, in milliseconds.
+const DRAWING_WAIT: u64 = 200;
 
 /// The most pieces that are handed on at once.
 const MOST_PIECES: u32 = 400;
@@ -176,6 +180,22 @@ impl<S: Write + AsRawFd> Outlet for Pieces<S> {
     }
 }
 
+/// Draws on standard error, where that is a terminal, what a terminal obeys and no screen hands on: a drawing of the program's
+/// own, as a code. A terminal that takes nothing of it for long gets no more of it.
+pub fn draw(rt: &HostRuntime, drawing: &Vec<u8>) {
+    let mut outlet = Pieces::of(StandardStream::errors(rt));
+    let mut done = 0;
+    for _ in 0..drawing.len() {
+        if done >= drawing.len() {
+            break;
+        }
+        match outlet.hand(drawing, done, DRAWING_WAIT) {
+            Ok(count) if count > 0 => done += count,
+            _ => break,
+        }
+    }
+}
+
 /// The length of the whole rows at the front of these bytes.
 fn rows_len(bytes: &[u8]) -> usize
     ensures bound { result ≤ length bytes.now }
@@ -191,6 +211,39 @@ fn rows_len(bytes: &[u8]) -> usize
     0
 }
 
+/// A byte as it is shown: one that a terminal may obey is a question mark.
+fn plain(byte: u8) -> u8
+    ensures { result ≡ rows.plain byte }
+{
+    if byte == b'\n' || (32 <= byte && byte <= 126) {
+        byte
+    } else {
+        b'?'
+    }
+}
+
+/// Adds bytes as they are shown.
+fn put_plain(out: &mut Vec<u8>, bytes: &[u8]) -> Result<(), AllocError>
+    ensures { OnOk result (out.new.items ≡ out.old.items ++ map rows.plain bytes.now) }
+{
+    for byte in bytes {
+        out.push(plain(*byte))?;
+    }
+    Ok(())
+}
+
+/// Puts bytes as they are shown in place of others. Where there is no memory for them, none are left.
+fn set_plain(out: &mut Vec<u8>, bytes: &[u8]) -> Result<(), AllocError>
+    ensures { MatchResult result (λ _. out.new.items ≡ map rows.plain bytes.now) (λ _. out.new.items ≡ []) }
+{
+    out.clear();
+    let put = put_plain(out, bytes);
+    if put.is_err() {
+        out.clear();
+    }
+    put
+}
+
 /// Takes so many bytes off the front.
 fn drop_front(held: &mut Vec<u8>, count: usize)
     requires { count ≤ vec_len held.old }
@@ -202,7 +255,8 @@ fn drop_front(held: &mut Vec<u8>, count: usize)
 
 /// A writer to a screen that may not be read for long, as a terminal after Ctrl-S or a full pipe. No write and no flush waits
 /// longer than a moment. Rows are handed on as far as they are taken, and the others wait. Where too many wait, the older
-/// half is left out, by whole rows, and a row of two points stands in their place.
+/// half is left out, by whole rows, and a row of two points stands in their place. Whatever is written, from wherever it
+/// came, each byte that is handed on is a newline or printable ASCII: so no terminal obeys it.
 #[derive(Drop)]
 pub struct Screen<O: Outlet> {
     outlet: O,
@@ -302,9 +356,8 @@ impl<O: Outlet> Screen<O> {
         if count == 0 || self.done < self.begun.len() {
             return Ok(());
         }
-        self.begun.clear();
         self.done = 0;
-        self.begun.extend_from_slice(&self.waits[..count])?;
+        set_plain(&mut self.begun, &self.waits[..count])?;
         self.log = self.log.shown(&self.waits, count);
         self.lacks = false;
         drop_front(&mut self.waits, count);
@@ -365,8 +418,10 @@ impl<O: Outlet> Screen<O> {
             ..
         } = self;
         let mut outlet = outlet;
+        let mut begun = begun;
         outlet.hand_all(&begun, done)?;
-        outlet.hand_all(&waits, 0)?;
+        set_plain(&mut begun, waits.as_slice())?;
+        outlet.hand_all(&begun, 0)?;
         Ok(outlet)
     }
 }

@@ -1,6 +1,6 @@
 -- What is out over many calls.
 use Rattle.std.proofs.lemmas.Grind.{common_steps}
-use Rattle.std.proofs.Common.{◌≡◌, ◌≢◌, ◌∙◌, ◌<◌, ◌+◌, ◌==◌, ◌||◌, ℕ, Bool, true, false, List, [], ◌∷◌, ◌++◌, Option, None, Some, Result, Ok, Err, All, AllPairs, length, drop, if◌then◌else◌, nat_lt, arith, refl, sym, ap, subst}
+use Rattle.std.proofs.Common.{◌≡◌, ◌≢◌, ◌∙◌, ◌<◌, ◌+◌, ◌==◌, ◌&&◌, ◌||◌, ℕ, Bool, true, false, List, [], ◌∷◌, ◌++◌, Option, None, Some, Result, Ok, Err, All, AllPairs, length, drop, if◌then◌else◌, nat_lt, arith, refl, sym, ap, subst}
 use Rattle.std.proofs.lemmas.Bool.Decides.{nat_tests}
 use Rattle.std.proofs.lemmas.List.Elements.{All-nil, All-cons}
 use Rattle.std.proofs.lemmas.List.Kept.{AllPairs-cons}
@@ -9,10 +9,10 @@ use Rattle.std.proofs.lemmas.Slice.Eq.{bytes_eq-Decides}
 use Rattle.agree_core.specs.declared.position.Position.{Position}
 use Rattle.screen.specs.Words.{is_end}
 use Rattle.posts.specs.Texts.{tag_of}
-use Rattle.posts.specs.Posts.{IsTaken, after_check, checked, is_out, is_same_place, is_tagged, line_of, out_after, stamped, used_by, verdict, with_given, without}
-use Rattle.posts.specs.Runs.{Call, accepted, accepted_by}
-use Rattle.posts.specs.Runs.Call.{Give, Judge}
-use Rattle.posts.specs.declared.{judging.Post.Post, refusal.Refusal.Refusal, stamp.Stamp.Stamp}
+use Rattle.posts.specs.Posts.{IsTaken, after_check, checked, is_good_pass, is_out, is_same_place, is_tagged, line_of, out_after, out_after_pass, passed_by, stamped, used_by, verdict, with_given, without}
+use Rattle.posts.specs.Runs.{Call, accepted, accepted_by, let_by}
+use Rattle.posts.specs.Runs.Call.{Give, Judge, Look}
+use Rattle.posts.specs.declared.{judging.Post.Post, refusal.Refusal.Refusal, stamp.{Pass.Pass, Stamp.Stamp}}
 
 -- ---- what is known of a post whose line is typed
 
@@ -148,6 +148,28 @@ with_nonce P (Err why) o post rest e all h = all
 with_nonce P (Ok line) None post rest e all h = rw e all
 with_nonce P (Ok line) (Some s) post rest e all h = rw e (h s line refl refl)
 
+-- ---- the nonces of passes
+
+passed_fewer : (is_good : Bool) (n : ℕ) (p : Pass) (out : List ℕ) → is_out (passed_by is_good p out) n ≡ true → is_out out n ≡ true
+passed_fewer true n p out h = fewer_by n p.nonce out h
+passed_fewer false n p out h = h
+
+both : (b c : Bool) → (b && c) ≡ true → b ≡ true
+both b c h = grind (arith, common_steps)
+
+pass_was_out : (secret out : List ℕ) (p : Pass) → is_good_pass secret out p ≡ true → is_out out p.nonce ≡ true
+pass_was_out secret out p h = both _ _ h
+
+pass_is_used : (is_good : Bool) (out : List ℕ) (p : Pass) → is_good ≡ true → is_out (passed_by is_good p out) p.nonce ≡ false
+pass_is_used true out p h = without_lacks p.nonce out
+pass_is_used false out p h = absurd (cc h)
+
+-- what holds of later nonces, and with that of a good pass
+with_pass : (P : List ℕ → Type 0) (is_good : Bool) (p : Pass) (rest : List ℕ) → P rest → (is_good ≡ true → P (p.nonce ∷ rest))
+    → P (let_by is_good p ++ rest)
+with_pass P true p rest all h = h refl
+with_pass P false p rest all h = all
+
 -- a nonce that was given and is out no more types nothing
 never : (secret : List ℕ) (n : ℕ) (calls : List Call) (out : List ℕ) (next : ℕ) → n < next → is_out out n ≡ false
     → All (λ m. n ≢ m) (accepted secret out next calls)
@@ -161,6 +183,12 @@ never secret n (Judge post at waiting ∷ calls) out next below lacks =
     (λ s line typed has. All-cons (λ m. n ≢ m) s.nonce _ (λ e.
     let known = taken secret out post at waiting line typed in
     let was : is_out out n ≡ true = subst (λ x. is_out out x ≡ true) (ap (λ x. x.nonce) (same_stamp post.stamp known.stamp s known.has_stamp has) ∙ sym e) known.was_out in
+    absurd (cc (was, lacks))) later)
+never secret n (Look p ∷ calls) out next below lacks =
+    let later = never secret n calls (out_after_pass secret out p) next below (not_true _ _ (passed_fewer (is_good_pass secret out p) n p out) lacks) in
+    with_pass (All (λ m. n ≢ m)) (is_good_pass secret out p) p _ later
+    (λ good. All-cons (λ m. n ≢ m) p.nonce _ (λ e.
+    let was : is_out out n ≡ true = subst (λ x. is_out out x ≡ true) (sym e) (pass_was_out secret out p good) in
     absurd (cc (was, lacks))) later)
 
 pub once : (secret : List ℕ) (calls : List Call) (out : List ℕ) (next : ℕ) → IsBelow out next
@@ -176,6 +204,12 @@ once secret (Judge post at waiting ∷ calls) out next below =
     let same = ap (λ x. x.nonce) (same_stamp post.stamp known.stamp s known.has_stamp has) in
     AllPairs-cons (λ m n. m ≢ n) s.nonce _
     (never secret s.nonce calls (out_after secret out post) next (below s.nonce (rw same at known.was_out)) (rw same at known.is_used)) later)
+once secret (Look p ∷ calls) out next below =
+    let later = once secret calls (out_after_pass secret out p) next (λ n is. below n (passed_fewer (is_good_pass secret out p) n p out is)) in
+    with_pass (AllPairs (λ m n. m ≢ n)) (is_good_pass secret out p) p _ later
+    (λ good. AllPairs-cons (λ m n. m ≢ n) p.nonce _
+    (never secret p.nonce calls (out_after_pass secret out p) next (below p.nonce (pass_was_out secret out p good))
+    (pass_is_used (is_good_pass secret out p) out p good)) later)
 
 pub none_is_below : IsBelow [] 1
 none_is_below = λ n is. absurd (cc is)

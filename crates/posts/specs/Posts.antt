@@ -1,10 +1,10 @@
 -- What a page's post comes to, by the secret, the nonces that are out, and where the desk is.
-use Rattle.std.specs.Prelude.{◌≡◌, ℕ, ◌==◌, Bool, ◌&&◌, true, false, nat_lt, if◌then◌else◌, bytes_eq, List, [], ◌∷◌, ◌++◌, length, drop, filter, Option, None, Some, Result, Ok, Err}
-use Rattle.std.specs.List.{list_any}
+use Rattle.std.specs.Prelude.{◌≡◌, ℕ, ◌==◌, Bool, ◌&&◌, true, false, nat_le, nat_lt, if◌then◌else◌, bytes_eq, List, [], ◌∷◌, ◌++◌, length, drop, filter, Option, None, Some, Result, Ok, Err}
+use Rattle.std.specs.List.{list_all, list_any}
 use Rattle.agree_core.specs.declared.position.Position.{Position}
 use Rattle.screen.specs.Words.{is_end}
-use Rattle.posts.specs.Texts.{tag_of}
-use Rattle.posts.specs.declared.{judging.Post.Post, refusal.Refusal.Refusal, stamp.Stamp.Stamp}
+use Rattle.posts.specs.Texts.{pass_tag, tag_of}
+use Rattle.posts.specs.declared.{judging.Post.Post, refusal.Refusal.Refusal, stamp.{Pass.Pass, Stamp.Stamp}}
 use Rattle.posts.specs.declared.refusal.Refusal.TheVariants.{Foreign, TooLong, Malformed, NotOut, WrongTag, Ends, Elsewhere, Busy}
 
 -- with which status a refusal is answered
@@ -29,12 +29,12 @@ without nonce out = filter (λ n. if n == nonce then false else true) out
 abbrev pub is_out : List ℕ → ℕ → Bool
 is_out out nonce = list_any (λ n. n == nonce) out
 
-abbrev pub is_newline : ℕ → Bool
-is_newline byte = byte == 10
+abbrev pub is_printable : ℕ → Bool
+is_printable byte = nat_le 32 byte && nat_le byte 126
 
--- it may be a line: it isn't empty, and has no end of a line in it
+-- it may be a line: it isn't empty, and each byte of it is printable ASCII
 abbrev pub is_line : List ℕ → Bool
-is_line text = if list_any is_newline text then false else nat_lt 0 (length text)
+is_line text = if list_all is_printable text then nat_lt 0 (length text) else false
 
 -- its tag is made with the secret, of its nonce, its position and its line
 abbrev pub is_tagged : List ℕ → Stamp → List ℕ → Bool
@@ -91,3 +91,14 @@ pub record IsTaken (secret out : List ℕ) (post : Post) (at : Position) : Type 
   pub tag : stamp.tag ≡ tag_of secret stamp.nonce stamp.at post.line.now
   pub place : stamp.at ≡ at
   pub ends_no_desk : is_end post.line.now ≡ false
+
+-- a pass is good: its nonce is out, and its tag is made with the secret, of that nonce
+abbrev pub is_good_pass : List ℕ → List ℕ → Pass → Bool
+is_good_pass secret out p = is_out out p.nonce && bytes_eq p.tag (pass_tag secret p.nonce)
+
+-- the nonces that are out after it: that of a good one is used
+abbrev pub passed_by : Bool → Pass → List ℕ → List ℕ
+passed_by is_good p out = if is_good then without p.nonce out else out
+
+abbrev pub out_after_pass : List ℕ → List ℕ → Pass → List ℕ
+out_after_pass secret out p = passed_by (is_good_pass secret out p) p out

@@ -16,3 +16,10 @@ tagged nonce at line = decimal nonce ++ codes " " ++ place_text at ++ codes " " 
 
 abbrev pub tag_of : List ℕ → ℕ → Position → List ℕ → List ℕ
 tag_of secret nonce at line = hmac secret (tagged nonce at line)
+
+-- what the tag of a pass is made of, by which a page asks to be told each state: no line's tag is made of that
+abbrev pub passed : ℕ → List ℕ
+passed nonce = decimal nonce ++ codes " watch"
+
+abbrev pub pass_tag : List ℕ → ℕ → List ℕ
+pass_tag secret nonce = hmac secret (passed nonce)

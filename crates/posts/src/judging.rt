@@ -1,12 +1,13 @@
-//! What a page's post comes to.
+//! What a page's post comes to, and a pass.
 
 ghost use Rattle.std.specs.Prelude.{◌≡◌, ◌+◌, ◌<◌, ◌^◌, ◌≤◌, [], Err, IfOk, IsSome, MatchOption, MatchResult, Ok, OnOk, Some, length};
+ghost use Rattle.std.specs.List.{list_all};
 ghost use Rattle.posts.specs.Posts as posts;
 
 use crate::nonces::{Nonces, is_out, let_go, put};
 use crate::refusal::Refusal;
-use crate::stamp::Stamp;
-use crate::tags::{is_same, tag_of};
+use crate::stamp::{Pass, Stamp};
+use crate::tags::{is_same, pass_tag, tag_of};
 use agree_core::Position;
 use arrayvec::ArrayVec;
 use links::LINE_ROOM;
@@ -29,14 +30,21 @@ pub struct Post<'p> {
     pub line: &'p [u8],
 }
 
-/// Whether a text may be a line.
+/// Whether each byte of a text is printable ASCII.
+fn is_plain(text: &[u8]) -> bool
+    ensures { result ≡ list_all posts.is_printable text.now }
+{
+    text.iter().all(|byte| *byte >= 32 && *byte <= 126)
+}
+
+/// Whether a text may be a line: of what a terminal would obey there is none.
 fn is_line(text: &[u8]) -> bool
     ensures { result ≡ posts.is_line text.now }
 {
-    if text.contains(&b'\n') {
-        false
-    } else {
+    if is_plain(text) {
         text.len() > 0
+    } else {
+        false
     }
 }
 
@@ -159,5 +167,23 @@ impl Posts {
         let stamp = self.checked(post)?;
         let_go(&mut self.out, stamp.nonce);
         line_of(&stamp, post.line, at, waiting)
+    }
+
+    /// Whether a pass is good: then its nonce is used up.
+    pub fn look_at(&mut self, pass: &Pass) -> bool
+        ensures is_good { result ≡ posts.is_good_pass self.old.secret self.old.out pass.now }
+        ensures out { self.new.out ≡ posts.out_after_pass self.old.secret self.old.out pass.now }
+        ensures secret { self.new.secret ≡ self.old.secret }
+        ensures next { self.new.next ≡ self.old.next }
+    {
+        if !is_out(&self.out, pass.nonce) {
+            return false;
+        }
+        let tag = pass_tag(&self.secret, pass.nonce);
+        if !is_same(&pass.tag, &tag) {
+            return false;
+        }
+        let_go(&mut self.out, pass.nonce);
+        true
     }
 }

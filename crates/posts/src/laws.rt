@@ -13,7 +13,7 @@ pub fn what_is_taken()
         → verdict secret out post at waiting ≡ Ok line → IsTaken secret out post at }
 {}
 
-/// Over any list of calls, no nonce is good for two lines.
+/// Over any list of calls, no nonce is good for two lines, nor for a line and a pass, nor for two passes.
 pub fn each_nonce_once()
     ensures { (secret : List ℕ) (calls : List Call) → AllPairs (λ m n. m ≢ n) (accepted secret [] 1 calls) }
 {}

@@ -18,6 +18,13 @@ pub struct Stamp {
     pub tag: [u8; 32],
 }
 
+/// What who asks to be told each state says to show that it has the secret.
+#[derive(Clone, Copy)]
+pub struct Pass {
+    pub nonce: u64,
+    pub tag: [u8; 32],
+}
+
 /// The number that a text is, in digits and without a needless zero.
 fn number_in(text: &str) -> Option<u64>
     ensures only { IfSome result (λ n. text.now ≡ decimal n) }
@@ -82,6 +89,22 @@ impl Stamp {
     {
         Some(Stamp {
             at: place_in(at)?,
+            nonce: number_in(nonce)?,
+            tag: tag_in(tag)?,
+        })
+    }
+}
+
+impl Pass {
+    ghost use Rattle.posts.specs.Stamps.{IsPass};
+
+    /// A pass by the texts of its nonce and its tag, where they are these.
+    pub fn read(nonce: &str, tag: &str) -> Option<Pass>
+        ensures only { IfSome result (IsPass nonce.now tag.now) }
+        ensures each { (n : ℕ) (digest : List ℕ) → n < 2 ^ 64
+            → IsPass nonce.now tag.now (record { nonce = n; tag = digest }) → result ≡ Some (record { nonce = n; tag = digest }) }
+    {
+        Some(Pass {
             nonce: number_in(nonce)?,
             tag: tag_in(tag)?,
         })

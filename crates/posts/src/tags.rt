@@ -1,4 +1,4 @@
-//! What a post's tag is made of.
+//! What a post's tag is made of, and a pass's.
 
 ghost use Rattle.std.specs.Prelude.{◌≡◌, ◌↔◌, ◌≤◌, ◌+◌, ◌++◌, IsTrue, decimal, length};
 ghost use Rattle.arrayvec.specs.ArrayVec.{array_vec_len};
@@ -77,4 +77,15 @@ pub fn tag_of(secret: &[u8; 16], nonce: u64, at: Position, line: &[u8]) -> [u8; 
     ensures { result ≡ texts.tag_of secret.now nonce at line.now }
 {
     hmac(secret.as_slice(), tagged(nonce, at, line).as_slice())
+}
+
+/// The tag of a pass with this nonce.
+pub fn pass_tag(secret: &[u8; 16], nonce: u64) -> [u8; 32]
+    ensures { result ≡ texts.pass_tag secret.now nonce }
+{
+    let mut text = Tagged::new();
+    let mut digits = Buffer::new();
+    put(&mut text, digits.format(nonce).as_bytes());
+    put(&mut text, b" watch");
+    hmac(secret.as_slice(), text.as_slice())
 }

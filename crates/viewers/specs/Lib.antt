@@ -1,5 +1,6 @@
--- What a viewer is sent: Replies. That each answer is one of HTTP: Responses. What was said to one, and what its stream has taken: Said. The lines that wait for a desk: Inboxes.
+-- What a viewer is sent: Replies. That each answer is one of HTTP: Responses. What was said to one, and what its stream has taken: Said. The lines that wait for a desk: Inboxes. Whose place is safe: Places.
 pub mod Replies
 pub mod Responses
 pub mod Said
 pub mod Inboxes
+pub mod Places

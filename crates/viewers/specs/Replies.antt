@@ -1,13 +1,13 @@
 -- What a viewer is sent, of what is shown: a head by HTTP's grammar, as `http1` writes it, and behind it the page, a text
 -- that was handed over, or a refusal.
-use Rattle.std.specs.Prelude.{ℕ, Bool, false, if◌then◌else◌, List, [], ◌∷◌, ◌++◌, length, codes, decimal}
+use Rattle.std.specs.Prelude.{ℕ, ◌==◌, Bool, false, if◌then◌else◌, List, [], ◌∷◌, ◌++◌, length, codes, decimal}
 use Rattle.http1.specs.declared.server.Server.{Server}
 use Rattle.http1.specs.declared.conn.BodySize.TheVariants.{Known, Unknown}
 use Rattle.http1.specs.Fields.{Header}
 use Rattle.http1.specs.Server.{after_response, planned_response, writing}
 use Rattle.http1.specs.Conn.{after_data, data_text, finish_text}
 use Rattle.viewers.specs.declared.asks.{Ask.Ask, Asked.Asked}
-use Rattle.viewers.specs.declared.asks.Ask.TheVariants.{Page, Lines, State, Events, Given, Typed, Unready, Missing, Method, Foreign, Faulty}
+use Rattle.viewers.specs.declared.asks.Ask.TheVariants.{Page, Lines, State, Events, Given, Typed, Unready, Full, Missing, Method, Foreign, Faulty}
 use Rattle.viewers.specs.declared.{shown.Shown.Shown, station.Station.Station}
 use Rattle.viewers.specs.declared.page.TheConstants as board
 use Rattle.viewers.specs.declared.desk_page.TheConstants as desk
@@ -27,15 +27,19 @@ abbrev pub allowed_at : Station → List ℕ
 allowed_at Board = codes "GET, HEAD"
 allowed_at Desk = codes "GET, HEAD, POST"
 
+-- where nothing can be had for the present, in how many seconds to ask again, and else what may be done
+abbrev pub hint_of : Station → ℕ → Header
+hint_of station status = if status == 503 then (codes "retry-after", codes "2") else (codes "allow", allowed_at station)
+
 -- the fields of each head, with what kind of text follows it
-abbrev pub fields_of : Station → List ℕ → List Header
-fields_of station kind =
+abbrev pub fields_of : Station → ℕ → List ℕ → List Header
+fields_of station status kind =
     (codes "content-type", kind)
     ∷ (codes "cache-control", codes "no-store")
     ∷ (codes "x-content-type-options", codes "nosniff")
     ∷ (codes "referrer-policy", codes "no-referrer")
     ∷ (codes "content-security-policy", policy_of station)
-    ∷ (codes "allow", allowed_at station)
+    ∷ hint_of station status
     ∷ (codes "connection", codes "close")
     ∷ []
 
@@ -48,8 +52,8 @@ abbrev pub whole_text : Server → Station → ℕ → List ℕ → List ℕ →
 whole_text s station status reason kind text is_head =
     let size = Known (length text) in
     let sent = sent_of text is_head in
-    let after = writing (after_response s status size (fields_of station kind)) in
-    planned_response s status reason size (fields_of station kind)
+    let after = writing (after_response s status size (fields_of station status kind)) in
+    planned_response s status reason size (fields_of station status kind)
     ++ data_text after sent
     ++ finish_text (after_data after (length sent)) []
 
@@ -67,7 +71,7 @@ events = codes "text/event-stream"
 
 -- a head alone, behind which states follow
 abbrev pub stream_text : Server → Station → List ℕ
-stream_text s station = planned_response s 200 (codes "OK") Unknown (fields_of station events)
+stream_text s station = planned_response s 200 (codes "OK") Unknown (fields_of station 200 events)
 
 abbrev pub page_text : Server → Station → Bool → List ℕ
 page_text s station head = whole_text s station 200 (codes "OK") html (page_of station) head
@@ -91,6 +95,7 @@ answer_text s Events head shown = stream_text s shown.station
 answer_text s (Given nonce) head shown = nonce_text s shown.station nonce
 answer_text s Typed head shown = whole_text s shown.station 200 (codes "OK") plain (codes "typed\n") head
 answer_text s Unready head shown = whole_text s shown.station 503 (codes "Not Yet") plain (codes "no score yet\n") head
+answer_text s Full head shown = whole_text s shown.station 503 (codes "Full") plain (codes "no place is free\n") head
 answer_text s Missing head shown = whole_text s shown.station 404 (codes "Not Found") plain (codes "not here\n") head
 answer_text s Method head shown = whole_text s shown.station 405 (codes "Not Allowed") plain (codes "only GET\n") head
 answer_text s Foreign head shown = whole_text s shown.station 403 (codes "Forbidden") plain (codes "another host\n") head

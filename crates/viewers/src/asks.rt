@@ -5,7 +5,7 @@ ghost use Rattle.std.specs.Prelude.{◌≡◌, false};
 use crate::host::is_named;
 use crate::station::Station;
 use httparse::spans::{HeaderSpan, RequestSpans, Span};
-use posts::Stamp;
+use posts::{Pass, Stamp};
 use std::net::SocketAddr;
 use std::str;
 
@@ -26,6 +26,8 @@ pub enum Ask {
     Typed,
     /// Nothing was handed over yet.
     Unready,
+    /// No place is free.
+    Full,
     /// Something that isn't here.
     Missing,
     /// Anything but to be given something.
@@ -50,6 +52,8 @@ pub enum Wish {
     Answer(Asked),
     /// A nonce of the desk's.
     Nonce,
+    /// To be told each state, with a pass.
+    Watch(Pass),
     /// To type the line that follows.
     Line(Heading),
 }
@@ -81,6 +85,13 @@ fn path_of(target: &[u8]) -> &[u8] {
     }
 }
 
+/// The pass in a target, as `/events?nonce=7&tag=9f43..`, where there is one.
+fn pass_in(target: &[u8]) -> Option<Pass> {
+    let (_, query) = str::from_utf8(target).ok()?.split_once('?')?;
+    let (nonce, tag) = query.strip_prefix("nonce=")?.split_once("&tag=")?;
+    Pass::read(nonce, tag)
+}
+
 /// The value of the first field of this name, if there is one.
 fn field_in<'i>(input: &'i [u8], fields: &[HeaderSpan], name: &[u8]) -> Option<&'i [u8]> {
     for field in fields {
@@ -99,15 +110,17 @@ fn text_in<'i>(input: &'i [u8], fields: &[HeaderSpan], name: &[u8]) -> &'i str {
     }
 }
 
-/// Whether a request comes from a page of the host that it names, or from none that says so.
-fn is_own_page(origin: Option<&[u8]>, host: &[u8]) -> bool {
-    match origin {
-        None => true,
-        Some(origin) => match origin.strip_prefix(b"http://".as_slice()) {
-            Some(from) => from == host,
-            None => false,
-        },
+/// Whether each page that a request says it comes from is of the host that it names.
+fn is_own_page(input: &[u8], fields: &[HeaderSpan], host: &[u8]) -> bool {
+    for field in fields {
+        if bytes_at(input, field.name).eq_ignore_ascii_case(b"origin") {
+            match bytes_at(input, field.value).strip_prefix(b"http://".as_slice()) {
+                Some(from) if from == host => {}
+                _ => return false,
+            }
+        }
     }
+    true
 }
 
 /// What stands at a path of a board's page.
@@ -177,6 +190,10 @@ fn wished_by(station: Station, method: &[u8], target: &[u8], heading: Heading) -
         Wish::Nonce
     } else if is_of_desk(station, method, target, b"POST", b"/line") {
         Wish::Line(heading)
+    } else if is_of_desk(station, method, target, b"GET", b"/events")
+        && let Some(pass) = pass_in(target)
+    {
+        Wish::Watch(pass)
     } else {
         Wish::Answer(asked_by(station, method, target, true))
     }
@@ -188,7 +205,7 @@ fn heading_in(input: &[u8], fields: &[HeaderSpan], host: &[u8]) -> Heading {
     let nonce = text_in(input, fields, b"x-nonce");
     let tag = text_in(input, fields, b"x-tag");
     Heading {
-        is_from_here: is_own_page(field_in(input, fields, b"origin"), host),
+        is_from_here: is_own_page(input, fields, host),
         stamp: Stamp::read(at, nonce, tag),
     }
 }

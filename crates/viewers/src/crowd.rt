@@ -1,12 +1,14 @@
 //! All who look at a page.
 
 ghost use Rattle.std.specs.Prelude.{◌≡◌, ◌≤◌, IfSome};
+ghost use Rattle.viewers.specs.Places.{KeepsSigned};
 
 use crate::inbox::Inbox;
 use crate::listening::listener_at;
+use crate::places::{Places, is_behind, network_of};
 use crate::shown::Shown;
 use crate::station::Station;
-use crate::viewer::Viewer;
+use crate::viewer::{Guest, Viewer};
 use agree_core::Position;
 use links::LineBuffer;
 use mio::net::{TcpListener, TcpStream};
@@ -18,16 +20,25 @@ use std::os::fd::{AsRawFd, RawFd};
 use std::time::Duration;
 use waits::VIEWER_BEAT;
 
-/// How many there are at most: of a board, and of a desk.
-const MOST_VIEWERS: usize = 256;
-
-const MOST_SCORERS: usize = 16;
+/// How many are let in at once at most.
+const MOST_GUESTS: usize = 256;
 
 /// How many events are taken of the machine at once.
 const MOST_EVENTS: usize = 64;
 
 /// What names the listener among what is waited for.
 const LISTENER: Token = Token(usize::MAX);
+
+/// At which of the machine's addresses somebody came, where the page is at all of them.
+fn came_at(stream: &TcpStream, at: SocketAddr) -> SocketAddr {
+    if !at.ip().is_unspecified() {
+        return at;
+    }
+    match stream.local_addr() {
+        Ok(here) => SocketAddr::new(here.ip().to_canonical(), here.port()),
+        Err(_) => at,
+    }
+}
 
 /// Who looks at a page, and where others come in.
 #[derive(Drop)]
@@ -37,11 +48,7 @@ struct Crowd {
     poll: Poll,
     events: Events<Global>,
     listener: TcpListener,
-    viewers: Vec<Option<Viewer<TcpStream>>>,
-    /// How many there are at most.
-    most: usize,
-    /// Whose place was taken last.
-    taken: usize,
+    places: Places<TcpStream>,
     /// Whether somebody may wait to come in.
     has_guests: bool,
     /// When they last heard that the board is there.
@@ -50,7 +57,7 @@ struct Crowd {
 
 impl Crowd {
     /// At this address.
-    fn new(net: &impl Net, alloc: Global, at: SocketAddr, most: usize) -> io::Result<Crowd> {
+    fn new(net: &impl Net, alloc: Global, at: SocketAddr, station: Station) -> io::Result<Crowd> {
         let mut listener = listener_at(net, at)?;
         let poll = Poll::new(net)?;
         poll.registry()
@@ -61,70 +68,49 @@ impl Crowd {
             poll,
             events: Events::with_capacity(alloc, MOST_EVENTS)?,
             listener,
-            viewers: Vec::new(alloc),
-            most,
-            taken: 0,
+            places: Places::new(alloc, station),
             has_guests: true,
             beat: 0,
         })
     }
 
-    /// The place of who is told each new state at a full desk, of each in turn: those who come may be its scorer's page, or a
-    /// line. A full board sends them away.
-    fn place_of_watcher(&mut self) -> Option<usize> {
-        if self.most > MOST_SCORERS {
-            return None;
-        }
-        for step in 0..self.most {
-            let behind = self.taken.saturating_add(step).saturating_add(1);
-            let at = behind.checked_rem(self.most)?;
-            if let Some(Some(viewer)) = self.viewers.get(at) {
-                if viewer.is_watching() {
-                    self.taken = at;
-                    return Some(at);
-                }
-            }
-        }
-        None
-    }
-
-    /// A free place, where there is one.
-    fn place(&mut self) -> io::Result<Option<usize>> {
-        if let Some(at) = self.viewers.iter().position(|viewer| viewer.is_none()) {
-            return Ok(Some(at));
-        }
-        let at = self.viewers.len();
-        if at >= self.most {
-            return Ok(self.place_of_watcher());
-        }
-        self.viewers.push(None)?;
-        Ok(Some(at))
-    }
-
     /// Lets somebody in at this place.
-    fn seat(&mut self, at: usize, stream: TcpStream, now: u64) -> io::Result<()> {
+    fn seat(&mut self, place: usize, stream: TcpStream, from: u64, now: u64) -> io::Result<()>
+        ensures { KeepsSigned self.old.places.viewers.items self.new.places.viewers.items }
+    {
         let mut stream = stream;
         let _ = stream.set_nodelay(true);
         let both = Interest::READABLE | Interest::WRITABLE;
-        self.poll.registry().register(&mut stream, Token(at), both)?;
-        if let Some(slot) = self.viewers.get_mut(at) {
-            *slot = Some(Viewer::new(self.alloc, stream, now));
-        }
+        self.poll
+            .registry()
+            .register(&mut stream, Token(place), both)?;
+        let guest = Guest {
+            at: came_at(&stream, self.at),
+            from,
+            is_behind: is_behind(place),
+        };
+        let viewer = Viewer::new(self.alloc, stream, guest, now);
+        self.places.give(place, viewer);
         Ok(())
     }
 
-    /// Lets in the next who waits. Who finds no place is sent away.
-    fn admit(&mut self, now: u64) -> io::Result<()> {
-        let (stream, _) = self.listener.accept()?;
-        match self.place()? {
-            Some(at) => self.seat(at, stream, now),
+    /// Lets in the next who waits. Whoever that is, no signed viewer loses their place to them.
+    fn admit(&mut self, now: u64) -> io::Result<()>
+        ensures { KeepsSigned self.old.places.viewers.items self.new.places.viewers.items }
+    {
+        let (stream, address) = self.listener.accept()?;
+        let from = network_of(address.ip());
+        match self.places.place_for(from, now)? {
+            Some(place) => self.seat(place, stream, from, now),
             None => Ok(()),
         }
     }
 
     /// Lets in those who wait, until none is left or a call fails: then it is tried again in the next turn.
-    fn admit_all(&mut self, now: u64) {
-        for _ in 0..self.most {
+    fn admit_all(&mut self, now: u64)
+        ensures { KeepsSigned self.old.places.viewers.items self.new.places.viewers.items }
+    {
+        for _ in 0..MOST_GUESTS {
             match self.admit(now) {
                 Ok(()) => {}
                 Err(why) => {
@@ -141,21 +127,8 @@ impl Crowd {
             let Token(at) = event.token();
             if event.token() == LISTENER {
                 self.has_guests = true;
-            } else if let Some(Some(viewer)) = self.viewers.get_mut(at) {
-                viewer.wake();
-            }
-        }
-    }
-
-    /// Serves who is at this place, and lets go who has had time enough.
-    fn serve(&mut self, at: usize, shown: &Shown, inbox: &mut Option<Inbox>, now: u64) {
-        let Some(slot) = self.viewers.get_mut(at) else {
-            return;
-        };
-        if let Some(viewer) = slot {
-            viewer.serve(self.alloc, self.at, shown, inbox, now);
-            if viewer.is_over(now) {
-                *slot = None;
+            } else {
+                self.places.wake(at);
             }
         }
     }
@@ -174,20 +147,9 @@ impl Crowd {
         if self.has_guests {
             self.admit_all(now);
         }
-        for at in 0..self.viewers.len() {
-            self.serve(at, shown, inbox, now);
+        for place in 0..self.places.len() {
+            self.places.serve(place, self.alloc, shown, inbox, now);
         }
-    }
-
-    /// How many are told each new state.
-    fn watching(&self) -> usize {
-        let mut count: usize = 0;
-        for slot in &self.viewers {
-            if slot.as_ref().is_some_and(|viewer| viewer.is_watching()) {
-                count = count.saturating_add(1);
-            }
-        }
-        count
     }
 
     /// Whether it is time for a beat.
@@ -202,19 +164,7 @@ impl Crowd {
     /// Tells all what is shown, or that the board is there.
     fn tell(&mut self, shown: &Shown, now: u64) {
         let is_beat = self.take_beat(now);
-        for slot in self.viewers.iter_mut() {
-            if let Some(viewer) = slot {
-                viewer.tell(self.alloc, shown, is_beat, now);
-            }
-        }
-    }
-}
-
-/// How many may look at a station's page at once.
-fn most_at(station: Station) -> usize {
-    match station {
-        Station::Board => MOST_VIEWERS,
-        Station::Desk => MOST_SCORERS,
+        self.places.tell(self.alloc, shown, is_beat, now);
     }
 }
 
@@ -237,7 +187,7 @@ impl Viewers {
         inbox: Option<Inbox>,
     ) -> io::Result<Viewers> {
         Ok(Viewers {
-            crowd: Crowd::new(net, alloc, at, most_at(station))?,
+            crowd: Crowd::new(net, alloc, at, station)?,
             shown: Shown::new(alloc, station),
             inbox,
         })
@@ -280,7 +230,7 @@ impl Viewers {
 
     /// How many are told what is shown.
     pub fn watching(&self) -> usize {
-        self.crowd.watching()
+        self.crowd.places.watching()
     }
 
     /// The desk is at this position from here on. Lines that were posted for another one are dropped: it tells how many.

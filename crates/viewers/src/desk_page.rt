@@ -2,7 +2,7 @@
 
 /// What may be run and loaded in the page: its own style and script, and what it asks of its station.
 pub const POLICY: &[u8] =
-    b"default-src 'none'; script-src 'sha256-5650qTmjlHL7c+S+55ZkEHXnx5FbssXqAtHmFst6MA8='; style-src 'sha256-TJJPdKyscPeFsFxnBDMw0VKlpaQlWwlCPIb52rVEc1E='; connect-src 'self'; img-src data:; base-uri 'none'; form-action 'none'; frame-ancestors 'none'";
+    b"default-src 'none'; script-src 'sha256-ya1BhAWBQX2Ml0woO7VLfKS/I2dYI4qg0EYxSTkTja4='; style-src 'sha256-TJJPdKyscPeFsFxnBDMw0VKlpaQlWwlCPIb52rVEc1E='; connect-src 'self'; img-src data:; base-uri 'none'; form-action 'none'; frame-ancestors 'none'";
 
 /// The page.
 pub const PAGE: &[u8] = b"<!DOCTYPE html>
@@ -246,6 +246,8 @@ form input::placeholder { color: var(--quiet); opacity: 1; }
 \"use strict\";
 const address = new URLSearchParams(location.search);
 const GRACE = Math.min(10000, Math.max(400, Number(address.get(\"grace\")) || 1200));   // milliseconds in which a tapped line may be taken back
+const AGAIN = 2000;      // milliseconds until the desk is asked again that let this page go
+const WAITED = 5000;     // milliseconds for which an answer of the desk is waited for
 const LOST = 7000;       // milliseconds without a word of the desk, which tells each 2000 that it is there
 const TWICE = 400;       // a tap so soon after another at the same spot is no second one
 const NEAR = 40;         // points that are the same spot
@@ -336,7 +338,8 @@ let version = 0;         // how many states came
 let secret = null;       // the link's, in memory alone
 let source = null;       // its events
 let isOpen = false;      // whether they come
-let asked = 0;           // when they were asked for last, by this page's clock
+let asked = 0;           // when they were asked for last, by this page's clock, or will have been at the latest
+let turns = 0;           // how often they were
 let isLive = false;      // whether what comes is new: first comes what was told before
 let isFirst = true;      // whether no state came yet
 let heard = 0;           // when something came last
@@ -367,14 +370,29 @@ function hearAgain() {
   later();
 }
 
-function listen() {
+// Where the events are. Who has the secret signs that it wants them: so it loses its place to nobody who hasn't.
+async function eventsPath() {
+  if (secret === null) return \"events\";
+  try {
+    const nonce = await nonceGiven();
+    return \"events?nonce=\" + nonce + \"&tag=\" + hex(hmac(secret, new TextEncoder().encode(nonce + \" watch\")));
+  } catch (why) {
+    return \"events\";
+  }
+}
+
+async function listen() {
   if (source) source.close();
+  asked = Date.now() + WAITED;
+  const turn = turns += 1;
+  const path = await eventsPath();
+  if (turn !== turns) return;
   asked = Date.now();
-  source = new EventSource(\"events\");
-  source.onopen = () => { told = nothingTold(); isLive = false; isFirst = true; isOpen = true; hearAgain(); };
-  source.onerror = () => { isOpen = false; later(); };
-  source.onmessage = event => takeBoth(...event.data.split(\"\\n\").map(part => JSON.parse(part)));
-  source.addEventListener(\"beat\", () => { isLive = true; hearAgain(); });
+  const opened = source = new EventSource(path);
+  opened.onopen = () => { told = nothingTold(); isLive = false; isFirst = true; isOpen = true; hearAgain(); };
+  opened.onerror = () => { opened.close(); if (opened === source) isOpen = false; later(); };
+  opened.onmessage = event => takeBoth(...event.data.split(\"\\n\").map(part => JSON.parse(part)));
+  opened.addEventListener(\"beat\", () => { isLive = true; hearAgain(); });
 }
 
 // The newest rows, of which those that came before are known.
@@ -535,7 +553,7 @@ const QUESTION = /^(list|score|card|players|bowlers|help|short)\\b/;
 // Asks the desk, and waits five seconds at most.
 function request(path, options) {
   const stop = new AbortController();
-  const timer = setTimeout(() => stop.abort(), 5000);
+  const timer = setTimeout(() => stop.abort(), WAITED);
   return fetch(path, { cache: \"no-store\", signal: stop.signal, ...options }).finally(() => clearTimeout(timer));
 }
 
@@ -1366,7 +1384,7 @@ function useSecret(event) {
   event.preventDefault();
   const found = secretIn(at(\"answer\").value);
   at(\"answer\").value = \"\";
-  if (found) { secret = found; note = null; }
+  if (found) { secret = found; note = null; listen(); }
   closeSheet();
   if (!found) tell(\"bad\", \"That is no secret\", \"It has 32 digits and letters from a to f.\");
   show();
@@ -1404,12 +1422,12 @@ at(\"typed\").addEventListener(\"submit\", typeLine);
 at(\"ask\").addEventListener(\"submit\", useSecret);
 at(\"rows\").addEventListener(\"scroll\", () => { const rows = at(\"rows\"); isAtEnd = rows.scrollHeight - rows.scrollTop - rows.clientHeight < 40; });
 addEventListener(\"resize\", follows);
-addEventListener(\"hashchange\", readSecret);
+addEventListener(\"hashchange\", () => { readSecret(); listen(); });
 document.addEventListener(\"visibilitychange\", () => { if (!document.hidden && isLost()) listen(); });
 
 // Looks whether the desk is there, and asks anew where it isn't.
 function tick() {
-  if (isLost() && Date.now() - asked > LOST) listen();
+  if (isLost() && Date.now() - asked > (isOpen ? LOST : AGAIN)) listen();
   if (sent && sent.isTaken && now() - sent.since > ANSWER) sent = null;
   show();
 }

@@ -6,10 +6,18 @@ use std::str;
 /// The port that a link without one means.
 const PORT: u16 = 80;
 
+/// Whether the port at the end of these letters has no needless zero.
+fn has_plain_port(text: &str) -> bool {
+    match text.rsplit_once(':') {
+        Some((_, port)) => !port.starts_with('0'),
+        None => true,
+    }
+}
+
 /// Whether these letters are this address, with its port, or without it where that is the one that a link means.
 fn is_address(text: &str, at: SocketAddr) -> bool {
     if let Ok(found) = text.parse::<SocketAddr>() {
-        return found == at;
+        return found == at && has_plain_port(text);
     }
     if at.port() != PORT {
         return false;
@@ -26,22 +34,22 @@ fn is_address(text: &str, at: SocketAddr) -> bool {
 
 /// Whether these letters are the name that every machine has for itself, with this port, or without it likewise.
 fn is_own_name(text: &str, at: SocketAddr) -> bool {
-    let Some(rest) = text.strip_prefix("localhost") else {
-        return false;
+    let (name, port) = match text.split_once(':') {
+        Some((name, port)) => (name, Some(port)),
+        None => (text, None),
     };
-    match rest.strip_prefix(":") {
-        Some(port) => port.parse::<u16>() == Ok(at.port()),
-        None => rest.is_empty() && at.port() == PORT,
+    if !name.as_bytes().eq_ignore_ascii_case(b"localhost") {
+        return false;
+    }
+    match port {
+        Some(port) => port.parse::<u16>() == Ok(at.port()) && has_plain_port(text),
+        None => at.port() == PORT,
     }
 }
 
-/// Whether a request that names this host is for this address. A page that was loaded elsewhere can't reach this one under
-/// a name of its own: the host is the address in numbers, or `localhost` where no other machine reaches it. Where the
-/// address is that of all networks of the machine, its own one is not known, and any name will do.
+/// Whether a request that names this host is for the address at which it came. A page that was loaded elsewhere can't reach
+/// this one under a name of its own: the host is the address in numbers, or `localhost` where no other machine reaches it.
 pub fn is_named(host: &[u8], at: SocketAddr) -> bool {
-    if at.ip().is_unspecified() {
-        return true;
-    }
     let Ok(text) = str::from_utf8(host) else {
         return false;
     };

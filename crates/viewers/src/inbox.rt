@@ -9,7 +9,7 @@ use crate::asks::{Ask, Heading};
 use agree_core::Position;
 use arrayvec::ArrayVec;
 use links::LineBuffer;
-use posts::{Post, PostedLine, Posts, Refusal};
+use posts::{Pass, Post, PostedLine, Posts, Refusal};
 
 /// The lines that were posted to a desk and that it hasn't taken yet, and who may post.
 #[derive(Drop)]
@@ -77,6 +77,15 @@ impl Inbox {
         }
     }
 
+    /// Whether a pass is good. It types nothing.
+    fn look_at(&mut self, pass: &Pass) -> bool
+        ensures is_good { result ≡ posts.is_good_pass self.old.posts.secret self.old.posts.out pass.now }
+        ensures out { self.new.posts.out ≡ posts.out_after_pass self.old.posts.secret self.old.posts.out pass.now }
+        ensures lines { self.new.lines ≡ self.old.lines }
+    {
+        self.posts.look_at(pass)
+    }
+
     /// What a post comes to: its line waits from here on, or why not.
     fn posted(&mut self, post: &Post<'_>) -> Option<Refusal>
         ensures comes_to { MatchResult (posts.verdict self.old.posts.secret self.old.posts.out post.now self.old.at (length self.old.lines.items))
@@ -115,5 +124,13 @@ pub fn take(inbox: &mut Option<Inbox>, heading: Heading, line: &[u8]) -> Ask {
     match inbox.posted(&post) {
         None => Ask::Typed,
         Some(why) => Ask::Faulty(why.status()),
+    }
+}
+
+/// Whether a pass is good at a desk.
+pub fn is_passed(inbox: &mut Option<Inbox>, pass: &Pass) -> bool {
+    match inbox {
+        Some(inbox) => inbox.look_at(pass),
+        None => false,
     }
 }

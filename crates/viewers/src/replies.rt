@@ -35,9 +35,26 @@ fn allowed_at(station: Station) -> &'static [u8]
     }
 }
 
-/// The fields of a head, with what kind of text follows it.
-fn fields_of(station: Station, kind: &[u8]) -> [Header<'_>; 7]
-    ensures { pairs result ≡ texts.fields_of station kind.now }
+/// Behind an answer that nothing can be had for the present: in how many seconds to ask again. Else what may be done.
+fn hint_of(station: Station, status: u16) -> Header<'static>
+    ensures { (result.name.now, result.value.now) ≡ texts.hint_of station status }
+{
+    if status == 503 {
+        Header {
+            name: b"retry-after",
+            value: b"2",
+        }
+    } else {
+        Header {
+            name: b"allow",
+            value: allowed_at(station),
+        }
+    }
+}
+
+/// The fields of a head of this status, with what kind of text follows it.
+fn fields_of(station: Station, status: u16, kind: &[u8]) -> [Header<'_>; 7]
+    ensures { pairs result ≡ texts.fields_of station status kind.now }
 {
     [
         Header {
@@ -60,10 +77,7 @@ fn fields_of(station: Station, kind: &[u8]) -> [Header<'_>; 7]
             name: b"content-security-policy",
             value: policy_of(station),
         },
-        Header {
-            name: b"allow",
-            value: allowed_at(station),
-        },
+        hint_of(station, status),
         Header {
             name: b"connection",
             value: b"close",
@@ -82,11 +96,11 @@ fn front(
     size: BodySize,
 ) -> Result<Vec<u8>, WriteError>
     ensures text { IfOk result (λ bytes.
-        bytes.items ≡ planned_response server.old status reason.now size (texts.fields_of station kind.now)) }
-    ensures next { OnOk result (server.new ≡ after_response server.old status size (texts.fields_of station kind.now)) }
-    ensures taken { OnOk result (response_refusal server.old status reason.now size (texts.fields_of station kind.now) ≡ None) }
+        bytes.items ≡ planned_response server.old status reason.now size (texts.fields_of station status kind.now)) }
+    ensures next { OnOk result (server.new ≡ after_response server.old status size (texts.fields_of station status kind.now)) }
+    ensures taken { OnOk result (response_refusal server.old status reason.now size (texts.fields_of station status kind.now) ≡ None) }
 {
-    let fields = fields_of(station, kind);
+    let fields = fields_of(station, status, kind);
     let mut out = Vec::new(alloc);
     server.write_response(&mut out, status, reason, &fields, size)?;
     Ok(out)
@@ -136,7 +150,7 @@ fn whole(
     ensures text { IfOk result (λ bytes.
         bytes.items ≡ texts.whole_text server.old station status reason.now kind.now text.now is_head) }
     ensures http { IfOk result (λ bytes.
-        IsResponse server.old status reason.now (texts.fields_of station kind.now) (texts.sent_of text.now is_head) bytes.items) }
+        IsResponse server.old status reason.now (texts.fields_of station status kind.now) (texts.sent_of text.now is_head) bytes.items) }
 {
     let size = BodySize::Known(text.len() as u64);
     let mut out = front(alloc, server, station, status, reason, kind, size)?;
@@ -164,6 +178,13 @@ const UNREADY: ShortAnswer = ShortAnswer {
     status: 503,
     reason: b"Not Yet",
     line: b"no score yet\n",
+};
+
+/// Others have all places.
+const FULL: ShortAnswer = ShortAnswer {
+    status: 503,
+    reason: b"Full",
+    line: b"no place is free\n",
 };
 
 const MISSING: ShortAnswer = ShortAnswer {
@@ -349,6 +370,7 @@ pub fn reply(
         Ask::Given(nonce) => nonce_text(alloc, server, station, nonce),
         Ask::Typed => short_answer(alloc, server, station, TYPED, head),
         Ask::Unready => short_answer(alloc, server, station, UNREADY, head),
+        Ask::Full => short_answer(alloc, server, station, FULL, head),
         Ask::Missing => short_answer(alloc, server, station, MISSING, head),
         Ask::Method => short_answer(alloc, server, station, METHOD, head),
         Ask::Foreign => short_answer(alloc, server, station, FOREIGN, head),

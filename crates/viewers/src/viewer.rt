@@ -1,11 +1,11 @@
 //! A browser's connection.
 
-ghost use Rattle.std.specs.Prelude.{◌≡◌, ◌≤◌, ◌++◌, drop, nat_lt, vec_len};
+ghost use Rattle.std.specs.Prelude.{◌≡◌, ◌≤◌, ◌++◌, drop, false, nat_lt, vec_len};
 ghost use Rattle.std.specs.Result.{ForOk};
 ghost use Rattle.viewers.specs.Said.{said_in, taken_by};
 
 use crate::asks::{Ask, Asked, Heading, Wish, bytes_at, wish_in};
-use crate::inbox::{Inbox, give, take};
+use crate::inbox::{Inbox, give, is_passed, take};
 use crate::logs::SaidLog;
 use crate::replies::{beat, reply, told};
 use crate::shown::Shown;
@@ -48,6 +48,28 @@ enum Stage {
     Ended,
 }
 
+/// What a viewer is at, as far as others who ask for a place are concerned.
+#[derive(Clone, Copy)]
+pub enum Stay {
+    /// It hasn't asked for anything yet.
+    Asking,
+    /// It was answered.
+    Answered,
+    /// It is told each new state.
+    Watching,
+}
+
+/// Who comes.
+#[derive(Clone, Copy)]
+pub struct Guest {
+    /// At which address.
+    pub at: SocketAddr,
+    /// From which network.
+    pub from: u64,
+    /// Whether no place was free.
+    pub is_behind: bool,
+}
+
 /// A browser's connection, which asks for one thing. What it was sent and is still to be sent is just what was said to it:
 /// one answer, and where it asked for events, states and beats.
 #[derive(Drop)]
@@ -63,6 +85,11 @@ pub struct Viewer<S: Stream> {
     done: usize,
     said: SaidLog,
     stage: Stage,
+    guest: Guest,
+    /// When it came.
+    came: u64,
+    /// Whether it had a pass by the secret of the desk's page.
+    is_signed: bool,
     since: u64,
     may_read: bool,
     /// Whether nothing more comes from it.
@@ -74,7 +101,9 @@ pub struct Viewer<S: Stream> {
 
 impl<S: Stream> Viewer<S> {
     /// One that came now.
-    pub fn new(alloc: Global, stream: S, now: u64) -> Viewer<S> {
+    pub fn new(alloc: Global, stream: S, guest: Guest, now: u64) -> Viewer<S>
+        ensures { result.is_signed ≡ false }
+    {
         Viewer {
             wire: Wire::of(stream),
             server: Server::new(LIMITS),
@@ -84,6 +113,9 @@ impl<S: Stream> Viewer<S> {
             done: 0,
             said: SaidLog::Empty,
             stage: Stage::Head,
+            guest,
+            came: now,
+            is_signed: false,
             since: now,
             may_read: true,
             is_left: false,
@@ -94,6 +126,32 @@ impl<S: Stream> Viewer<S> {
     /// From here on there may be something to read.
     pub fn wake(&mut self) {
         self.may_read = true;
+    }
+
+    /// Of which network it is.
+    pub fn from(&self) -> u64 {
+        self.guest.from
+    }
+
+    /// When it came.
+    pub fn came(&self) -> u64 {
+        self.came
+    }
+
+    /// Whether it had a pass by the secret of the desk's page.
+    pub fn is_signed(&self) -> bool
+        ensures { result ≡ self.now.is_signed }
+    {
+        self.is_signed
+    }
+
+    /// What it is at.
+    pub fn stay(&self) -> Stay {
+        match self.stage {
+            Stage::Head | Stage::Line(_) => Stay::Asking,
+            Stage::Answered | Stage::Ended => Stay::Answered,
+            Stage::Watching(_) => Stay::Watching,
+        }
     }
 
     /// Whether something that was said isn't taken yet.
@@ -145,7 +203,7 @@ impl<S: Stream> Viewer<S> {
     }
 
     /// What the head wishes that came, once it is whole.
-    fn wish(&mut self, at: SocketAddr, station: Station) -> Option<Wish> {
+    fn wish(&mut self, station: Station) -> Option<Wish> {
         let mut fields: [HeaderSpan; 32] = [EMPTY_HEADER_SPAN; MOST_FIELDS];
         let read = match self.server.read(self.input.as_slice(), &mut fields) {
             Ok(read) => read,
@@ -155,7 +213,7 @@ impl<S: Stream> Viewer<S> {
             Event::Head(head) => {
                 let count = head.headers.min(MOST_FIELDS);
                 let input = self.input.as_slice();
-                Some(wish_in(station, input, &head, &fields[..count], at))
+                Some(wish_in(station, input, &head, &fields[..count], self.guest.at))
             }
             _ => None,
         };
@@ -212,16 +270,25 @@ impl<S: Stream> Viewer<S> {
         );
     }
 
+    /// Is told each new state, by a good pass, or by none as others are.
+    fn watch(&mut self, alloc: Global, is_good: bool, shown: &Shown) {
+        self.is_signed = is_good;
+        let ask = if self.guest.is_behind && !is_good {
+            Ask::Full
+        } else {
+            Ask::Events
+        };
+        self.reply_to(alloc, ask, shown);
+    }
+
     /// Reads the head that came, once it is whole, and does what it wishes.
-    fn read_head(
-        &mut self,
-        alloc: Global,
-        at: SocketAddr,
-        shown: &Shown,
-        inbox: &mut Option<Inbox>,
-    ) {
-        match self.wish(at, shown.station) {
-            Some(Wish::Answer(asked)) => self.answer(alloc, ready(asked, shown), shown),
+    fn read_head(&mut self, alloc: Global, shown: &Shown, inbox: &mut Option<Inbox>) {
+        match self.wish(shown.station) {
+            Some(Wish::Answer(asked)) => {
+                let asked = ready(asked, shown, self.guest.is_behind);
+                self.answer(alloc, asked, shown);
+            }
+            Some(Wish::Watch(pass)) => self.watch(alloc, is_passed(inbox, &pass), shown),
             Some(Wish::Nonce) => {
                 let given = give(inbox);
                 self.reply_to(alloc, given, shown);
@@ -232,10 +299,10 @@ impl<S: Stream> Viewer<S> {
     }
 
     /// Does what follows of what came, in so many steps: a head, a line's pieces, its end. What stands behind is passed over.
-    fn go_on(&mut self, alloc: Global, at: SocketAddr, shown: &Shown, inbox: &mut Option<Inbox>) {
+    fn go_on(&mut self, alloc: Global, shown: &Shown, inbox: &mut Option<Inbox>) {
         for _ in 0..MOST_PIECES {
             match self.stage {
-                Stage::Head => self.read_head(alloc, at, shown, inbox),
+                Stage::Head => self.read_head(alloc, shown, inbox),
                 Stage::Line(heading) => self.read_line(alloc, heading, shown, inbox),
                 _ => break,
             }
@@ -243,14 +310,7 @@ impl<S: Stream> Viewer<S> {
     }
 
     /// Takes bytes that came. Those behind the first request are passed over.
-    fn take(
-        &mut self,
-        alloc: Global,
-        bytes: &[u8],
-        at: SocketAddr,
-        shown: &Shown,
-        inbox: &mut Option<Inbox>,
-    ) {
+    fn take(&mut self, alloc: Global, bytes: &[u8], shown: &Shown, inbox: &mut Option<Inbox>) {
         if !matches!(self.stage, Stage::Head | Stage::Line(_)) {
             return;
         }
@@ -258,7 +318,7 @@ impl<S: Stream> Viewer<S> {
             self.is_gone = true;
             return;
         }
-        self.go_on(alloc, at, shown, inbox);
+        self.go_on(alloc, shown, inbox);
     }
 
     /// Nothing more comes. Who was answered still gets the rest of it.
@@ -271,13 +331,13 @@ impl<S: Stream> Viewer<S> {
     }
 
     /// Reads once, and answers what was asked for.
-    fn read(&mut self, alloc: Global, at: SocketAddr, shown: &Shown, inbox: &mut Option<Inbox>) {
+    fn read(&mut self, alloc: Global, shown: &Shown, inbox: &mut Option<Inbox>) {
         let mut buffer = [0u8; 2048];
         match self.wire.read(&mut buffer) {
             Ok(Some(0)) => self.leave(),
             Ok(Some(count)) => {
                 let count = count.min(buffer.len());
-                self.take(alloc, &buffer[..count], at, shown, inbox);
+                self.take(alloc, &buffer[..count], shown, inbox);
             }
             Ok(None) => self.may_read = false,
             Err(_) => self.is_gone = true,
@@ -340,19 +400,12 @@ impl<S: Stream> Viewer<S> {
     }
 
     /// Reads what came, as far as that goes at once, and answers it.
-    pub fn serve(
-        &mut self,
-        alloc: Global,
-        at: SocketAddr,
-        shown: &Shown,
-        inbox: &mut Option<Inbox>,
-        now: u64,
-    ) {
+    pub fn serve(&mut self, alloc: Global, shown: &Shown, inbox: &mut Option<Inbox>, now: u64) {
         for _ in 0..MOST_PIECES {
             if !self.may_read || self.is_gone {
                 break;
             }
-            self.read(alloc, at, shown, inbox);
+            self.read(alloc, shown, inbox);
         }
         self.send(now);
     }
@@ -405,13 +458,15 @@ fn refused(status: u16) -> Wish {
     })
 }
 
-/// What is asked for, where something was handed over to be shown, or that nothing was.
-fn ready(asked: Asked, shown: &Shown) -> Asked {
-    match asked.ask {
-        Ask::Lines | Ask::State if shown.number == 0 => Asked {
-            ask: Ask::Unready,
-            is_head: asked.is_head,
-        },
-        _ => asked,
+/// What is asked for, where it can be had: nothing may have been handed over to be shown yet, or no place be free.
+fn ready(asked: Asked, shown: &Shown, is_behind: bool) -> Asked {
+    let ask = match asked.ask {
+        Ask::Page | Ask::Lines | Ask::State | Ask::Events if is_behind => Ask::Full,
+        Ask::Lines | Ask::State if shown.number == 0 => Ask::Unready,
+        ask => ask,
+    };
+    Asked {
+        ask,
+        is_head: asked.is_head,
     }
 }

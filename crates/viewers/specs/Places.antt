@@ -1,0 +1,26 @@
+-- Whose place is safe.
+use Rattle.std.specs.Prelude.{◌≡◌, ◌≢◌, ℕ, Bool, true, false, List, Option, None, Some, get_or}
+use Rattle.viewers.specs.declared.viewer.Viewer.{Viewer}
+
+module _ {V : Type 0} where
+  -- each is there and as it was
+  abbrev pub KeepsAll : List (Option V) → List (Option V) → Type 0
+  KeepsAll old new = (k : ℕ) → get_or new k None ≡ get_or old k None
+
+  -- each at another place is there and as it was, whatever came from the one here
+  abbrev pub KeepsOthers : ℕ → List (Option V) → List (Option V) → Type 0
+  KeepsOthers at old new = (k : ℕ) → k ≢ at → get_or new k None ≡ get_or old k None
+
+  -- each of which this holds is there and as it was
+  abbrev pub KeepsThose : (Option V → Bool) → List (Option V) → List (Option V) → Type 0
+  KeepsThose test old new = (k : ℕ) → test (get_or old k None) ≡ true → get_or new k None ≡ get_or old k None
+
+module _ {S : Type 0} {r : _} {w : _} where
+  -- it had a pass by the secret of the desk's page
+  abbrev pub is_signed : Option (Viewer S r w) → Bool
+  is_signed None = false
+  is_signed (Some viewer) = viewer.is_signed
+
+  -- each that is signed is there and as it was, whoever came
+  abbrev pub KeepsSigned : List (Option (Viewer S r w)) → List (Option (Viewer S r w)) → Type 0
+  KeepsSigned old new = KeepsThose is_signed old new
