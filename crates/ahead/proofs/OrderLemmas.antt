@@ -120,7 +120,7 @@ kept_typed logs.Empty = tt
 kept_typed (logs.Passed' marker before buffer count) =
     kept_passed (may_cast (take count.value buffer.value)) (kept_of before) (typed_of before) (take count.value buffer.value) (kept_typed before)
 kept_typed (logs.Held' marker before line) = kept_line (kept_of before) (typed_of before) line.value.bytes (kept_typed before)
-kept_typed (logs.Cast' marker before) = kept_typed before
+kept_typed (logs.Cast' marker before handed) = kept_typed before
 kept_typed (logs.TakenBack' marker before buffer count) =
     typed_more (but_newest (kept_of before)) (typed_of before) (Line (take count.value buffer.value) ∷ [])
     (among_take (length (kept_of before) - 1) (kept_of before) (lines_of (typed_of before)) (kept_typed before))
@@ -251,7 +251,7 @@ fronted (logs.Passed' marker before buffer count) e =
 fronted (logs.Held' marker before line) e =
     one_held line.value (casting (given_of before)) (kept_of before) (held_of before) (and_right (is_ordered before) _ e)
     (fronted before (and_left (is_ordered before) _ e))
-fronted (logs.Cast' marker before) e =
+fronted (logs.Cast' marker before handed) e =
     more_given (given_of before) (oldest (held_of before)) (kept_of before) (drop 1 (held_of before))
     (one_given (casting (given_of before)) (kept_of before) (held_of before) (fronted before e))
 fronted (logs.TakenBack' marker before buffer count) e =

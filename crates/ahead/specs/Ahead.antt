@@ -1,17 +1,19 @@
 -- What becomes of the lines that were typed.
-use Rattle.std.specs.Prelude.{◌-◌, ◌==◌, ◌&&◌, ◌||◌, ℕ, Bool, true, nat_lt, not, List, [], ◌∷◌, ◌++◌, codes, drop, if◌then◌else◌, length, take}
+use Rattle.std.specs.Prelude.{◌-◌, ◌==◌, ◌&&◌, ◌||◌, ℕ, Bool, true, nat_lt, not, List, [], ◌∷◌, ◌++◌, Option, None, Some, codes, drop, if◌then◌else◌, length, take}
 use Rattle.arrayvec.specs.ArrayString.{ArrayString}
 use Rattle.links.specs.Typing.{Input, Line, End}
 use Rattle.ahead.specs.declared.log.AheadLog.{AheadLog}
 use Rattle.ahead.specs.declared.log.AheadLog as logs
+use Rattle.ahead.specs.declared.handed.Handed.{Handed}
 use Rattle.ahead.specs.Sorts.{is_entry, is_undo, may_cast}
+use Rattle.ahead.specs.Undoing.{handed_behind}
 
 -- all that was typed, the oldest first
 abbrev pub typed_of : AheadLog → List Input
 typed_of logs.Empty = []
 typed_of (logs.Passed' marker before buffer count) = typed_of before ++ Line (take count.value buffer.value) ∷ []
 typed_of (logs.Held' marker before line) = typed_of before ++ Line line.value.bytes ∷ []
-typed_of (logs.Cast' marker before) = typed_of before
+typed_of (logs.Cast' marker before handed) = typed_of before
 typed_of (logs.TakenBack' marker before buffer count) = typed_of before ++ Line (take count.value buffer.value) ∷ []
 typed_of (logs.Dropped' marker before) = typed_of before
 typed_of (logs.Lost' marker before line) = typed_of before ++ Line line.value.bytes ∷ []
@@ -26,7 +28,7 @@ abbrev pub held_of : AheadLog → List ArrayString
 held_of logs.Empty = []
 held_of (logs.Passed' marker before buffer count) = held_of before
 held_of (logs.Held' marker before line) = held_of before ++ line.value ∷ []
-held_of (logs.Cast' marker before) = drop 1 (held_of before)
+held_of (logs.Cast' marker before handed) = drop 1 (held_of before)
 held_of (logs.TakenBack' marker before buffer count) = take (length (held_of before) - 1) (held_of before)
 held_of (logs.Dropped' marker before) = []
 held_of (logs.Lost' marker before line) = held_of before
@@ -36,12 +38,27 @@ held_of (logs.Stopped' marker before) = held_of before
 held_of (logs.Quit' marker before) = held_of before
 held_of (logs.Ended' marker before) = held_of before
 
+-- the line for which the desk may cast a vote that it was given last, where that was held before
+abbrev pub handed_of : AheadLog → Option Handed
+handed_of logs.Empty = None
+handed_of (logs.Passed' marker before buffer count) = handed_behind (handed_of before) (take count.value buffer.value)
+handed_of (logs.Held' marker before line) = handed_of before
+handed_of (logs.Cast' marker before handed) = Some handed.value
+handed_of (logs.TakenBack' marker before buffer count) = handed_of before
+handed_of (logs.Dropped' marker before) = handed_of before
+handed_of (logs.Lost' marker before line) = handed_of before
+handed_of (logs.Told' marker before) = handed_of before
+handed_of (logs.Unused' marker before buffer count) = handed_of before
+handed_of (logs.Stopped' marker before) = handed_of before
+handed_of (logs.Quit' marker before) = handed_of before
+handed_of (logs.Ended' marker before) = handed_of before
+
 -- the lines that were dropped as they were typed, and weren't told yet
 abbrev pub lost_of : AheadLog → List ArrayString
 lost_of logs.Empty = []
 lost_of (logs.Passed' marker before buffer count) = lost_of before
 lost_of (logs.Held' marker before line) = lost_of before
-lost_of (logs.Cast' marker before) = lost_of before
+lost_of (logs.Cast' marker before handed) = lost_of before
 lost_of (logs.TakenBack' marker before buffer count) = lost_of before
 lost_of (logs.Dropped' marker before) = lost_of before
 lost_of (logs.Lost' marker before line) = lost_of before ++ line.value ∷ []
@@ -56,7 +73,7 @@ abbrev pub dropped_of : AheadLog → List ArrayString
 dropped_of logs.Empty = []
 dropped_of (logs.Passed' marker before buffer count) = dropped_of before
 dropped_of (logs.Held' marker before line) = dropped_of before
-dropped_of (logs.Cast' marker before) = dropped_of before
+dropped_of (logs.Cast' marker before handed) = dropped_of before
 dropped_of (logs.TakenBack' marker before buffer count) = dropped_of before
 dropped_of (logs.Dropped' marker before) = dropped_of before ++ held_of before
 dropped_of (logs.Lost' marker before line) = dropped_of before
@@ -76,7 +93,7 @@ abbrev pub given_of : AheadLog → List Input
 given_of logs.Empty = []
 given_of (logs.Passed' marker before buffer count) = given_of before ++ Line (take count.value buffer.value) ∷ []
 given_of (logs.Held' marker before line) = given_of before
-given_of (logs.Cast' marker before) = given_of before ++ oldest (held_of before)
+given_of (logs.Cast' marker before handed) = given_of before ++ oldest (held_of before)
 given_of (logs.TakenBack' marker before buffer count) = given_of before
 given_of (logs.Dropped' marker before) = given_of before
 given_of (logs.Lost' marker before line) = given_of before
@@ -106,7 +123,7 @@ abbrev pub kept_of : AheadLog → List (List ℕ)
 kept_of logs.Empty = []
 kept_of (logs.Passed' marker before buffer count) = kept_of before ++ casting (Line (take count.value buffer.value) ∷ [])
 kept_of (logs.Held' marker before line) = kept_of before ++ line.value.bytes ∷ []
-kept_of (logs.Cast' marker before) = kept_of before
+kept_of (logs.Cast' marker before handed) = kept_of before
 kept_of (logs.TakenBack' marker before buffer count) = but_newest (kept_of before)
 kept_of (logs.Dropped' marker before) = kept_of before
 kept_of (logs.Lost' marker before line) = kept_of before
@@ -123,7 +140,7 @@ is_ordered logs.Empty = true
 is_ordered (logs.Passed' marker before buffer count) =
     is_ordered before && (not (may_cast (take count.value buffer.value)) || (length (held_of before) == 0))
 is_ordered (logs.Held' marker before line) = is_ordered before && is_entry line.value.bytes
-is_ordered (logs.Cast' marker before) = is_ordered before
+is_ordered (logs.Cast' marker before handed) = is_ordered before
 is_ordered (logs.TakenBack' marker before buffer count) =
     is_ordered before && (nat_lt 0 (length (held_of before)) && is_undo (take count.value buffer.value))
 is_ordered (logs.Dropped' marker before) = is_ordered before

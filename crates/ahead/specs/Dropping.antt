@@ -1,10 +1,11 @@
 -- When lines that are held are dropped, and what rows tell of lines.
-use Rattle.std.specs.Prelude.{◌≡◌, ◌⊎◌, ◌&&◌, ◌==◌, ◌++◌, Bool, false, not, nat_lt, drop, Option, None, Some, List, [], ◌∷◌}
+use Rattle.std.specs.Prelude.{◌≡◌, ◌⊎◌, ◌&&◌, ◌==◌, ◌++◌, ℕ, Bool, false, not, nat_lt, drop, Option, None, Some, List, [], ◌∷◌}
 use Rattle.arrayvec.specs.ArrayString.{ArrayString}
 use Rattle.links.specs.declared.{aside.Aside.Aside, keys.Typed.Typed, stand.Stand.Stand}
 use Rattle.ahead.specs.declared.log.AheadLog.{AheadLog}
 use Rattle.ahead.specs.declared.tried.Tried.{Tried}
-use Rattle.ahead.specs.Ahead.{given_of, held_of, oldest}
+use Rattle.ahead.specs.Ahead.{given_of, handed_of, held_of, oldest}
+use Rattle.ahead.specs.Undoing.{handed_at}
 use Rattle.ahead.specs.Sorts.{may_cast}
 
 -- the two scorers differed since the desk was seen last: it stands at the same place in a later round
@@ -42,8 +43,14 @@ abbrev pub taken_back_by : Typed → List ArrayString
 taken_back_by (Typed.Aside (Aside.TakenBack place line)) = line ∷ []
 taken_back_by typed = []
 
--- none that was held is dropped: all are held still, or all but the oldest, which the desk is given
-abbrev pub Keeps : AheadLog → AheadLog → Type 0
-Keeps before after =
-    (held_of after ≡ held_of before)
-    ⊎ ((held_of after ≡ drop 1 (held_of before)) × (given_of after ≡ given_of before ++ oldest (held_of before)))
+-- a row tells of no line that it is held, nor that it is taken back
+abbrev pub HoldsNone : Aside → Type 0
+HoldsNone aside = (held_by (Typed.Aside aside) ≡ []) × (taken_back_by (Typed.Aside aside) ≡ [])
+
+-- None that was held is dropped by a desk that stands so, as its clock shows this: all are held still, or all but the oldest,
+-- which the desk is given, and that is noted.
+abbrev pub Keeps : Stand → ℕ → AheadLog → AheadLog → Type 0
+Keeps at now before after =
+    ((held_of after ≡ held_of before) × (handed_of after ≡ handed_of before))
+    ⊎ ((held_of after ≡ drop 1 (held_of before)) × (given_of after ≡ given_of before ++ oldest (held_of before))
+    × (handed_of after ≡ handed_at at now (held_of before)))

@@ -2,6 +2,7 @@
 //! one after the other, each once the place of the one before it is agreed.
 #![tactic(auto)]
 
+mod handed;
 mod laws;
 mod lines;
 mod log;

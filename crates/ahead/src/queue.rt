@@ -2,9 +2,10 @@
 
 ghost use Rattle.std.specs.Prelude.{◌≡◌, ◌<◌, ◌++◌, [], IfNone, None, false, length, true};
 ghost use Rattle.links.specs.Typing.{IsTyped};
-ghost use Rattle.ahead.specs.Ahead.{dropped_of, given_of, held_of, is_ordered, lost_of, typed_of};
+ghost use Rattle.ahead.specs.Ahead.{dropped_of, given_of, handed_of, held_of, is_ordered, lost_of, typed_of};
 ghost use Rattle.ahead.specs.Dropping.{Keeps, differs_since, dropped, dropped_by, dropped_in, is_not_taken};
 
+use crate::handed::Handed;
 use crate::lines::{copied, place_behind, put};
 use crate::log::AheadLog;
 use crate::tried::{Tried, differs_since, is_not_taken};
@@ -28,6 +29,8 @@ pub struct Queue {
     pub(crate) lost: HeldLines,
     /// The line that the desk was given last, until it is seen what that came to.
     pub(crate) tried: Option<Tried>,
+    /// The line for which the desk may cast a vote that it was given last, where that was held.
+    pub(crate) handed: Option<Handed>,
     /// Where the desk stood last.
     pub(crate) seen: Option<Stand>,
     /// Whether what is typed is dropped, until nothing more is, or `again`: it was typed before it was told why.
@@ -38,6 +41,7 @@ pub struct Queue {
     pub(crate) log: AheadLog,
     ghost holds: { held.items ≡ held_of log },
     ghost loses: { lost.items ≡ lost_of log },
+    ghost hands: { handed ≡ handed_of log },
     ghost ordered: { is_ordered log ≡ true },
 }
 
@@ -51,6 +55,7 @@ impl Queue {
             held: ArrayVec::new(),
             lost: ArrayVec::new(),
             tried: None,
+            handed: None,
             seen: None,
             is_deaf: false,
             lists: false,
@@ -71,8 +76,10 @@ impl Queue {
     /// Drops all lines that are held.
     fn drop_all(&mut self) -> HeldLines
         ensures lines { result.items ≡ held_of self.old.log }
+        ensures lost { lost_of self.new.log ≡ lost_of self.old.log }
         ensures held { held_of self.new.log ≡ [] }
         ensures given { given_of self.new.log ≡ given_of self.old.log }
+        ensures handed { handed_of self.new.log ≡ handed_of self.old.log }
         ensures typed { typed_of self.new.log ≡ typed_of self.old.log }
         ensures told { dropped_of self.new.log ≡ dropped_of self.old.log ++ result.items }
         ensures last { self.new.last ≡ self.old.last }
@@ -81,11 +88,26 @@ impl Queue {
         self.held.take()
     }
 
+    /// Drops all lines that are held, and tells of those that were dropped as they were typed and weren't told.
+    pub fn drop_rest(&mut self) -> (HeldLines, HeldLines)
+        ensures held { (result.0).items ≡ held_of self.old.log }
+        ensures lost { (result.1).items ≡ lost_of self.old.log }
+        ensures told { dropped_of self.new.log ≡ dropped_of self.old.log ++ (held_of self.old.log ++ lost_of self.old.log) }
+        ensures none { (held_of self.new.log ≡ []) × (lost_of self.new.log ≡ []) }
+        ensures given { given_of self.new.log ≡ given_of self.old.log }
+        ensures typed { typed_of self.new.log ≡ typed_of self.old.log }
+    {
+        let held = self.drop_all();
+        self.log = self.log.told();
+        (held, self.lost.take())
+    }
+
     /// Drops all lines that are held, and what is typed until that is told; and tells it, behind a line that wasn't taken.
     fn drop_behind(&mut self, tried: Option<Tried>) -> Aside
         ensures row { dropped result ≡ held_of self.old.log }
         ensures held { held_of self.new.log ≡ [] }
         ensures given { given_of self.new.log ≡ given_of self.old.log }
+        ensures handed { handed_of self.new.log ≡ handed_of self.old.log }
         ensures typed { typed_of self.new.log ≡ typed_of self.old.log }
         ensures told { dropped_of self.new.log ≡ dropped_of self.old.log ++ dropped result }
         ensures last { self.new.last ≡ self.old.last }
@@ -106,6 +128,7 @@ impl Queue {
         ensures not_taken { is_not_taken self.old.tried at ≡ true
             → (held_of self.new.log ≡ []) × (dropped_in result ≡ held_of self.old.log) }
         ensures given { given_of self.new.log ≡ given_of self.old.log }
+        ensures handed { handed_of self.new.log ≡ handed_of self.old.log }
         ensures typed { typed_of self.new.log ≡ typed_of self.old.log }
         ensures none { IfNone result ((differs_since self.old.seen at ≡ false) × (is_not_taken self.old.tried at ≡ false)) }
         ensures keeps { differs_since self.old.seen at ≡ false → is_not_taken self.old.tried at ≡ false
@@ -131,6 +154,7 @@ impl Queue {
         ensures room { IfNone result (length (lost_of self.new.log) < 24) }
         ensures held { held_of self.new.log ≡ held_of self.old.log }
         ensures given { given_of self.new.log ≡ given_of self.old.log }
+        ensures handed { handed_of self.new.log ≡ handed_of self.old.log }
         ensures typed { typed_of self.new.log ≡ typed_of self.old.log }
         ensures told { dropped_of self.new.log ≡ dropped_of self.old.log ++ dropped_in result }
         ensures last { self.new.last ≡ self.old.last }
@@ -161,19 +185,25 @@ impl Queue {
     }
 
     /// Gives the desk the oldest line held.
-    fn hand_on(&mut self, at: Stand, buffer: &mut LineBuffer) -> Typed
+    fn hand_on(&mut self, at: Stand, now: u64, buffer: &mut LineBuffer) -> Typed
         requires { at.has_voted ≡ false }
         ensures given { IsTyped result buffer.new (given_of self.old.log) (given_of self.new.log) }
         ensures lost { lost_of self.new.log ≡ lost_of self.old.log }
         ensures typed { typed_of self.new.log ≡ typed_of self.old.log }
-        ensures keeps { Keeps self.old.log self.new.log }
+        ensures keeps { Keeps at now self.old.log self.new.log }
         ensures some { result ≡ Typed.Nothing → held_of self.new.log ≡ [] }
         ensures told { dropped_of self.new.log ≡ dropped_of self.old.log ++ dropped_by result }
     {
         match self.held.pop_at(0) {
             None => Typed::Nothing,
             Some(line) => {
-                self.log = self.log.cast();
+                let handed = Handed {
+                    line,
+                    place: at.place,
+                    millis: now,
+                };
+                self.log = self.log.cast(&handed);
+                self.handed = Some(handed);
                 self.tried = Some(Tried {
                     line,
                     place: at.place,
@@ -216,6 +246,7 @@ impl Queue {
             → (held_of self.new.log ≡ []) × (dropped_in result ≡ held_of self.old.log) }
         ensures room { IfNone result (length (lost_of self.new.log) < 24) }
         ensures given { given_of self.new.log ≡ given_of self.old.log }
+        ensures handed { handed_of self.new.log ≡ handed_of self.old.log }
         ensures typed { typed_of self.new.log ≡ typed_of self.old.log }
         ensures none { IfNone result ((differs_since self.old.seen at ≡ false) × (is_not_taken self.old.tried at ≡ false)) }
         ensures keeps { differs_since self.old.seen at ≡ false → is_not_taken self.old.tried at ≡ false
@@ -230,7 +261,7 @@ impl Queue {
     }
 
     /// What is due, before the keyboard is asked.
-    pub fn due(&mut self, at: Stand, buffer: &mut LineBuffer) -> Typed
+    pub fn due(&mut self, at: Stand, now: u64, buffer: &mut LineBuffer) -> Typed
         ensures differs { differs_since self.old.seen at ≡ true
             → (held_of self.new.log ≡ []) × (dropped_by result ≡ held_of self.old.log) }
         ensures not_taken { is_not_taken self.old.tried at ≡ true
@@ -241,7 +272,7 @@ impl Queue {
         ensures none { result ≡ Typed.Nothing
             → (differs_since self.old.seen at ≡ false) × (is_not_taken self.old.tried at ≡ false) }
         ensures keeps { differs_since self.old.seen at ≡ false → is_not_taken self.old.tried at ≡ false
-            → self.old.last ≡ None → Keeps self.old.log self.new.log }
+            → self.old.last ≡ None → Keeps at now self.old.log self.new.log }
         ensures hands_on { result ≡ Typed.Nothing → at.has_voted ≡ false → held_of self.new.log ≡ [] }
         ensures told { dropped_of self.new.log ≡ dropped_of self.old.log ++ dropped_by result }
     {
@@ -257,6 +288,6 @@ impl Queue {
         if at.has_voted {
             return Typed::Nothing;
         }
-        self.hand_on(at, buffer)
+        self.hand_on(at, now, buffer)
     }
 }

@@ -3,15 +3,17 @@
 ghost use Rattle.std.specs.Prelude.{◌≡◌, ◌≤◌, ◌<◌, ◌∷◌, ◌++◌, [], IfSome, IsSome, IsUtf8, false, length, take, true};
 ghost use Rattle.links.specs.Typing.{End, IsTyped, Line};
 ghost use Rattle.screen.specs.Words as words;
-ghost use Rattle.ahead.specs.Ahead.{bytes_of, dropped_of, given_of, held_of, lost_of, typed_of};
+ghost use Rattle.ahead.specs.Ahead.{bytes_of, dropped_of, given_of, handed_of, held_of, lost_of, typed_of};
 ghost use Rattle.ahead.specs.Dropping.{held_by, taken_back_by};
 ghost use Rattle.ahead.specs.Sorts as sorts;
 ghost use Rattle.ahead.specs.Sorts.{is_entry, is_undo, may_cast};
+ghost use Rattle.ahead.specs.Undoing.{answer_to, told_or_given};
 
+use crate::handed::{answer_to, handed_behind};
 use crate::lines::place_behind;
 use crate::queue::{Last, Queue};
 use crate::tried::Tried;
-use links::{Aside, HeldLine, Keys, LineBuffer, Stand, Typed};
+use links::{Aside, Clock, HeldLine, HeldLines, Keys, LineBuffer, Stand, Typed};
 use screen::{Word, is_end, word_of};
 use std::str;
 
@@ -109,6 +111,7 @@ impl Queue {
         ensures told { dropped_of self.new.log ≡ dropped_of self.old.log }
     {
         self.log = self.log.passed(buffer, count);
+        self.handed = handed_behind(self.handed, &buffer[..count]);
         Typed::Line(count)
     }
 
@@ -301,8 +304,25 @@ impl Queue {
         Typed::Nothing
     }
 
-    /// What becomes of a line that was typed. Where the desk's vote isn't cast and no line is held, it is given any at once.
-    pub fn take(&mut self, at: Stand, buffer: &LineBuffer, count: usize) -> Typed
+    /// What becomes of a line that the desk is given at once, unless it is `undo` that may be meant for one that was held.
+    fn take_at_once(&mut self, at: Stand, now: u64, buffer: &LineBuffer, count: usize) -> Typed
+        requires count { count ≤ 128 }
+        requires held { held_of self.old.log ≡ [] }
+        ensures given { IsTyped result buffer.now (given_of self.old.log) (given_of self.new.log) }
+        ensures typed { typed_of self.new.log ≡ typed_of self.old.log ++ Line (take count buffer.now) ∷ [] }
+        ensures line { result ≡ told_or_given (answer_to (handed_of self.old.log) at now (take count buffer.now)) count }
+        ensures held { held_of self.new.log ++ taken_back_by result ≡ held_of self.old.log ++ held_by result }
+        ensures told { dropped_of self.new.log ≡ dropped_of self.old.log }
+    {
+        match answer_to(self.handed, at, now, &buffer[..count]) {
+            Some(aside) => self.put_by(buffer, count, aside),
+            None => self.try_text(at, buffer, count),
+        }
+    }
+
+    /// What becomes of a line that was typed, as the clock shows this. Where the desk's vote isn't cast and no line is held, it is
+    /// given any at once, but for `undo` that may be meant for one that was held.
+    pub fn take(&mut self, at: Stand, now: u64, buffer: &LineBuffer, count: usize) -> Typed
         requires count { count ≤ 128 }
         requires room { length (lost_of self.old.log) < 24 }
         ensures given { IsTyped result buffer.now (given_of self.old.log) (given_of self.new.log) }
@@ -311,12 +331,12 @@ impl Queue {
             → length (held_of self.old.log) < 24 → IsUtf8 (take count buffer.now)
             → bytes_of (held_by result) ≡ take count buffer.now ∷ [] }
         ensures passes { self.old.is_deaf ≡ false → at.has_voted ≡ false → held_of self.old.log ≡ []
-            → result ≡ Typed.Line count }
+            → result ≡ told_or_given (answer_to (handed_of self.old.log) at now (take count buffer.now)) count }
         ensures held { held_of self.new.log ++ taken_back_by result ≡ held_of self.old.log ++ held_by result }
         ensures told { dropped_of self.new.log ≡ dropped_of self.old.log }
     {
         if !at.has_voted && !self.is_deaf && self.held.is_empty() {
-            return self.try_text(at, buffer, count);
+            return self.take_at_once(at, now, buffer, count);
         }
         match sort_of(&buffer[..count]) {
             Sort::Entry => self.take_entry(at, buffer, count),
@@ -353,23 +373,39 @@ impl Queue {
 
 /// A scorer's lines, of which some are held: the desk is given what was typed, and when.
 #[derive(Drop)]
-pub struct Ahead<K: Keys> {
+pub struct Ahead<K: Keys, C: Clock> {
     keys: K,
+    clock: C,
     queue: Queue,
     ghost typed: { K.inputs keys ≡ typed_of queue.log },
 }
 
-impl<K: Keys> Ahead<K> {
-    /// Of a keyboard that gave nothing yet.
-    pub fn new(keys: K) -> Ahead<K>
+impl<K: Keys, C: Clock> Ahead<K, C> {
+    /// Of a keyboard that gave nothing yet, with a clock of its own.
+    pub fn new(keys: K, clock: C) -> Ahead<K, C>
         requires { K.inputs keys ≡ [] }
         ensures given { given_of (result.queue).log ≡ [] }
         ensures keys { result.keys ≡ keys }
     {
         Ahead {
             keys,
+            clock,
             queue: Queue::new(),
         }
+    }
+
+    /// What isn't told yet where the desk ends by itself: the lines that are held, and behind them those that were dropped as
+    /// they were typed. All of these are dropped.
+    pub fn drop_rest(&mut self) -> (HeldLines, HeldLines)
+        ensures held { (result.0).items ≡ held_of (self.old.queue).log }
+        ensures lost { (result.1).items ≡ lost_of (self.old.queue).log }
+        ensures told { dropped_of (self.new.queue).log
+            ≡ dropped_of (self.old.queue).log ++ (held_of (self.old.queue).log ++ lost_of (self.old.queue).log) }
+        ensures none { (held_of (self.new.queue).log ≡ []) × (lost_of (self.new.queue).log ≡ []) }
+        ensures given { given_of (self.new.queue).log ≡ given_of (self.old.queue).log }
+        ensures keys { self.new.keys ≡ self.old.keys }
+    {
+        self.queue.drop_rest()
     }
 
     /// The keyboard.
@@ -380,7 +416,7 @@ impl<K: Keys> Ahead<K> {
     }
 }
 
-impl<K: Keys> Keys for Ahead<K> {
+impl<K: Keys, C: Clock> Keys for Ahead<K, C> {
     ghost use Rattle.ahead.specs.Dropping.{differs_since, dropped_by, is_not_taken};
 
     ghost inputs = { λ ahead. given_of (ahead.queue).log };
@@ -393,12 +429,13 @@ impl<K: Keys> Keys for Ahead<K> {
             → (held_of (self.new.queue).log ≡ []) × (dropped_by result ≡ held_of (self.old.queue).log) }
         ensures hands_on { result ≡ Typed.Nothing → at.has_voted ≡ false → held_of (self.new.queue).log ≡ [] }
     {
-        match self.queue.due(at, buffer) {
+        let now = self.clock.millis();
+        match self.queue.due(at, now, buffer) {
             Typed::Nothing => {}
             due => return due,
         }
         match self.keys.line(at, buffer) {
-            Typed::Line(count) => self.queue.take(at, buffer, count),
+            Typed::Line(count) => self.queue.take(at, now, buffer, count),
             Typed::Ended => {
                 self.queue.stop();
                 Typed::Nothing

@@ -1,6 +1,8 @@
 //! `ground desk`: a scorer's desk.
 
-ghost use Rattle.std.specs.Prelude.{◌≡◌, false, option_copied, IfErr, IfOk, None, Some};
+ghost use Rattle.std.specs.Prelude.{◌≡◌, ◌≤◌, false, option_copied, IfErr, IfOk, None, OnOk, Some};
+ghost use Rattle.cards.specs.Sheet.{most_columns};
+ghost use Rattle.streams.specs.Watched.{Prints, TellsFailure};
 ghost use Rattle.desk_command.specs.Ends as ends;
 ghost use Rattle.desk_command.specs.Lives.{copy_of, desk_of, path_of};
 
@@ -11,17 +13,19 @@ use crate::page::Page;
 use agree_core::DeskId;
 use ahead::Ahead;
 use cards::{Columns, MatchSheet};
+use links::{Clock, Keys};
 use live::{DeskEnd, LifeEnd};
 use machine::{Address, Keyboard, MOST_PEERS, MonotonicClock};
 use machine_files::{LastFault, WriteFault};
 use setup::{Sealing, StopFault, Stopped, short_sheet_at, with_cause, with_copys_cause};
 use station_pages::PageLines;
 use station_screens::{Shared, errors_at, output_at};
+use station_texts::asides::print_all_dropped;
 use std::cell::RefCell;
 use std::env::Env;
 use std::mem::drop;
 use std::net::SocketAddr;
-use streams::Watched;
+use streams::{Sink, Watched, WriteFailed};
 
 /// Why the command ends with a fault, by how its desk's process ended and whether its keyboard failed. Where its scorer
 /// stopped, there is none.
@@ -96,10 +100,38 @@ fn with_lasts<'a>(
     }
 }
 
-/// Waits until all that was written to a desk's screen is taken, and tells whether it is. Where a write of it failed, no other
-/// one is made.
-fn is_seen(screen: Watched<DeskScreen<'_, '_>>) -> bool {
-    !screen.has_failed() && screen.into_inner().output.end().is_ok()
+/// Tells which lines are dropped, where a desk ended by itself.
+fn tell_dropped<K: Keys, C: Clock, W: Sink>(
+    out: &mut Watched<W>,
+    columns: usize,
+    ended: Result<(), LifeEnd>,
+    keys: &mut Ahead<K, C>,
+) -> Result<(), WriteFailed>
+    requires { columns ≤ most_columns }
+    ensures text { OnOk result (Prints W.contents out.old out.new (ends.last_told ended columns (keys.old.queue).log)) }
+    ensures failed { TellsFailure result out.old out.new }
+{
+    match ended {
+        Err(LifeEnd::Ended(DeskEnd::Device | DeskEnd::LacksLines)) => {
+            let (held, lost) = keys.drop_rest();
+            print_all_dropped(out, columns, held.as_slice(), lost.as_slice())
+        }
+        _ => Ok(()),
+    }
+}
+
+/// Tells which lines are dropped where a desk ended by itself. Then waits until all that was written to its screen is taken, and
+/// tells whether it is. Where a write of it failed, no other one is made.
+fn is_seen<K: Keys, C: Clock>(
+    mut screen: Watched<DeskScreen<'_, '_>>,
+    columns: usize,
+    ended: Result<(), LifeEnd>,
+    keys: &mut Ahead<K, C>,
+) -> bool
+    requires { columns ≤ most_columns }
+{
+    let told = tell_dropped(&mut screen, columns, ended, keys);
+    told.is_ok() && !screen.has_failed() && screen.into_inner().output.end().is_ok()
 }
 
 /// The command's answer, where its screen was read whole or wasn't.
@@ -174,7 +206,8 @@ pub fn start_desk<'a>(
         page: scorers,
         errors: Shared::of(&errors),
     };
-    let keys = Ahead::new(Keyboard::of_standard_input(rt, lines));
+    let keyboard = Keyboard::of_standard_input(rt, lines);
+    let keys = Ahead::new(keyboard, MonotonicClock::new(rt));
     let ends = page.ends_with(keys.keys().descriptor());
     let lasts = [LastFault::new(None), LastFault::new(None)];
     let book = empty_book(rt, &sheet)?;
@@ -187,13 +220,13 @@ pub fn start_desk<'a>(
         ended,
         life,
         link,
-        keys,
+        mut keys,
         out,
     } = keep_on(
         rt, disk, desk, book, &sheet, link, keys, out, scorers, file, copy,
     );
     drop(link);
-    let is_seen = is_seen(out);
+    let is_seen = is_seen(out, sheet.columns(), ended, &mut keys);
     let keyboard_failed = keys.keys().has_failed();
     drop(keys);
     let _ = errors.into_inner().end();

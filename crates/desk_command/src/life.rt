@@ -92,19 +92,19 @@ pub struct Kept<'a, L: Link, K: Keys, W: Sink> {
 }
 
 /// The same, of a scorer who types at a keyboard and in a page, and nothing yet: with the life that the desk had.
-pub fn keep_on<'a, L: Link, R: Read, M: MoreLines, W: Sink>(
+pub fn keep_on<'a, L: Link, R: Read, M: MoreLines, C: Clock, W: Sink>(
     rt: &HostRuntime,
     disk: DeskDisk<'_>,
     desk: DeskId,
     book: CheckedBook,
     sheet: &MatchSheet,
     link: L,
-    keys: Ahead<Keyboard<R, M>>,
+    keys: Ahead<Keyboard<R, M>, C>,
     out: Watched<W>,
     page: Option<&RefCell<ScorersPage>>,
     file: &'a str,
     copy: Option<&'a str>,
-) -> Kept<'a, L, Ahead<Keyboard<R, M>>, W>
+) -> Kept<'a, L, Ahead<Keyboard<R, M>, C>, W>
     requires empty { book.entries ≡ [] }
     requires innings { book.innings_a_side ≡ sheet.now.innings }
     requires untyped { given_of (keys.queue).log ≡ [] }

@@ -25,6 +25,10 @@ pub enum Aside {
     Full(HeldLine),
     /// One isn't held: it is no text.
     NoText,
+    /// `undo` isn't given on: it may be meant for one that was held, was given on a moment ago, and is agreed at this place.
+    WasHeld(u32, HeldLine),
+    /// The same of one that wasn't taken at this place.
+    Untaken(u32, HeldLine),
     /// The line of this place is cast: it can't be taken back, nor written again.
     IsCast(u32),
 }

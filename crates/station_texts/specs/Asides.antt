@@ -1,5 +1,5 @@
 -- What a desk's scorer is told of lines that the desk isn't given yet, or never will be, in rows of so many columns.
-use Rattle.std.specs.Prelude.{ℕ, ◌+◌, Bool, true, false, nat_lt, List, [], ◌∷◌, ◌++◌, codes, decimal, length}
+use Rattle.std.specs.Prelude.{ℕ, ◌+◌, Bool, true, false, nat_lt, List, [], ◌∷◌, ◌++◌, bytes_eq, codes, decimal, if◌then◌else◌, length, take}
 use Rattle.arrayvec.specs.ArrayString.{ArrayString}
 use Rattle.links.specs.declared.aside.Aside.{Aside}
 use Rattle.station_texts.specs.Texts.{at_place}
@@ -38,9 +38,23 @@ dropped_text columns [] = []
 dropped_text columns (l ∷ ls) =
     codes "dropped " ++ decimal (length (l ∷ ls)) ++ codes ": " ++ lines_rows columns (l ∷ ls)
 
+-- the same where a desk ends: of those that are held, and of those that were dropped as they were typed
+abbrev pub all_dropped : ℕ → List ArrayString → List ArrayString → List ℕ
+all_dropped columns held lost = dropped_text columns held ++ dropped_text columns lost
+
 -- a place, and what is told of a line there
 abbrev pub line_at : ℕ → List ℕ → List ℕ → List ℕ
 line_at place words line = decimal place ++ words ++ line ++ codes "\n"
+
+-- it is a `fix`, as a line was typed
+abbrev pub is_fix : List ℕ → Bool
+is_fix line = bytes_eq (codes "fix ") (take 4 line)
+
+-- how the line of a place that is agreed is taken back: by a `fix`, and if it is one by another of the same place
+abbrev pub way_back : ℕ → List ℕ → List ℕ
+way_back place line =
+    if is_fix line then at_place place (codes "is cast: to take a fix back, write the place again as it was")
+    else decimal place ++ codes " is cast: fix " ++ decimal place ++ codes " void would strike it out\n"
 
 abbrev pub aside_text : ℕ → Aside → List ℕ
 aside_text columns (Aside.Held place line) = line_at place (codes " held: ") line.bytes
@@ -51,5 +65,7 @@ aside_text columns (Aside.NotTaken place line lines) =
 aside_text columns (Aside.Dropped lines) = dropped_text columns lines.items
 aside_text columns (Aside.Full line) = codes "24 lines are held, and not this: " ++ line.bytes ++ codes "\n"
 aside_text columns Aside.NoText = codes "not held: that line is no text\n"
+aside_text columns (Aside.Untaken place line) = line_at place (codes " not taken: ") line.bytes
+aside_text columns (Aside.WasHeld place line) = way_back place line.bytes
 aside_text columns (Aside.IsCast place) =
     at_place place (codes "is cast and stays: the other writes what is right, then you type it behind again")

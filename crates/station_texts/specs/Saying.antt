@@ -1,6 +1,7 @@
 -- What a scorer's line comes to, by cases of the answer. Every line is first put in full, by the sheet that the desk has
 -- and by the book at which it stands.
-use Rattle.std.specs.Prelude.{◌≡◌, ◌≢◌, ◌⊎◌, ℕ, Bool, true, false, nat_lt, is_some, List, [], ◌++◌, Some, None, Ok, Err, codes}
+use Rattle.std.specs.Prelude.{◌≡◌, ◌≢◌, ◌≤◌, ◌⊎◌, ℕ, Bool, true, false, nat_lt, is_some, List, [], ◌++◌, Option, Some, None, Ok, Err, IfSome, IsSome, IsUtf8, codes, length}
+use Rattle.arrayvec.specs.ArrayString.{ArrayString}
 use Rattle.notation.specs.declared.entry.Entry.{Entry}
 use Rattle.notation.specs.Written.{IsEntry, text_of}
 use Rattle.agree_core.specs.declared.messages.Message.{Message}
@@ -76,6 +77,11 @@ abbrev pub MeansNone : Sheet → List Entry → Bool → Bool → List ℕ → R
 MeansNone s book differs is_cast line why =
     (text : List ℕ) × IsReadAs differs is_cast line text × (entry_in_full s book text ≡ Err why)
 
+-- what is told of a line: itself, if it is text, and isn't too long behind `again `
+abbrev pub IsTold : List ℕ → Option ArrayString → Type 0
+IsTold line text =
+    IfSome text (λ t. t.bytes ≡ line) × (IsUtf8 line → length line ≤ 122 → IsSome text)
+
 -- the line comes to this, and no entry is penned, by the sheet, the book and the votes that the desk has cast, at a place
 -- at which the two scorers differed or not, where the desk's vote of the round is cast or not
 abbrev pub ComesTo : Sheet → List Entry → List Ballot → Bool → Bool → List ℕ → Said → Type 0
@@ -84,7 +90,8 @@ ComesTo s book votes differs is_cast line (Asks word) = (word_of line ≡ Some w
 ComesTo s book votes differs is_cast line (Plan planned) = (word_of line ≡ Some Word.Plan) × IsPlanned s book (behind_plan line) planned
 ComesTo s book votes differs is_cast line (Unclear unclear) =
     IsNoWord line × MeansNone s book differs is_cast line (reason_of unclear)
-ComesTo s book votes differs is_cast line SayAgain = IsNoWord line × (differs ≡ true) × (is_cast ≡ false) × IsNotAgain line
+ComesTo s book votes differs is_cast line (SayAgain text) =
+    IsNoWord line × (differs ≡ true) × (is_cast ≡ false) × IsNotAgain line × IsTold line text
 ComesTo s book votes differs is_cast line NoneDiffers = IsAgainInVain votes differs line
 ComesTo s book votes differs is_cast line Waiting =
     (differs ≡ true) × (is_cast ≡ true) × IsNotAgain line × ((e : Entry) × MeansEntry s book line e)

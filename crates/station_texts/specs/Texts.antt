@@ -1,5 +1,6 @@
 -- What a desk's scorer is told.
 use Rattle.std.specs.Prelude.{◌≡◌, ◌<◌, ◌≤◌, ◌↔◌, ℕ, ◌==◌, ◌||◌, Bool, true, false, if◌then◌else◌, nat_le, nat_lt, is_some, Option, Some, None, List, [], ◌++◌, slice_get, codes, decimal}
+use Rattle.arrayvec.specs.ArrayString.{ArrayString}
 use Rattle.notation.specs.declared.entry.{Entry.Entry, Plain.Plain, TheConstants.PLACES}
 use Rattle.notation.specs.declared.entry.Entry.TheVariants.{Write}
 use Rattle.notation.specs.Written.{text_of}
@@ -127,10 +128,18 @@ abbrev pub place_text : Position → Option Entry → List ℕ
 place_text at (Some e) = pending at.place e
 place_text at None = open_text at (why_full at)
 
+-- that a line must begin with `again`, and how it does, if it can
+abbrev pub with_again : ℕ → List ℕ → List ℕ
+with_again place line = decimal place ++ codes " differs: begin the line with again: again " ++ line ++ codes "\n"
+
+abbrev pub ask_again : ℕ → Option ArrayString → List ℕ
+ask_again place None = at_place place (codes "differs: begin the line with again")
+ask_again place (Some line) = with_again place line.bytes
+
 -- of a line without `again`, where the scorers differed: it is asked for, unless no vote can be cast
-abbrev pub again_text : Position → Option Refusal → List ℕ
-again_text at (Some why) = refused_text why
-again_text at None = at_place at.place (codes "differs: begin the line with again")
+abbrev pub again_text : Position → Option ArrayString → Option Refusal → List ℕ
+again_text at line (Some why) = refused_text why
+again_text at line None = ask_again at.place line
 
 -- where a desk stands, as it begins and where its scorer asks
 abbrev pub greeting : Sheet → ℕ → List Entry → Position → Option Entry → List ℕ
@@ -189,7 +198,7 @@ said_text sheet innings at own other silent book (Said.Asks word) =
 said_text sheet innings at own other silent book (Said.Plan planned) = planned_text sheet book planned
 said_text sheet innings at own other silent book (Said.Unclear unclear) =
     unclear_text sheet unclear ++ who_may sheet (history_of book) unclear
-said_text sheet innings at own other silent book Said.SayAgain = again_text at (why_full at)
+said_text sheet innings at own other silent book (Said.SayAgain line) = again_text at line (why_full at)
 said_text sheet innings at own other silent book Said.NoneDiffers =
     at_place at.place (codes "doesn't differ: leave out again")
 said_text sheet innings at own other silent book Said.Waiting = refused_text Refusal.Waiting

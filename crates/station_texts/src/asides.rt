@@ -166,6 +166,22 @@ fn print_full<W: Sink>(out: &mut Watched<W>, line: &str) -> Result<(), WriteFail
     writeln!(out, "24 lines are held, and not this: {line}")
 }
 
+/// Prints how one that was held and is agreed is taken back.
+fn print_was_held<W: Sink>(out: &mut Watched<W>, place: u32, line: &str) -> Result<(), WriteFailed>
+    ensures text { OnOk result (Prints W.contents out.old out.new (asides.way_back place line.now)) }
+    ensures failed { TellsFailure result out.old out.new }
+{
+    if line.as_bytes().starts_with(b"fix ") {
+        print_at(
+            out,
+            place,
+            "is cast: to take a fix back, write the place again as it was",
+        )
+    } else {
+        writeln!(out, "{place} is cast: fix {place} void would strike it out")
+    }
+}
+
 /// Prints what is told of lines that the desk isn't given, in rows of so many columns.
 fn print_of_lines<W: Sink>(
     out: &mut Watched<W>,
@@ -186,6 +202,8 @@ fn print_of_lines<W: Sink>(
         Aside::Dropped(lines) => print_dropped(out, columns, lines.as_slice()),
         Aside::Full(line) => print_full(out, line.as_str()),
         Aside::NoText => writeln!(out, "not held: that line is no text"),
+        Aside::Untaken(place, line) => print_untaken(out, *place, line.as_str()),
+        Aside::WasHeld(place, line) => print_was_held(out, *place, line.as_str()),
         Aside::IsCast(place) => print_at(
             out,
             *place,
@@ -205,5 +223,35 @@ pub fn print_aside<W: Sink>(
     ensures failed { TellsFailure result out.old out.new }
 {
     print_of_lines(out, columns, aside)?;
+    out.flush()
+}
+
+/// Prints that these lines are dropped where a desk ends, those that were held and those that were dropped as they were typed.
+fn print_both_dropped<W: Sink>(
+    out: &mut Watched<W>,
+    columns: usize,
+    held: &[HeldLine],
+    lost: &[HeldLine],
+) -> Result<(), WriteFailed>
+    requires { columns ≤ most_columns }
+    ensures text { OnOk result (Prints W.contents out.old out.new (asides.all_dropped columns held.now lost.now)) }
+    ensures failed { TellsFailure result out.old out.new }
+{
+    print_dropped(out, columns, held)?;
+    print_dropped(out, columns, lost)
+}
+
+/// The same, handed on at once.
+pub fn print_all_dropped<W: Sink>(
+    out: &mut Watched<W>,
+    columns: usize,
+    held: &[HeldLine],
+    lost: &[HeldLine],
+) -> Result<(), WriteFailed>
+    requires { columns ≤ most_columns }
+    ensures text { OnOk result (Prints W.contents out.old out.new (asides.all_dropped columns held.now lost.now)) }
+    ensures failed { TellsFailure result out.old out.new }
+{
+    print_both_dropped(out, columns, held, lost)?;
     out.flush()
 }

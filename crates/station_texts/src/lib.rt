@@ -1,6 +1,7 @@
 //! What a desk and a board tell, and what a typed line comes to: the texts of the loops of `live`.
 #![tactic(auto)]
 
+mod again;
 pub mod asides;
 pub mod both;
 pub mod news;

@@ -7,9 +7,10 @@ ghost use Rattle.agree_core.specs.Ballots.{Ballot};
 ghost use Rattle.cards.specs.Sheet.{Sheet};
 ghost use Rattle.desk.specs.Desk.{last_entry};
 ghost use Rattle.screen.specs.Words as words;
-ghost use Rattle.station_texts.specs.Saying.{ComesTo, IsNoWord, IsNotAgain, IsTextOf, LineMeans};
+ghost use Rattle.station_texts.specs.Saying.{ComesTo, IsNoWord, IsNotAgain, IsTextOf, IsTold, LineMeans};
 
 use agree_core::Settled;
+use arrayvec::ArrayString;
 use cards::MatchSheet;
 use corrections::BookOf;
 use desk::Refusal;
@@ -18,6 +19,10 @@ use plan_words::{Planned, plan_asked};
 use screen::{Word, behind_plan, is_end, word_of};
 use shorthand::{Unclear, entry_in_full, marked_alone};
 use std::alloc::Global;
+use std::str;
+
+/// A text that makes a line behind `again `: with it, it isn't longer than a line is.
+pub type BehindAgain = ArrayString<122>;
 
 /// What a scorer's line comes to.
 #[derive(Drop)]
@@ -30,8 +35,8 @@ pub enum Said {
     Plan(Planned),
     /// It means no entry: something isn't clear in it, or in full it has a fault.
     Unclear(Unclear),
-    /// The two scorers differed at this place, and the line doesn't begin with `again `.
-    SayAgain,
+    /// The two scorers differed at this place, and the line doesn't begin with `again `; with the line, if it can.
+    SayAgain(Option<BehindAgain>),
     /// The line begins with `again`, and they didn't differ.
     NoneDiffers,
     /// They differed, the desk's vote of the new round is cast, and the line says an entry without `again `: it is
@@ -84,6 +89,16 @@ fn behind_again(line: &[u8]) -> Option<&[u8]>
     line.strip_prefix(b"again ")
 }
 
+/// A line as it is told behind `again `, if it may stand there.
+fn shown(line: &[u8]) -> Option<BehindAgain>
+    ensures { IsTold line.now result }
+{
+    match str::from_utf8(line) {
+        Ok(text) => BehindAgain::from(text).ok(),
+        Err(_) => None,
+    }
+}
+
 /// What a line without `again ` comes to, where the two scorers differed.
 fn bare_said<B: BookOf>(line: &[u8], book: &B, sheet: &MatchSheet, is_cast: bool) -> Said
     requires word { IsNoWord line.now }
@@ -91,7 +106,7 @@ fn bare_said<B: BookOf>(line: &[u8], book: &B, sheet: &MatchSheet, is_cast: bool
     ensures { (votes : List Ballot) → ComesTo sheet.now (B.content book.now) votes true is_cast line.now result }
 {
     if !is_cast {
-        return Said::SayAgain;
+        return Said::SayAgain(shown(line));
     }
     match entry_in_full(line, book, sheet) {
         Ok(_) => Said::Waiting,

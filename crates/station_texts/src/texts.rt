@@ -8,6 +8,7 @@ ghost use Rattle.corrections.specs.CleanList.{history_of};
 ghost use Rattle.station_texts.specs.inner.Telling.{IsFine};
 ghost use Rattle.station_texts.specs.Texts as texts;
 
+use crate::again::print_again;
 use crate::both::Both;
 use crate::plan_text::print_planned;
 use crate::refusals::{print_refused, print_refused_entry};
@@ -242,7 +243,7 @@ fn print_settled<B: BookOf, W: Sink>(
 }
 
 /// Why no vote can be cast at a position, if none can.
-fn why_full(at: Position) -> Option<Refusal>
+pub fn why_full(at: Position) -> Option<Refusal>
     ensures { result ≡ texts.why_full at }
 {
     if at.place >= PLACES {
@@ -392,17 +393,6 @@ fn print_asked<B: BookOf, W: Sink>(
     }
 }
 
-/// Prints that a line must begin with `again`, where the scorers differed at this position, or why that would be in vain.
-fn print_again<W: Sink>(out: &mut Watched<W>, at: Position) -> Result<(), WriteFailed>
-    ensures text { OnOk result (Prints W.contents out.old out.new (texts.again_text at (texts.why_full at))) }
-    ensures failed { TellsFailure result out.old out.new }
-{
-    match why_full(at) {
-        Some(why) => print_refused(out, why),
-        None => print_at(out, at.place, "differs: begin the line with again"),
-    }
-}
-
 /// Prints what a line came to, at this position, where the desk had these votes before, and the scorer was told that the other
 /// desk isn't heard, or not.
 fn print_answer<B: BookOf, W: Sink>(
@@ -442,7 +432,7 @@ fn print_answer<B: BookOf, W: Sink>(
         }
         Said::Plan(planned) => print_planned(out, sheet, planned, book),
         Said::Unclear(unclear) => print_question(out, sheet, unclear, book),
-        Said::SayAgain => print_again(out, at),
+        Said::SayAgain(line) => print_again(out, at, line),
         Said::NoneDiffers => print_at(out, at.place, "doesn't differ: leave out again"),
         Said::Waiting => print_refused(out, Refusal::Waiting),
         Said::Refused(entry, why) => print_refused_entry(out, book, entry, *why),

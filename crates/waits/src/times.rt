@@ -36,6 +36,10 @@ pub const LONGEST_STATION_SILENCE: u64 = 2_000;
 /// Two who watch one ball write within a few seconds, and a start takes a second or two.
 pub const REMINDER_WAIT: u64 = 5_000;
 
+/// For how many milliseconds behind a line that was held and is given on `undo` writes nothing where it would be of that line.
+/// Who began to type it while the line was held is done by then.
+pub const HELD_UNDO_WAIT: u64 = 5_000;
+
 /// How many milliseconds a call of a socket waits at most, and a socket is left alone after one that failed.
 /// So one that always fails doesn't keep the processor busy, and no scorer sees the delay.
 pub const SOCKET_CALL_WAIT: u64 = 10;
