@@ -156,9 +156,9 @@ def ends_of_pair(plan, file, copy, at, is_greeted):
     if not plan.label.startswith("copy.votes") or goes_on(plan):
         return ends_of_desk(plan, file, at, is_greeted) + unknown
     told = fault_at(re.escape(copy))
-    if is_greeted:
+    if is_greeted or plan.label == "copy.votes.unfinished":
         return [(3, Told(f"{told}this is the copy: to go on without it, start the same command without --copy\n"))]
-    return [(3, Told(told)), cannot_read(copy), *unknown]
+    return [(3, Told(f"{told}(?:this is the copy: .+\n)?")), cannot_read(copy), *unknown]
 
 
 def ends_of_board(plan, at):

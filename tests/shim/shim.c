@@ -14,14 +14,17 @@
                   late-sync       a file's sync is made after the next datagram was sent
                   no-folder-sync  a folder's sync does nothing
                   half-offset     a file is written at half the offset
-                  swallow         a failure of SHIM_FAIL isn't told to the program */
+                  swallow         a failure of SHIM_FAIL isn't told to the program
+              or an odd machine:
+                  slow-sync       behind the first datagram each sync of a file takes 1.5 s
+                  other-numbers   each rename gives all files other inode numbers */
 
 typedef unsigned long word;
 typedef long number;
 
 enum { READ = 0, WRITE = 1, OPEN = 2, CLOSE = 3, STAT = 4, FSTAT = 5, POLL = 7, LSEEK = 8, PREAD = 17, PWRITE = 18, IOCTL = 16, SOCKET = 41,
        ACCEPT4 = 288, SENDTO = 44, RECVFROM = 45, SHUTDOWN = 48, BIND = 49, LISTEN = 50, GETSOCKNAME = 51, SETSOCKOPT = 54, GETSOCKOPT = 55,
-       EPOLL_WAIT = 232, EPOLL_CTL = 233, EPOLL_CREATE1 = 291, FCNTL = 72, FLOCK = 73, FSYNC = 74,
+       EPOLL_WAIT = 232, EPOLL_CTL = 233, EPOLL_CREATE1 = 291, FCNTL = 72, FLOCK = 73, FSYNC = 74, NANOSLEEP = 35,
        FDATASYNC = 75, FTRUNCATE = 77, RENAME = 82, UNLINK = 87, READLINK = 89, FCHMOD = 91, STATX = 332 };
 enum { EIO = 5, CREATE = 0100, TRUNCATE = 01000, KIND = 0170000, REGULAR = 0100000, SOCKETS = 0140000, PIPES = 0010000,
        DEVICES = 0020000 };
@@ -42,7 +45,7 @@ static number call(number which, number a, number b, number c, number d, number 
 
 static const char *log_path, *plan, *wrong;
 static int log_file = -1;
-static int is_ready, calls_met, syncs_met, owed_sync = -1;
+static int is_ready, calls_met, syncs_met, owed_sync = -1, has_sent, renames;
 
 static int same(const char *a, const char *b) {
     while (*a && *a == *b) a++, b++;
@@ -292,6 +295,8 @@ static int skips_sync(int fd) {
 static int sync_once(int which, int fd) {
     if (skips_sync(fd)) return 0;
     struct file it = file_of(fd);
+    number slow[2] = { 1, 500000000 };
+    if (is_wrong("slow-sync") && has_sent && is_regular(&it)) call(NANOSLEEP, (number)slow, 0, 0, 0, 0, 0);
     int how = how_planned("fsync", it.label);
     number answer = failed(how, is_left_out(how) ? 0 : call(which, fd, 0, 0, 0, 0, 0));
     note("fsync", it.label, answer, it.inode);
@@ -328,6 +333,7 @@ int statx(int fd, const char *path, int flags, unsigned mask, void *found) {
     int how = how_planned("statx", it.label);
     number answer = failed(how, is_left_out(how) ? 0 : call(STATX, fd, (number)path, flags, mask, (number)found, 0));
     note("statx", it.label, answer, it.inode);
+    if (answer == 0 && is_wrong("other-numbers")) ((word *)found)[4] += 1000000 * (word)renames; /* its inode */
     return (int)told(answer);
 }
 
@@ -336,6 +342,7 @@ static int change_name(const char *name, int which, const char *path, const char
     const char *label = last_name(to ? to : path);
     int how = how_planned(name, label);
     number made = is_left_out(how) ? -how : call(which, (number)path, (number)to, 0, 0, 0, 0);
+    if (to && made == 0) renames++;
     put_call(name, label, failed(how, made), -1, made == 0), put(path);
     if (to) put(" "), put(to);
     put_line();
@@ -428,6 +435,7 @@ static void sync_late(void) {
 number sendto(int fd, const void *bytes, word count, int flags, const void *to, unsigned length) {
     int how = how_planned("sendto", "socket");
     number made = is_left_out(how) ? 0 : call(SENDTO, fd, (number)bytes, count, flags, (number)to, length);
+    has_sent = 1;
     put_call("sendto", "socket", failed(how, made), -1, -1), put_bytes(bytes, count), put_line();
     sync_late();
     return told(failed(how, made));

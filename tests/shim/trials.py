@@ -1,6 +1,6 @@
 """What is tried: lives in which a call fails, each followed by another, and programs whose calls are wrong."""
 import errno, os, re, shutil, signal, tempfile
-from lives import BOARD, BOOK, SHEET, TOOLS, OtherDesk, board, desk, has_book, vote
+from lives import BOARD, BOOK, SHEET, TOOLS, Eager, OtherDesk, board, desk, has_book, vote
 from plans import EIO, FULL, Plan, ends_of_board, ends_of_desk, ends_of_key, ends_of_words, only
 from record import TOP, Call, Judge, Wrong, bytes_at, calls_in, stored_before_sent, votes_in
 from words import READING
@@ -112,6 +112,45 @@ def fail_desk(plan, begun=None, is_stern=False):
         card_agrees(ground.file("a.votes"), "a")
         go_on(ground, judge, other, len(calls))
         return met is not None
+
+
+def unreachable(count):
+    """A desk to whose network nothing can be sent for a while: it tells where that begins, and where it ends."""
+    with Ground() as ground:
+        other = OtherDesk()
+        end, _, _ = desk(ground.folder, other, Plan("sendto", "socket", count, errno.ENETUNREACH).text())
+        gone, back = f"cannot send to {other.address()}\n", f"can send to {other.address()} again\n"
+        times = end[2].count(back)
+        if end[0] or end[2] not in ((gone + back) * times, (gone + back) * times + gone) or times < (1 if count else 2):
+            raise Wrong(f"it ended with {end}")
+
+
+def held_by_syncs():
+    """A desk whose files are synced in 1.5 s each, while the other one goes on saying its vote: an entry takes 6 s. No time
+    counts in which the desk itself was held."""
+    with Ground() as ground:
+        other = Eager()
+        copy = ground.file("copy.votes")
+        end, _, _ = desk(ground.folder, other, wrong="slow-sync", until=1, disturb=other.insist, copy=copy)
+        if end[0] or end[2] or "0 agreed" not in end[1] or "heard" in end[1]:
+            raise Wrong(f"it ended with {end}")
+
+
+def replaced(wrong):
+    """A desk at whose name another file stands with the same bytes must end, whatever numbers its file system gives."""
+    with Ground() as ground:
+        file, other, done = ground.file("a.votes"), OtherDesk(), []
+        expect(desk(ground.folder, other, until=1)[0][::2], [(0, "")])
+
+        def replace(_):
+            if (1, 0) in other.cast and not done:
+                done.append(shutil.copy(file, f"{file}.other"))
+                os.replace(f"{file}.other", file)
+
+        end, _, _ = desk(ground.folder, other, wrong=wrong, disturb=replace)
+        lost = "cannot write\nits file was moved, deleted or replaced: put it back\n"
+        if (end[0], end[2]) != (3, lost) or not done:
+            raise Wrong(f"it ended with {end}")
 
 
 def begun_file():

@@ -92,6 +92,14 @@ fn book_of_entries(alloc: Global, innings: u32, entries: &[Entry]) -> Result<Che
     Ok(book)
 }
 
+/// The book of both desks' votes files, and the votes that it is made of.
+#[derive(Drop)]
+pub struct BothBook {
+    pub book: CheckedBook,
+    pub a: DeskVotes,
+    pub b: DeskVotes,
+}
+
 /// The book of both desks' votes files: the agreed list of their votes, the last entry too. Byte 7 of a file says which
 /// version it is of. It is refused as the first votes file that is refused, A's before B's; then `NotOneHistory` where a desk
 /// went on without its votes; and then `BadVotes` where the agreed list is no legal book.
@@ -100,9 +108,10 @@ pub fn book_of_both(
     sheet: &MatchSheet,
     a: &[u8],
     b: &[u8],
-) -> Result<CheckedBook, BothFault>
-    ensures book { IfOk result (λ book. IsBookOfBoth sheet.now a.now b.now book.entries) }
-    ensures same_match { IfOk result (λ book. book.innings_a_side ≡ sheet.now.innings) }
+) -> Result<BothBook, BothFault>
+    ensures book { IfOk result (λ both. IsBookOfBoth sheet.now a.now b.now both.book.entries) }
+    ensures same_match { IfOk result (λ both. both.book.innings_a_side ≡ sheet.now.innings) }
+    ensures votes { IfOk result (λ both. HaveVotes sheet.now.game a.now b.now (votes_of_both both.a both.b)) }
     ensures why { IfErr result (WhyNoBookOfBoth sheet.now a.now b.now) }
 {
     let (a_votes, b_votes) = open_both(alloc, sheet.game(), a, b)?;
@@ -110,5 +119,12 @@ pub fn book_of_both(
         return Err(BothFault::NotOneHistory { place });
     }
     let list = agreed_list(alloc, &a_votes, &b_votes)?;
-    book_of_entries(alloc, sheet.innings(), list.as_slice())
+    match book_of_entries(alloc, sheet.innings(), list.as_slice()) {
+        Ok(book) => Ok(BothBook {
+            book,
+            a: a_votes,
+            b: b_votes,
+        }),
+        Err(why) => Err(why),
+    }
 }

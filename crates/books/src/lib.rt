@@ -14,7 +14,7 @@ mod seats;
 mod source;
 mod table;
 
-pub use both::{agreed_list, book_of_both, open_both};
+pub use both::{BothBook, agreed_list, book_of_both, open_both};
 pub use card::print_card;
 pub use compare::{Comparison, Difference, compare_files, print_comparison};
 pub use desk_votes::DeskVotes;

@@ -6,16 +6,17 @@ ghost use Rattle.streams.specs.Watched.{stream_of};
 ghost use Rattle.toml.specs.View.{table_view};
 ghost use Rattle.books.specs.BothFiles.{IsBookOfBoth};
 ghost use Rattle.commands.specs.BothFiles.{IsOfReading, PrintsCardOfBoth, PrintsExportOfBoth, WhyNotBoth};
+ghost use Rattle.commands.specs.Ends.{HavePlaces};
 ghost use Rattle.setup.specs.Ends.{EndsReading, EndsWriting};
 
 use crate::export_command::{print_text, sheet_and_document};
-use crate::whole_files::WholeFiles;
+use crate::file_ends::{places_of, tell_ends};
 use agree_core::DeskId;
 use books::{BothFault, book_of_both, print_card};
 use cards::MatchSheet;
 use corrections::CheckedBook;
 use export::text_of;
-use setup::{StopFault, Stopped, output, short_sheet_at};
+use setup::{StopFault, Stopped, open_input, output, short_sheet_at};
 use std::alloc::{AllocError, Global};
 use streams::{Feed, InputFault, Sink, Watched, read_all};
 use toml::Table;
@@ -130,17 +131,27 @@ pub fn read_both<R: Feed>(
     Ok((first, second))
 }
 
-/// The book of both files, each read to its end, A's first.
+/// The book of both files, and how many places each of them has, A's first.
+#[derive(Drop)]
+pub struct PlacedBook {
+    pub book: CheckedBook,
+    pub places: (u32, u32),
+}
+
+/// The book of both files, each read to its end, A's first. Each file's votes are read once.
 pub fn book_of_readers<R: Feed>(
     alloc: Global,
     sheet: &MatchSheet,
     a: &mut Watched<R>,
     b: &mut Watched<R>,
-) -> Result<CheckedBook, BothPrintFault>
-    ensures book { IfOk result (λ book. IfSome (R.remaining (stream_of a.old)) (λ first.
+) -> Result<PlacedBook, BothPrintFault>
+    ensures book { IfOk result (λ placed. IfSome (R.remaining (stream_of a.old)) (λ first.
         IfSome (R.remaining (stream_of b.old)) (λ second.
-        IsBookOfBoth sheet.now first second book.entries))) }
-    ensures same_match { IfOk result (λ book. book.innings_a_side ≡ sheet.now.innings) }
+        IsBookOfBoth sheet.now first second placed.book.entries))) }
+    ensures places { IfOk result (λ placed. IfSome (R.remaining (stream_of a.old)) (λ first.
+        IfSome (R.remaining (stream_of b.old)) (λ second.
+        HavePlaces sheet.now.game first second placed.places.0 placed.places.1))) }
+    ensures same_match { IfOk result (λ placed. placed.book.innings_a_side ≡ sheet.now.innings) }
     ensures why { IfErr result (λ fault. IfSome (R.remaining (stream_of a.old)) (λ first.
         IfSome (R.remaining (stream_of b.old)) (λ second. WhyNotBoth sheet.now first second fault))) }
     ensures read_first { EndsReading R.remaining (BothPrintFault.Read A) result a.old a.new }
@@ -148,31 +159,38 @@ pub fn book_of_readers<R: Feed>(
     ensures unwritten { IfErr result (λ fault. fault ≢ BothPrintFault.Write) }
 {
     let (first, second) = read_both(alloc, a, b)?;
-    Ok(book_of_both(alloc, sheet, first.as_slice(), second.as_slice())?)
+    let both = book_of_both(alloc, sheet, first.as_slice(), second.as_slice())?;
+    let places = (places_of(&both.a), places_of(&both.b));
+    Ok(PlacedBook {
+        book: both.book,
+        places,
+    })
 }
 
 /// `ground card` of both files: reads both desks' votes files to the end, and prints both cards of each innings of the
 /// agreed list of their votes, the last entry too, and then its page. Where a file is refused, the votes aren't of one
-/// history, or the agreed list is no legal book, nothing is written.
+/// history, or the agreed list is no legal book, nothing is written. It answers how many places each file has.
 pub fn card_both_run<R: Feed, W: Sink>(
     alloc: Global,
     sheet: &MatchSheet,
     a: &mut Watched<R>,
     b: &mut Watched<R>,
     writer: &mut Watched<W>,
-) -> Result<(), BothPrintFault>
+) -> Result<(u32, u32), BothPrintFault>
     ensures written { OnOk result (IfSome (R.remaining (stream_of a.old)) (λ first.
         IfSome (R.remaining (stream_of b.old)) (λ second.
         PrintsCardOfBoth W.contents writer.old writer.new sheet.now first second))) }
+    ensures places { IfOk result (λ places. IfSome (R.remaining (stream_of a.old)) (λ first.
+        IfSome (R.remaining (stream_of b.old)) (λ second. HavePlaces sheet.now.game first second places.0 places.1))) }
     ensures why { IfErr result (λ fault. IfSome (R.remaining (stream_of a.old)) (λ first.
         IfSome (R.remaining (stream_of b.old)) (λ second. WhyNotBoth sheet.now first second fault))) }
     ensures read_first { EndsReading R.remaining (BothPrintFault.Read A) result a.old a.new }
     ensures read_second { EndsReading R.remaining (BothPrintFault.Read B) result b.old b.new }
     ensures writes { EndsWriting W.calls BothPrintFault.Write result writer.old writer.new }
 {
-    let book = book_of_readers(alloc, sheet, a, b)?;
-    match print_card(sheet, &book, writer) {
-        Ok(()) => Ok(()),
+    let placed = book_of_readers(alloc, sheet, a, b)?;
+    match print_card(sheet, &placed.book, writer) {
+        Ok(()) => Ok(placed.places),
         Err(_) => Err(BothPrintFault::Write),
     }
 }
@@ -186,20 +204,22 @@ pub fn export_both_run<R: Feed, W: Sink>(
     a: &mut Watched<R>,
     b: &mut Watched<R>,
     writer: &mut Watched<W>,
-) -> Result<(), BothPrintFault>
+) -> Result<(u32, u32), BothPrintFault>
     ensures written { OnOk result (IfSome (R.remaining (stream_of a.old)) (λ first.
         IfSome (R.remaining (stream_of b.old)) (λ second.
         PrintsExportOfBoth W.contents writer.old writer.new sheet.now first second (table_view document.now)))) }
+    ensures places { IfOk result (λ places. IfSome (R.remaining (stream_of a.old)) (λ first.
+        IfSome (R.remaining (stream_of b.old)) (λ second. HavePlaces sheet.now.game first second places.0 places.1))) }
     ensures why { IfErr result (λ fault. IfSome (R.remaining (stream_of a.old)) (λ first.
         IfSome (R.remaining (stream_of b.old)) (λ second. WhyNotBoth sheet.now first second fault))) }
     ensures read_first { EndsReading R.remaining (BothPrintFault.Read A) result a.old a.new }
     ensures read_second { EndsReading R.remaining (BothPrintFault.Read B) result b.old b.new }
     ensures writes { EndsWriting W.calls BothPrintFault.Write result writer.old writer.new }
 {
-    let book = book_of_readers(alloc, sheet, a, b)?;
-    let text = text_of(alloc, sheet, document, &book)?;
+    let placed = book_of_readers(alloc, sheet, a, b)?;
+    let text = text_of(alloc, sheet, document, &placed.book)?;
     match print_text(text.as_str(), writer) {
-        Ok(()) => Ok(()),
+        Ok(()) => Ok(placed.places),
         Err(_) => Err(BothPrintFault::Write),
     }
 }
@@ -219,17 +239,18 @@ pub fn start_card_of_both<'a>(
     b: &'a str,
 ) -> Result<bool, Stopped<'a>> {
     let sheet = short_sheet_at(rt, sheet)?;
-    let files = WholeFiles::at(rt, sheet.game(), a, b)?;
+    let mut first = open_input(rt, a)?;
+    let mut second = open_input(rt, b)?;
     let mut writer = output(rt)?;
     match card_both_run(
         rt.alloc(),
         &sheet,
-        &mut files.first(),
-        &mut files.second(),
+        &mut first,
+        &mut second,
         &mut writer,
     ) {
-        Ok(()) => {
-            files.tell_ends(rt);
+        Ok(places) => {
+            tell_ends(rt, a, b, places);
             Ok(false)
         }
         Err(fault) => Err(stopped_at(fault, a, b)),
@@ -245,18 +266,19 @@ pub fn start_export_of_both<'a>(
     b: &'a str,
 ) -> Result<bool, Stopped<'a>> {
     let (sheet, document) = sheet_and_document(rt, sheet)?;
-    let files = WholeFiles::at(rt, sheet.game(), a, b)?;
+    let mut first = open_input(rt, a)?;
+    let mut second = open_input(rt, b)?;
     let mut writer = output(rt)?;
     match export_both_run(
         rt.alloc(),
         &sheet,
         &document,
-        &mut files.first(),
-        &mut files.second(),
+        &mut first,
+        &mut second,
         &mut writer,
     ) {
-        Ok(()) => {
-            files.tell_ends(rt);
+        Ok(places) => {
+            tell_ends(rt, a, b, places);
             Ok(false)
         }
         Err(fault) => Err(stopped_at(fault, a, b)),

@@ -6,12 +6,12 @@ mod both_files;
 mod card;
 mod compare_command;
 mod export_command;
+mod file_ends;
 mod lines_command;
 mod page_command;
 mod printing;
 mod rows_command;
 mod sheet_command;
-mod whole_files;
 
 pub use crate::both_files::{
     BothPrintFault, card_both_run, export_both_run, start_card_of_both, start_export_of_both,

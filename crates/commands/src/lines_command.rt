@@ -5,6 +5,7 @@ ghost use Rattle.notation.specs.Written.{IsEntry};
 ghost use Rattle.agree_core.specs.declared.messages.DeskId.TheVariants.{A, B};
 ghost use Rattle.streams.specs.Watched.{IsHandedOn, Prints, TellsFailure, stream_of};
 ghost use Rattle.commands.specs.BothFiles.{WhyNotBoth};
+ghost use Rattle.commands.specs.Ends.{HavePlaces};
 ghost use Rattle.commands.specs.Lines as texts;
 ghost use Rattle.commands.specs.Lines.{AreReadAgain, PrintsLines, PrintsLinesOfBoth};
 ghost use Rattle.commands.specs.PrintFault.{WhyNotPrinted};
@@ -12,7 +13,7 @@ ghost use Rattle.setup.specs.Ends.{EndsReading, EndsWriting};
 
 use crate::both_files::{BothPrintFault, book_of_readers, stopped_at};
 use crate::printing::PrintFault;
-use crate::whole_files::WholeFiles;
+use crate::file_ends::tell_ends;
 use books::{Source, book_from};
 use cards::MatchSheet;
 use corrections::BookOf;
@@ -87,19 +88,21 @@ pub fn lines_both_run<R: Feed, W: Sink>(
     a: &mut Watched<R>,
     b: &mut Watched<R>,
     writer: &mut Watched<W>,
-) -> Result<(), BothPrintFault>
+) -> Result<(u32, u32), BothPrintFault>
     ensures written { OnOk result (IfSome (R.remaining (stream_of a.old)) (λ first.
         IfSome (R.remaining (stream_of b.old)) (λ second.
         PrintsLinesOfBoth W.contents writer.old writer.new sheet.now first second))) }
+    ensures places { IfOk result (λ places. IfSome (R.remaining (stream_of a.old)) (λ first.
+        IfSome (R.remaining (stream_of b.old)) (λ second. HavePlaces sheet.now.game first second places.0 places.1))) }
     ensures why { IfErr result (λ fault. IfSome (R.remaining (stream_of a.old)) (λ first.
         IfSome (R.remaining (stream_of b.old)) (λ second. WhyNotBoth sheet.now first second fault))) }
     ensures read_first { EndsReading R.remaining (BothPrintFault.Read A) result a.old a.new }
     ensures read_second { EndsReading R.remaining (BothPrintFault.Read B) result b.old b.new }
     ensures writes { EndsWriting W.calls BothPrintFault.Write result writer.old writer.new }
 {
-    let book = book_of_readers(alloc, sheet, a, b)?;
-    match print_lines(&book, writer) {
-        Ok(()) => Ok(()),
+    let placed = book_of_readers(alloc, sheet, a, b)?;
+    match print_lines(&placed.book, writer) {
+        Ok(()) => Ok(placed.places),
         Err(_) => Err(BothPrintFault::Write),
     }
 }
@@ -130,17 +133,18 @@ pub fn start_lines_of_both<'a>(
     b: &'a str,
 ) -> Result<bool, Stopped<'a>> {
     let sheet = short_sheet_at(rt, sheet)?;
-    let files = WholeFiles::at(rt, sheet.game(), a, b)?;
+    let mut first = open_input(rt, a)?;
+    let mut second = open_input(rt, b)?;
     let mut writer = output(rt)?;
     match lines_both_run(
         rt.alloc(),
         &sheet,
-        &mut files.first(),
-        &mut files.second(),
+        &mut first,
+        &mut second,
         &mut writer,
     ) {
-        Ok(()) => {
-            files.tell_ends(rt);
+        Ok(places) => {
+            tell_ends(rt, a, b, places);
             Ok(false)
         }
         Err(fault) => Err(stopped_at(fault, a, b)),

@@ -5,6 +5,7 @@ ghost use Rattle.agree_core.specs.declared.messages.DeskId.TheVariants.{A, B};
 ghost use Rattle.streams.specs.Watched.{IsHandedOn, Prints, TellsFailure, stream_of};
 ghost use Rattle.toml.specs.View.{table_view};
 ghost use Rattle.commands.specs.BothFiles.{WhyNotBoth};
+ghost use Rattle.commands.specs.Ends.{HavePlaces};
 ghost use Rattle.commands.specs.PrintFault.{WhyNotPrinted};
 ghost use Rattle.commands.specs.Rows.{PrintsRows, PrintsRowsOfBoth};
 ghost use Rattle.setup.specs.Ends.{EndsReading, EndsWriting};
@@ -12,7 +13,7 @@ ghost use Rattle.setup.specs.Ends.{EndsReading, EndsWriting};
 use crate::both_files::{BothPrintFault, book_of_readers, stopped_at};
 use crate::export_command::sheet_and_document;
 use crate::printing::PrintFault;
-use crate::whole_files::WholeFiles;
+use crate::file_ends::tell_ends;
 use books::{Source, book_from};
 use cards::MatchSheet;
 use delivery_rows::{Table, table_of};
@@ -67,20 +68,22 @@ pub fn rows_both_run<R: Feed, W: Sink>(
     a: &mut Watched<R>,
     b: &mut Watched<R>,
     writer: &mut Watched<W>,
-) -> Result<(), BothPrintFault>
+) -> Result<(u32, u32), BothPrintFault>
     ensures written { OnOk result (IfSome (R.remaining (stream_of a.old)) (λ first.
         IfSome (R.remaining (stream_of b.old)) (λ second.
         PrintsRowsOfBoth W.contents writer.old writer.new table sheet.now (table_view document.now) first second))) }
+    ensures places { IfOk result (λ places. IfSome (R.remaining (stream_of a.old)) (λ first.
+        IfSome (R.remaining (stream_of b.old)) (λ second. HavePlaces sheet.now.game first second places.0 places.1))) }
     ensures why { IfErr result (λ fault. IfSome (R.remaining (stream_of a.old)) (λ first.
         IfSome (R.remaining (stream_of b.old)) (λ second. WhyNotBoth sheet.now first second fault))) }
     ensures read_first { EndsReading R.remaining (BothPrintFault.Read A) result a.old a.new }
     ensures read_second { EndsReading R.remaining (BothPrintFault.Read B) result b.old b.new }
     ensures writes { EndsWriting W.calls BothPrintFault.Write result writer.old writer.new }
 {
-    let book = book_of_readers(alloc, sheet, a, b)?;
-    let text = table_of(alloc, table, sheet, document, &book)?;
+    let placed = book_of_readers(alloc, sheet, a, b)?;
+    let text = table_of(alloc, table, sheet, document, &placed.book)?;
     match print_rows(text.as_str(), writer) {
-        Ok(()) => Ok(()),
+        Ok(()) => Ok(placed.places),
         Err(_) => Err(BothPrintFault::Write),
     }
 }
@@ -121,19 +124,20 @@ pub fn start_rows_of_both<'a>(
     b: &'a str,
 ) -> Result<bool, Stopped<'a>> {
     let (sheet, document) = sheet_and_document(rt, sheet)?;
-    let files = WholeFiles::at(rt, sheet.game(), a, b)?;
+    let mut first = open_input(rt, a)?;
+    let mut second = open_input(rt, b)?;
     let mut writer = output(rt)?;
     match rows_both_run(
         rt.alloc(),
         table,
         &sheet,
         &document,
-        &mut files.first(),
-        &mut files.second(),
+        &mut first,
+        &mut second,
         &mut writer,
     ) {
-        Ok(()) => {
-            files.tell_ends(rt);
+        Ok(places) => {
+            tell_ends(rt, a, b, places);
             Ok(false)
         }
         Err(fault) => Err(stopped_at(fault, a, b)),

@@ -9,7 +9,7 @@ use cards::MatchSheet;
 use corrections::CheckedBook;
 use desk::restore::Restoring;
 use entry_log::Slots;
-use machine_files::{FileDisk, LastFault, NoFile};
+use machine_files::{Cause, FileDisk, LastFault, Name, NoFile, WriteFault, is_same_file};
 use setup::{
     CopiedDisk, Kept, StopFault, Stopped, VotesDisk, compared, empty_disk, kept_votes, paired_disk,
     renewed_disk, tell_copies,
@@ -98,8 +98,20 @@ fn kept_at<'r, 'a>(
     })
 }
 
-/// A disk on both files of the desk's votes, of which the one that has more counts. Where one of them is refused, or neither
-/// has all votes of the other, both stay as they were.
+/// Asks that the copy isn't the file itself, which is there.
+fn expect_two<'a>(rt: &HostRuntime, file: &str, copy: &'a str) -> Result<(), Stopped<'a>> {
+    if !is_same_file(rt, file, copy) {
+        return Ok(());
+    }
+    let fault = WriteFault {
+        name: Name::Own,
+        why: Cause::Itself,
+    };
+    Err(Stopped::at(copy, StopFault::File(fault)))
+}
+
+/// A disk on both files of the desk's votes, of which the one that has more counts. Where one of them is refused, both are one,
+/// or neither has all votes of the other, both stay as they were.
 fn copied_disk_at<'r, 'a>(
     rt: &'r HostRuntime,
     sheet: &MatchSheet,
@@ -111,6 +123,7 @@ fn copied_disk_at<'r, 'a>(
     ensures { IfOk result (λ pair. AreOnFiles file.now copy.now pair) }
 {
     let first = kept_at(rt, sheet, desk, file, &lasts[0])?;
+    expect_two(rt, file, copy)?;
     let second = kept_at(rt, sheet, desk, copy, &lasts[1])?;
     let counting = compared(first.bytes.as_slice(), second.bytes.as_slice());
     let _ = tell_copies(&mut rt.stderr(), &first, &second, counting);

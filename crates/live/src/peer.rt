@@ -9,7 +9,7 @@ ghost use Rattle.live.specs.Signs.{IsSign};
 
 use crate::hearing::position_of;
 use agree_core::{Asker, DeskId, Heard, Message, Position};
-use waits::REMINDER_WAIT;
+use waits::{LONGEST_REPEAT_WAIT, REMINDER_WAIT};
 use wire::{What, WireFault};
 
 /// A desk as one who asks.
@@ -47,10 +47,13 @@ fn sender_of(message: &Message) -> Asker
 pub struct Peer {
     /// The letter of this desk.
     own: DeskId,
-    /// When a vote or an ask of the other desk for this desk's position came last; at first when the process began.
+    /// When a vote or an ask of the other desk for this desk's position came last; at first when the process began. Here, and
+    /// of what was noted, time in which the desk was held itself isn't counted.
     heard: u64,
     /// When the other's vote that was noted last came.
     noted: u64,
+    /// What the clock showed when it was looked at last.
+    looked: u64,
 }
 
 impl Peer {
@@ -60,7 +63,24 @@ impl Peer {
             own,
             heard: now,
             noted: now,
+            looked: now,
         }
+    }
+
+    /// The clock shows this, once a turn. A turn waits half a second at most: for what is longer the desk was held itself, as by
+    /// a slow disk. It could hear nobody then, so that time doesn't count.
+    pub fn pass(&mut self, now: u64)
+        ensures heard { self.new.heard ≡ signs.counted_from self.old.heard self.old.looked now }
+        ensures noted { self.new.noted ≡ signs.counted_from self.old.noted self.old.looked now }
+        ensures looked { self.new.looked ≡ now }
+        ensures own { self.new.own ≡ self.old.own }
+    {
+        let held = now
+            .saturating_sub(self.looked)
+            .saturating_sub(LONGEST_REPEAT_WAIT);
+        self.heard = now.min(self.heard.saturating_add(held));
+        self.noted = now.min(self.noted.saturating_add(held));
+        self.looked = now;
     }
 
     /// This came while the desk was at this position, and this was answered. Only a sign of the other desk has it heard:

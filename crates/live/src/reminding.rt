@@ -106,7 +106,7 @@ fn remind_of_silence<S: SlotsOf, B: BookOf + Drop, W: Sink>(
     Ok(())
 }
 
-/// Tells the scorer what is due of the other desk.
+/// Tells the scorer what is due of the other desk. Time in which this desk was held itself isn't counted.
 pub fn remind<S: SlotsOf, B: BookOf + Drop, W: Sink>(
     desk: &Desk<S, B>,
     out: &mut Watched<W>,
@@ -121,6 +121,7 @@ pub fn remind<S: SlotsOf, B: BookOf + Drop, W: Sink>(
     ensures pace { between.new.pace ≡ between.old.pace }
     ensures failed { result ≡ Err DeskEnd.Write → has_failed out.new ≡ true }
 {
+    between.peer.pass(now);
     remind_of_writing(desk, out, between, now)?;
     remind_of_silence(desk, out, between, now)
 }

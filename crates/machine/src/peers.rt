@@ -117,7 +117,7 @@ struct Mail<E> {
     /// What the match's datagrams are sealed with.
     seal: Seal,
     errors: E,
-    /// Of which peers it was told that nothing can be sent to them.
+    /// To which peers the machine sends nothing now, as it was told.
     refused: [bool; MOST_PEERS],
     /// Whether it was told of a datagram of the match that came from no peer.
     is_stranger_told: bool,
@@ -129,14 +129,23 @@ impl<E: Write + Drop> Mail<E> {
         self.peers.iter().any(|peer| *peer == Some(from))
     }
 
-    /// Sends bytes to a peer. That the machine refuses it is told once.
-    fn send_to(&mut self, bytes: &SealedBytes, address: SocketAddr, is_told: bool) -> bool {
+    /// Sends bytes to a peer. That the machine refuses it is told where it begins to, and so is that it sends again. It
+    /// answers whether it is refused now; what was held up for a moment says nothing.
+    fn send_to(&mut self, bytes: &SealedBytes, address: SocketAddr, is_refused: bool) -> bool {
         match self.port.send(bytes.as_slice(), address) {
-            Err(error) if !is_told && is_refusal(&error) => {
-                let _ = writeln!(self.errors, "cannot send to {address}");
+            Ok(_) => {
+                if is_refused {
+                    let _ = writeln!(self.errors, "can send to {address} again");
+                }
+                false
+            }
+            Err(error) if is_refusal(&error) => {
+                if !is_refused {
+                    let _ = writeln!(self.errors, "cannot send to {address}");
+                }
                 true
             }
-            _ => is_told,
+            Err(_) => is_refused,
         }
     }
 
@@ -196,8 +205,8 @@ impl<E: Write + Drop> Mail<E> {
     }
 }
 
-/// A socket at an address, which sends to its peers and takes what they sent. Standard error is told once of each
-/// peer to which the machine sends nothing, and once of a datagram of the match that comes from elsewhere.
+/// A socket at an address, which sends to its peers and takes what they sent. Standard error is told of each peer to
+/// which the machine begins to send nothing, or sends again, and once of a datagram of the match that comes from elsewhere.
 pub struct Peers<E> {
     mail: Mail<E>,
     log: CarriedLog,

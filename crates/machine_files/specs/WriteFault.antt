@@ -2,7 +2,7 @@
 use Rattle.std.specs.Prelude.{ℕ, List, [], codes}
 use Rattle.machine_files.specs.declared.write_fault.{Name.Name, Cause.Cause}
 use Rattle.machine_files.specs.declared.write_fault.Name.TheVariants.{Own, Unfinished, New}
-use Rattle.machine_files.specs.declared.write_fault.Cause.TheVariants.{InUse, NoSpace, Limit, NoLock, NotAllowed, ReadOnly, NoFolder, LongName, Link, NotAFile, There, Sheet, Key, Votes, Other, Both, Lost, Device, NoMemory, System}
+use Rattle.machine_files.specs.declared.write_fault.Cause.TheVariants.{InUse, NoSpace, Limit, NoLock, NotAllowed, ReadOnly, NoFolder, LongName, Link, NotAFile, There, Sheet, Key, Votes, Other, Both, Itself, Lost, Device, NoMemory, System}
 
 -- what stands behind the file's own name
 abbrev pub ending_of : Name → List ℕ
@@ -27,6 +27,7 @@ words_of Key = codes "is the key"
 words_of Votes = codes "is a votes file"
 words_of Other = codes "is something else's: take another name"
 words_of Both = codes "is another file of this board"
+words_of Itself = codes "is the votes file itself, and no copy of it"
 words_of Lost = codes "isn't as it was left"
 words_of Device = codes "the disk fails"
 words_of NoMemory = codes "no memory"

@@ -25,7 +25,7 @@ pub struct NamedFile<'a> {
     beside: Option<String>,
     /// The file whose name it takes, which stays locked.
     before: Option<File>,
-    /// Its device, and its number there: they stay while it is open.
+    /// Its device, and its number there when it was opened.
     known: (u64, u64),
     /// How long it was left, where that is known.
     len: Option<u64>,
@@ -65,10 +65,17 @@ fn known_of(file: &File) -> Result<(u64, u64), Cause> {
     Ok((open.dev(), open.ino()))
 }
 
-/// Asks that this is the name of the file of this device and number, and tells what is known of it.
-fn named(rt: &HostRuntime, name: &str, known: (u64, u64)) -> Result<Metadata, Cause> {
+/// Asks that this is the name of an open file, and tells what is known of it. Some file systems give a file another number
+/// while it is open, as when it is renamed: so one that isn't the known number is asked of the open file again.
+fn named(
+    rt: &HostRuntime,
+    name: &str,
+    file: &File,
+    known: (u64, u64),
+) -> Result<Metadata, Cause> {
     let found = found(rt, name)?;
-    if (found.dev(), found.ino()) == known {
+    let number = (found.dev(), found.ino());
+    if number == known || number == known_of(file)? {
         Ok(found)
     } else {
         Err(Cause::Lost)
@@ -98,7 +105,7 @@ fn cause_of_lock(why: TryLockError) -> Cause {
 /// Locks a file for this process, and then asks that this is its name. A file that another process has is left alone.
 fn locked(rt: &HostRuntime, name: &str, file: File) -> Result<File, Cause> {
     file.try_lock().map_err(cause_of_lock)?;
-    let _found = named(rt, name, known_of(&file)?)?;
+    let _found = named(rt, name, &file, known_of(&file)?)?;
     Ok(file)
 }
 
@@ -248,7 +255,7 @@ impl<'a> NamedFile<'a> {
             Some(beside) => beside,
             None => &self.name,
         };
-        let found = named(self.rt, name.as_str(), self.known)?;
+        let found = named(self.rt, name.as_str(), &self.file, self.known)?;
         match self.len {
             Some(len) if found.len() != len => Err(Cause::Lost),
             _ => Ok(()),
@@ -296,8 +303,8 @@ impl<'a> NamedFile<'a> {
             return Err(Cause::System);
         };
         let whole = fs::canonicalize(self.rt, self.name.as_str()).map_err(|_| Cause::Lost)?;
-        let _found = named(self.rt, whole.as_str(), known_of(before)?)?;
-        let _found = named(self.rt, beside.as_str(), self.known)?;
+        let _found = named(self.rt, whole.as_str(), before, known_of(before)?)?;
+        let _found = named(self.rt, beside.as_str(), &self.file, self.known)?;
         fs::rename(self.rt, beside.as_str(), whole.as_str()).map_err(|why| cause_of(&why))?;
         self.beside = None;
         sync_folder(self.rt, whole.as_str()).map_err(|why| cause_of(&why))?;
@@ -344,7 +351,7 @@ impl<'a> NamedFile<'a> {
     /// Lets it go. Where it didn't take its name, it is removed.
     pub fn give_up(self) {
         if let Some(beside) = &self.beside {
-            if named(self.rt, beside.as_str(), self.known).is_ok() {
+            if named(self.rt, beside.as_str(), &self.file, self.known).is_ok() {
                 let _ = fs::remove_file(self.rt, beside.as_str());
             }
         }

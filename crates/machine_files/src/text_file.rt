@@ -9,9 +9,9 @@ use crate::file_limit::may_have;
 use crate::write_fault::{Cause, Name, WriteFault, cause_of};
 use front::{Front, front_of};
 use std::alloc::AllocError;
-use std::fs::{self, File, Metadata, TryLockError};
+use std::fs::{self, File, Metadata, OpenOptions, TryLockError};
 use std::io::{self, ErrorKind, Write};
-use std::os::unix::fs::MetadataExt;
+use std::os::unix::fs::{MetadataExt, OpenOptionsExt};
 use std::path::Path;
 
 /// What a text is put into. Nothing is known of what it holds, only of what it was given.
@@ -236,12 +236,17 @@ impl<'a> TextFile<'a> {
         fs::remove_file(self.rt, self.beside.as_str()).map_err(|why| cause_of(&why))
     }
 
-    /// Writes a text to a new file beside it. Where that fails the new file is taken away again.
+    /// Writes a text to a new file beside it, which its owner alone may write, and others read as far as the umask lets them.
+    /// Where that fails the new file is taken away again.
     fn write(&self, text: &[u8]) -> Result<(), Cause> {
         if !may_have(text.len() as u64) {
             return Err(Cause::Limit);
         }
-        let made = File::create_new(self.rt, self.beside.as_str());
+        let made = OpenOptions::new()
+            .write(true)
+            .create_new(true)
+            .mode(0o644)
+            .open(self.rt, self.beside.as_str());
         let mut file = made.map_err(|why| cause_of(&why))?;
         match file.write_all(text) {
             Ok(()) => Ok(()),

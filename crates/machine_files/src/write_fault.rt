@@ -48,6 +48,8 @@ pub enum Cause {
     Other,
     /// Two of a board's files would be one.
     Both,
+    /// A desk's votes file stands there, which is to be copied.
+    Itself,
     /// It was moved, deleted or replaced, or is shorter or longer than it was left.
     Lost,
     /// The disk fails.
@@ -118,6 +120,7 @@ impl Cause {
             Cause::Votes => "is a votes file",
             Cause::Other => "is something else's: take another name",
             Cause::Both => "is another file of this board",
+            Cause::Itself => "is the votes file itself, and no copy of it",
             Cause::Lost => "isn't as it was left",
             Cause::Device => "the disk fails",
             Cause::NoMemory => "no memory",

@@ -60,6 +60,14 @@ pub fn tell_copies<W: Write>(
     }
 }
 
+/// Why the copy of a file that counts can't be written: a desk can go on without it.
+fn of_copy(stopped: Stopped<'_>) -> Stopped<'_> {
+    match stopped.fault {
+        StopFault::File(why) => Stopped::at(stopped.path, StopFault::CopyLost(why)),
+        _ => stopped,
+    }
+}
+
 /// A disk on both files, which are written anew with the bytes that count, the one that has them first. Where neither file
 /// counts, both stay as they were.
 pub fn paired_disk<'r, 'a>(
@@ -90,7 +98,7 @@ pub fn paired_disk<'r, 'a>(
     match counting {
         Counting::First { .. } => {
             let one = renewed_disk(rt, path, file, bytes, last)?;
-            let other = renewed_disk(rt, copys_path, copy, bytes, copys_last)?;
+            let other = renewed_disk(rt, copys_path, copy, bytes, copys_last).map_err(of_copy)?;
             Ok(Pair::new(one, other))
         }
         Counting::Second { .. } => {

@@ -1,4 +1,4 @@
--- What is wrong with a sheet's table `[stations]`, key by key.
+-- What is wrong with a sheet's table `[stations]`, key by key, and what stands twice there.
 use Rattle.std.specs.Prelude.{ℕ, ◌||◌, nat_le, ◌&&◌, Bool, true, if◌then◌else◌, List, [], ◌∷◌, ◌++◌, Option, Some, None, is_some, codes, bytes_eq}
 use Rattle.toml.specs.Data.{Data, Items, no_items, item, Members, no_members, member, get_member, as_str, as_array, as_table}
 use Rattle.cards.specs.Reading.{count_of}
@@ -6,12 +6,17 @@ use Rattle.cards.specs.Sheet.{least_columns, most_columns}
 use Rattle.cards.specs.declared.fault.SheetFault.TheVariants.{WrongKind}
 use Rattle.sheet_check.specs.Faults.{Fault, at, number_at, unless}
 use Rattle.sheet_check.specs.Letters.{quoted}
+use Rattle.sheet_check.specs.Twice.{twice_faults}
 
--- the keys whose values are texts: both desks' addresses, and the files of the key, of the votes and of their copy
+-- the copies of the votes: of either desk, of a and of b
+abbrev pub is_copy_key : List ℕ → Bool
+is_copy_key key = (bytes_eq key (codes "copy") || bytes_eq key (codes "copy_a")) || bytes_eq key (codes "copy_b")
+
+-- the keys whose values are texts: both desks' addresses, and the files of the key, of the votes and of their copies
 abbrev pub is_text_key : List ℕ → Bool
 is_text_key key =
     (((bytes_eq key (codes "a") || bytes_eq key (codes "b")) || bytes_eq key (codes "key")) || bytes_eq key (codes "votes"))
-    || bytes_eq key (codes "copy")
+    || is_copy_key key
 
 -- the place of a key
 abbrev pub place : List ℕ → List ℕ
@@ -43,7 +48,7 @@ key_faults key d =
     if bytes_eq key (codes "boards") then boards_faults (as_array d)
     else if bytes_eq key (codes "columns") then columns_faults d
     else if is_text_key key then text_key_faults key (as_str d)
-    else at WrongKind (codes "stations") (quoted key ++ codes " isn't one of a, b, boards, key, votes, copy, columns") ∷ []
+    else at WrongKind (codes "stations") (quoted key ++ codes " isn't one of a, b, boards, key, votes, copy, copy_a, copy_b, columns") ∷ []
 
 abbrev pub members_faults : Members → List Fault
 members_faults no_members = []
@@ -51,7 +56,7 @@ members_faults (member key d ms) = key_faults key d ++ members_faults ms
 
 abbrev pub table_faults : Option Members → List Fault
 table_faults None = at WrongKind (codes "stations") (codes "isn't a table") ∷ []
-table_faults (Some ms) = members_faults ms
+table_faults (Some ms) = members_faults ms ++ twice_faults ms
 
 abbrev pub stations_at : Option Data → List Fault
 stations_at None = []

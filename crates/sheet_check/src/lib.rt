@@ -10,6 +10,7 @@ mod report;
 mod shown;
 mod sides;
 mod stations;
+mod twice;
 
 pub use laws::{fine_sheets_have_no_fault, first_fault_is_the_number};
 pub use putting::Fault;

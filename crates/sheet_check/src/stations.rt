@@ -11,6 +11,7 @@ use crate::faults::{put_number, value_in};
 use crate::letters::push_quoted;
 use crate::putting::{Fault, joined, put_kind, put_unless};
 use crate::sides::count_of;
+use crate::twice::put_all_twice;
 use cards::SheetFault;
 use std::alloc::{AllocError, Global};
 use toml::{Table, Value};
@@ -18,11 +19,18 @@ use toml::{Table, Value};
 /// How many boards a desk has at most.
 const MOST_BOARDS: usize = 4;
 
+/// Whether the value of a key is the name of a copy.
+fn is_copy_key(key: &str) -> bool
+    ensures { result ≡ stations.is_copy_key key.now }
+{
+    key == "copy" || key == "copy_a" || key == "copy_b"
+}
+
 /// Whether the value of a key is a text.
 fn is_text_key(key: &str) -> bool
     ensures { result ≡ stations.is_text_key key.now }
 {
-    key == "a" || key == "b" || key == "key" || key == "votes" || key == "copy"
+    key == "a" || key == "b" || key == "key" || key == "votes" || is_copy_key(key)
 }
 
 /// Puts that the value of a key is no text, if it isn't.
@@ -96,11 +104,11 @@ fn put_columns(alloc: Global, out: &mut Vec<Fault>, value: &Value) -> Result<(),
 /// What is told of a key that the table doesn't have.
 fn unknown_words(alloc: Global, key: &str) -> Result<String, AllocError>
     ensures { IfOk result (λ words. string_bytes words
-        ≡ letters.quoted key.now ++ codes " isn't one of a, b, boards, key, votes, copy, columns") }
+        ≡ letters.quoted key.now ++ codes " isn't one of a, b, boards, key, votes, copy, copy_a, copy_b, columns") }
 {
     let mut words = String::new(alloc);
     push_quoted(alloc, &mut words, key)?;
-    words.push_str(" isn't one of a, b, boards, key, votes, copy, columns")?;
+    words.push_str(" isn't one of a, b, boards, key, votes, copy, copy_a, copy_b, columns")?;
     Ok(words)
 }
 
@@ -131,6 +139,14 @@ fn put_members(alloc: Global, out: &mut Vec<Fault>, table: &Table) -> Result<(),
     Ok(())
 }
 
+/// Puts what is wrong with each key, and then what stands twice.
+fn put_table(alloc: Global, out: &mut Vec<Fault>, table: &Table) -> Result<(), AllocError>
+    ensures { Puts result out.old out.new (stations.table_faults (Some (table_view table.now))) }
+{
+    put_members(alloc, out, table)?;
+    put_all_twice(alloc, out, table)
+}
+
 /// Puts all that is wrong with the stations of a sheet's table.
 pub fn put_stations(alloc: Global, out: &mut Vec<Fault>, table: &Table) -> Result<(), AllocError>
     ensures { Puts result out.old out.new (stations.station_faults (table_view table.now)) }
@@ -139,7 +155,7 @@ pub fn put_stations(alloc: Global, out: &mut Vec<Fault>, table: &Table) -> Resul
         return Ok(());
     };
     match value.as_table() {
-        Some(stations) => put_members(alloc, out, stations),
+        Some(stations) => put_table(alloc, out, stations),
         None => put_kind(alloc, out, "stations", "isn't a table"),
     }
 }

@@ -26,7 +26,7 @@ pub record Desk : Type 0 where
   -- how wide its scorer's rows are
   pub columns : Option ℕ
 
--- the key of a desk's address, and of the other's; the file of its votes, where nothing else is named
+-- the key of a desk's address, of the other's, and of its copy; the file of its votes, where nothing else is named
 abbrev pub own : DeskId → List ℕ
 own A = codes "a"
 own B = codes "b"
@@ -34,6 +34,10 @@ own B = codes "b"
 abbrev pub others : DeskId → List ℕ
 others A = codes "b"
 others B = codes "a"
+
+abbrev pub own_copy : DeskId → List ℕ
+own_copy A = codes "copy_a"
+own_copy B = codes "copy_b"
 
 abbrev pub own_file : DeskId → List ℕ
 own_file A = codes "a.votes"
@@ -54,7 +58,7 @@ columns_or (Some columns) other = Some columns
 abbrev pub begun_with : DeskId → Desk → Members → Desk
 begun_with desk named ms = record {
   file = or_else named.file (or_else (text_in (codes "votes") ms) (Some (own_file desk)));
-  copy = or_else named.copy (text_in (codes "copy") ms);
+  copy = or_else named.copy (or_else (text_in (own_copy desk) ms) (text_in (codes "copy") ms));
   key = or_else named.key (text_in (codes "key") ms);
   at = or_else named.at (text_in (own desk) ms);
   other = or_else named.other (text_in (others desk) ms);

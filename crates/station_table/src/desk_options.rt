@@ -64,6 +64,16 @@ fn own_file(desk: DeskId) -> &'static str
     }
 }
 
+/// The key of its copy.
+fn own_copy(desk: DeskId) -> &'static str
+    ensures { result.now ≡ begun.own_copy desk }
+{
+    match desk {
+        DeskId::A => "copy_a",
+        DeskId::B => "copy_b",
+    }
+}
+
 /// The boards that are named, if one is, or else the table's.
 fn boards_or<'a>(named: BoardNames<'a>, sheet: &'a Table) -> BoardNames<'a>
     ensures { begun.boards_of result
@@ -85,9 +95,10 @@ pub fn desk_begun<'a>(desk: DeskId, named: DeskOptions<'a>, sheet: &'a Table) ->
     ensures { begun.desk_of result ≡ begun.begun_with desk (begun.desk_of named.entry) (table_view sheet.now) }
 {
     let file = or_else(text_in(sheet, "votes"), Some(own_file(desk)));
+    let copy = or_else(text_in(sheet, own_copy(desk)), text_in(sheet, "copy"));
     DeskOptions {
         file: or_else(named.file, file),
-        copy: or_else(named.copy, text_in(sheet, "copy")),
+        copy: or_else(named.copy, copy),
         key: or_else(named.key, text_in(sheet, "key")),
         at: or_else(named.at, text_in(sheet, own(desk))),
         other: or_else(named.other, text_in(sheet, others(desk))),

@@ -2,7 +2,7 @@ use Rattle.std.proofs.Common.{◌≡◌, ◌+◌, ◌-◌, length, sym, ap, ◌�
 use Rattle.vote_store.proofs.FileLemmas.{oldest-all}
 use Rattle.books.specs.DeskVotes.{read_votes}
 use Rattle.commands.specs.Ends.{places_of}
-use Rattle.commands.proofs.whole_files.places_of.Goals as goal
+use Rattle.commands.proofs.file_ends.places_of.Goals as goal
 
 pub returns : goal.returns
 returns c =
