@@ -109,7 +109,10 @@ fn board_of(rt: &HostRuntime, sheet: &MatchSheet) -> Result<Board<CheckedBook>, 
 }
 
 /// What a board tells of what it can't take, and what it remembers: nothing yet.
-fn watch_over<E: Sink + Drop>(rt: &HostRuntime, errors: E) -> Result<Watch<Notes<E>>, Stopped<'static>> {
+fn watch_over<E: Sink + Drop>(
+    rt: &HostRuntime,
+    errors: E,
+) -> Result<Watch<Notes<E>>, Stopped<'static>> {
     match Witness::new(rt.alloc()) {
         Ok(witness) => Ok(Watch {
             notices: Notes::new(errors),

@@ -242,13 +242,7 @@ pub fn start_card_of_both<'a>(
     let mut first = open_input(rt, a)?;
     let mut second = open_input(rt, b)?;
     let mut writer = output(rt)?;
-    match card_both_run(
-        rt.alloc(),
-        &sheet,
-        &mut first,
-        &mut second,
-        &mut writer,
-    ) {
+    match card_both_run(rt.alloc(), &sheet, &mut first, &mut second, &mut writer) {
         Ok(places) => {
             tell_ends(rt, a, b, places);
             Ok(false)

@@ -60,11 +60,5 @@ fn print_ends<W: Sink>(
 pub fn tell_ends(rt: &HostRuntime, a: &str, b: &str, places: (u32, u32)) {
     let mut errors = Watched::new(rt.stderr());
     let (a_places, b_places) = places;
-    let _ = print_ends(
-        &mut errors,
-        printable(a),
-        printable(b),
-        a_places,
-        b_places,
-    );
+    let _ = print_ends(&mut errors, printable(a), printable(b), a_places, b_places);
 }

@@ -12,8 +12,8 @@ ghost use Rattle.commands.specs.PrintFault.{WhyNotPrinted};
 ghost use Rattle.setup.specs.Ends.{EndsReading, EndsWriting};
 
 use crate::both_files::{BothPrintFault, book_of_readers, stopped_at};
-use crate::printing::PrintFault;
 use crate::file_ends::tell_ends;
+use crate::printing::PrintFault;
 use books::{Source, book_from};
 use cards::MatchSheet;
 use corrections::BookOf;
@@ -136,13 +136,7 @@ pub fn start_lines_of_both<'a>(
     let mut first = open_input(rt, a)?;
     let mut second = open_input(rt, b)?;
     let mut writer = output(rt)?;
-    match lines_both_run(
-        rt.alloc(),
-        &sheet,
-        &mut first,
-        &mut second,
-        &mut writer,
-    ) {
+    match lines_both_run(rt.alloc(), &sheet, &mut first, &mut second, &mut writer) {
         Ok(places) => {
             tell_ends(rt, a, b, places);
             Ok(false)

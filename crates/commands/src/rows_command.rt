@@ -12,8 +12,8 @@ ghost use Rattle.setup.specs.Ends.{EndsReading, EndsWriting};
 
 use crate::both_files::{BothPrintFault, book_of_readers, stopped_at};
 use crate::export_command::sheet_and_document;
-use crate::printing::PrintFault;
 use crate::file_ends::tell_ends;
+use crate::printing::PrintFault;
 use books::{Source, book_from};
 use cards::MatchSheet;
 use delivery_rows::{Table, table_of};

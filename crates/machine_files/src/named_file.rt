@@ -67,12 +67,7 @@ fn known_of(file: &File) -> Result<(u64, u64), Cause> {
 
 /// Asks that this is the name of an open file, and tells what is known of it. Some file systems give a file another number
 /// while it is open, as when it is renamed: so one that isn't the known number is asked of the open file again.
-fn named(
-    rt: &HostRuntime,
-    name: &str,
-    file: &File,
-    known: (u64, u64),
-) -> Result<Metadata, Cause> {
+fn named(rt: &HostRuntime, name: &str, file: &File, known: (u64, u64)) -> Result<Metadata, Cause> {
     let found = found(rt, name)?;
     let number = (found.dev(), found.ino());
     if number == known || number == known_of(file)? {

@@ -65,7 +65,14 @@ fn put_twice(
     };
     let told = told_of(alloc, text, words)?;
     let is_alone = !is_among(text, others);
-    put_unless(alloc, out, is_alone, SheetFault::BadText, place, told.as_str())
+    put_unless(
+        alloc,
+        out,
+        is_alone,
+        SheetFault::BadText,
+        place,
+        told.as_str(),
+    )
 }
 
 /// Puts which stations have one address.
@@ -84,7 +91,14 @@ fn put_addresses(alloc: Global, out: &mut Vec<Fault>, table: &Table) -> Result<(
     put_twice(alloc, out, place, words, first, &[a, b])?;
     put_twice(alloc, out, place, words, second, &[a, b, first])?;
     put_twice(alloc, out, place, words, third, &[a, b, first, second])?;
-    put_twice(alloc, out, place, words, fourth, &[a, b, first, second, third])
+    put_twice(
+        alloc,
+        out,
+        place,
+        words,
+        fourth,
+        &[a, b, first, second, third],
+    )
 }
 
 /// The votes file of a desk: the one that is named, or else its own.
@@ -111,7 +125,14 @@ fn put_copies(alloc: Global, out: &mut Vec<Fault>, table: &Table) -> Result<(), 
     let words = " is another of the desks' files";
     put_twice(alloc, out, "stations, copy", words, copy, &[a, b])?;
     put_twice(alloc, out, "stations, copy_a", words, first, &[a, b, copy])?;
-    put_twice(alloc, out, "stations, copy_b", words, second, &[a, b, copy, first])
+    put_twice(
+        alloc,
+        out,
+        "stations, copy_b",
+        words,
+        second,
+        &[a, b, copy, first],
+    )
 }
 
 /// Puts all that stands twice in the table.
