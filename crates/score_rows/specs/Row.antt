@@ -175,6 +175,13 @@ over_end over =
     if nat_le 6 (counting over) then codes "  " ++ decimal (counting over) ++ codes " balls" ++ uncalled_text over
     else []
 
+-- of an over that is called, how many of its deliveries count, where they aren't six
+abbrev pub called_note : ℕ → List ℕ
+called_note count =
+    if count == 6 then []
+    else if count == 1 then codes " (1 ball)"
+    else codes " (" ++ decimal count ++ codes " balls)"
+
 -- the bowler, and what is told of him
 abbrev pub bowling : Form → Sheet → History → ℕ → List ℕ
 bowling f s h i = bowler f s h i (bowler_now h) ++ past (beside f s.limits.overs_a_bowler) h (bowler_now h)

@@ -6,7 +6,6 @@ ghost use Rattle.ball_laws.specs.Over.{counting};
 ghost use Rattle.corrections.specs.CleanList.{history_of};
 ghost use Rattle.corrections.specs.Overs.{balls_of};
 ghost use Rattle.ball_laws.specs.History.{last_called_over};
-ghost use Rattle.cards.specs.Page.{over_note};
 ghost use Rattle.streams.specs.Watched.{Prints, TellsFailure};
 ghost use Rattle.score_rows.specs.Row as rows;
 ghost use Rattle.score_rows.specs.inner.Items as items;
@@ -109,11 +108,13 @@ pub fn print_over_end<W: Sink>(out: &mut Watched<W>, over: &[Placed]) -> Result<
 
 /// Prints, of an over that was called with another number of deliveries that count than six, that number.
 fn print_note<W: Sink>(out: &mut Watched<W>, count: u32) -> Result<(), WriteFailed>
-    ensures text { OnOk result (Prints W.contents out.old out.new (over_note count)) }
+    ensures text { OnOk result (Prints W.contents out.old out.new (rows.called_note count)) }
     ensures failed { TellsFailure result out.old out.new }
 {
     if count == 6 {
         Ok(())
+    } else if count == 1 {
+        write!(out, " (1 ball)")
     } else {
         write!(out, " ({count} balls)")
     }
@@ -125,7 +126,7 @@ pub fn print_over_note<W: Sink, B: BookOf>(
     book: &B,
 ) -> Result<(), WriteFailed>
     ensures text { OnOk result (Prints W.contents out.old out.new
-        (over_note (counting (last_called_over (history_of (B.content book.now)))))) }
+        (rows.called_note (counting (last_called_over (history_of (B.content book.now)))))) }
     ensures failed { TellsFailure result out.old out.new }
 {
     print_note(out, counting_of(overs_of(book).last))

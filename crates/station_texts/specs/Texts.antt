@@ -17,11 +17,10 @@ use Rattle.wire.specs.Fault.{number_of as wire_number, name_of as wire_name}
 use Rattle.wire.specs.declared.{fault.WireFault.WireFault, what.What.What}
 use Rattle.desk.specs.Refusal.{number_of, name_of}
 use Rattle.desk.specs.declared.refusal.Refusal.{Refusal}
-use Rattle.cards.specs.Page.{over_note}
 use Rattle.cards.specs.Sheet.{Sheet}
 use Rattle.changes.specs.Before.{item_with}
 use Rattle.changes.specs.Text.{last_changes}
-use Rattle.score_rows.specs.Row.{result_part, row}
+use Rattle.score_rows.specs.Row.{called_note, result_part, row}
 use Rattle.score_rows.specs.OverCheck.{over_check}
 use Rattle.screen.specs.Both.{both_cards, cards_number}
 use Rattle.book_rows.specs.Listing.{listing, range}
@@ -57,7 +56,7 @@ agreed_line place e = decimal place ++ codes " agreed: " ++ text_of e
 -- of an over that another number of deliveries than six counts in, that number; of a decided match, its result
 abbrev pub over_agreed : Sheet → ℕ → ℕ → History → Entry → List ℕ
 over_agreed sheet innings place h e =
-    agreed_line place e ++ over_called h ++ over_note (counting (last_called_over h))
+    agreed_line place e ++ over_called h ++ called_note (counting (last_called_over h))
     ++ result_part sheet (outcome innings h) ++ codes "\n" ++ over_check sheet h
 
 abbrev pub play_agreed : Sheet → ℕ → ℕ → History → Entry → List ℕ
