@@ -1,3 +1,2 @@
--- Lemmas on answers, as HTTP's grammar reads them: ResponseLemmas. What is kept of places by one call after another: PlaceLemmas.
-pub mod PlaceLemmas
+-- Lemmas on answers, as HTTP's grammar reads them.
 pub mod ResponseLemmas

@@ -1,5 +1,3 @@
-use Rattle.std.proofs.Common.{ap}
-use Rattle.viewers.specs.Places.{is_signed}
 use Rattle.viewers.proofs.places.Places.serve.Goals as goal
 
 pub returns-then-is_signed_at : goal.returns-then-is_signed_at
