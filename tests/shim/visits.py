@@ -130,7 +130,7 @@ class Answer:
             if self.fields.count(it) != 1:
                 raise Wrong(f"{it} isn't among {self.fields}")
         expect("its fields", sorted(it.split(":")[0] for it in self.fields), sorted([it.split(":")[0] for it in FIELDS] + [
-            "content-type", "content-length", "content-security-policy", "allow"]))
+            "content-type", "content-length", "content-security-policy", "retry-after" if self.status == 503 else "allow"]))
         expect("its length", int(self.field("content-length")), len(self.body))
         return self
 
