@@ -120,18 +120,10 @@ fn tell_dropped<K: Keys, C: Clock, W: Sink>(
     }
 }
 
-/// Tells which lines are dropped where a desk ended by itself. Then waits until all that was written to its screen is taken, and
-/// tells whether it is. Where a write of it failed, no other one is made.
-fn is_seen<K: Keys, C: Clock>(
-    mut screen: Watched<DeskScreen<'_, '_>>,
-    columns: usize,
-    ended: Result<(), LifeEnd>,
-    keys: &mut Ahead<K, C>,
-) -> bool
-    requires { columns ≤ most_columns }
-{
-    let told = tell_dropped(&mut screen, columns, ended, keys);
-    told.is_ok() && !screen.has_failed() && screen.into_inner().output.end().is_ok()
+/// Waits until all that was written to a desk's screen is taken, and tells whether it is. Where a write of it failed, no other
+/// one is made.
+fn is_seen(screen: Watched<DeskScreen<'_, '_>>) -> bool {
+    !screen.has_failed() && screen.into_inner().output.end().is_ok()
 }
 
 /// The command's answer, where its screen was read whole or wasn't.
@@ -221,12 +213,13 @@ pub fn start_desk<'a>(
         life,
         link,
         mut keys,
-        out,
+        mut out,
     } = keep_on(
         rt, disk, desk, book, &sheet, link, keys, out, scorers, file, copy,
     );
     drop(link);
-    let is_seen = is_seen(out, sheet.columns(), ended, &mut keys);
+    let _ = tell_dropped(&mut out, sheet.columns(), ended, &mut keys);
+    let is_seen = is_seen(out);
     let keyboard_failed = keys.keys().has_failed();
     drop(keys);
     let _ = errors.into_inner().end();
