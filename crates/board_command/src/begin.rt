@@ -1,21 +1,23 @@
 //! `ground board`: a scoreboard.
 
+ghost use Rattle.std.specs.Prelude.{◌≡◌, [], IfOk};
+
 use crate::files::{Files, Kept, Shown};
-use crate::hearing::{HeardAt, Listening, Silence};
+use crate::hearing::{Listening, Silence};
 use crate::notes::Notes;
 use crate::page::Page;
 use board::{Board, Witness};
 use cards::MatchSheet;
 use corrections::CheckedBook;
-use live::{Watch, keep_board};
+use live::keep_board;
 use machine::{Address, MOST_PEERS, MonotonicClock, Pieces, StandardStream};
 use machine_files::{Cause, Name, TextFile, WholeText, WriteFault};
 use setup::{Sealing, StopFault, Stopped, short_sheet_at};
 use station_screens::{Errors, Shared, errors_at, output_at};
-use std::cell::{Cell, RefCell};
+use std::cell::RefCell;
 use std::net::SocketAddr;
 use std::rt::Stderr;
-use streams::{Sink, Watched};
+use streams::Watched;
 
 /// Where a board tells what it can't take, and which file it can't write.
 pub type Told<'s, 'a> = Shared<'s, Pieces<StandardStream<'a, Stderr>>>;
@@ -108,16 +110,12 @@ fn board_of(rt: &HostRuntime, sheet: &MatchSheet) -> Result<Board<CheckedBook>, 
     }
 }
 
-/// What a board tells of what it can't take, and what it remembers: nothing yet.
-fn watch_over<E: Sink + Drop>(
-    rt: &HostRuntime,
-    errors: E,
-) -> Result<Watch<Notes<E>>, Stopped<'static>> {
+/// What a board remembers of the rounds that it has heard: nothing yet.
+fn witness_of(rt: &HostRuntime) -> Result<Witness, Stopped<'static>>
+    ensures { IfOk result (λ witness. witness ≡ []) }
+{
     match Witness::new(rt.alloc()) {
-        Ok(witness) => Ok(Watch {
-            notices: Notes::new(errors),
-            witness,
-        }),
+        Ok(witness) => Ok(witness),
         Err(why) => Err(Stopped::at("-", StopFault::from(why))),
     }
 }
@@ -153,22 +151,22 @@ pub fn start_board<'a>(
     let files = paths.files(rt, &errors)?;
     let page = Page::at(rt, serve)?;
     let mut board = board_of(rt, &sheet)?;
+    let witness = witness_of(rt)?;
     page.wait(rt, &sheet, board.book(), json);
     let sealed = sealing.sealed_at(rt, at, peers, page.wait_ends(), Shared::of(&errors))?;
-    let hearing = Cell::new(HeardAt::begun(0));
     let link = sealing.link_over(rt.alloc(), MonotonicClock::new(rt), sealed);
-    let mut link = Listening::over(link, MonotonicClock::new(rt), &hearing);
+    let mut link = Listening::over(link, MonotonicClock::new(rt), page.hearing());
     let _ = sealing.tell_fingerprints(&mut Shared::of(&errors));
     page.tell(rt, &mut Shared::of(&errors));
     let mut clock = page.clock(rt);
-    let mut watch = watch_over(rt, Shared::of(&errors))?;
+    let mut watch = Notes::watching(witness, Shared::of(&errors));
+    let heard = page.hearing().get();
     let mut shown = Shown {
         files,
         page: page.panes(rt.alloc(), &errors),
         errors: &errors,
-        viewers: page.viewers(),
-        hearing: &hearing,
-        heard: hearing.get(),
+        audience: page.audience(),
+        heard,
         silence: Silence::NOTHING,
     };
     match keep_board(

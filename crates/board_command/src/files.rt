@@ -14,6 +14,7 @@ ghost use Rattle.board_command.specs.declared.files.TheConstants.{FOREVER};
 ghost use Rattle.waits.specs.declared.times.TheConstants.{LONGEST_STATE_AGE};
 
 use crate::hearing::{HeardAt, Silence};
+use crate::page::Audience;
 use cards::{MatchSheet, board_lines};
 use corrections::BookOf;
 use live::{Shows, SightLog};
@@ -22,7 +23,7 @@ use scoreboard::board_text;
 use setup::{StopFault, print_fault, printable};
 use station_screens::{Errors, Shared, retry};
 use std::alloc::{AllocError, Global};
-use std::cell::{Cell, RefCell};
+use std::cell::RefCell;
 use streams::{Sink, Watched, WriteFailed};
 use viewers::Viewers;
 use waits::{FILE_RETRY_WAIT, LONGEST_STATE_AGE, SHORTEST_FILE_AGE};
@@ -331,13 +332,12 @@ impl<T: Replaces, E: Sink, B: BookOf + Drop> Files<'_, T, E, B> {
 /// other from being written, and at standard error that its desks are silent. What waits for that and for who looks at its page
 /// is handed on, as far as it is taken.
 #[derive(Drop)]
-pub struct Shown<'e, 'v, 'h, 'a, T, P, E, B> {
-    pub files: Files<'a, T, E, B>,
-    pub page: Files<'a, P, E, B>,
+pub struct Shown<'e, 'v, 'a, F, P> {
+    pub files: F,
+    pub page: P,
     pub errors: &'e RefCell<Errors<'a>>,
-    pub viewers: Option<&'v RefCell<Viewers>>,
-    /// When the board's link heard the desks, and what was read of that last.
-    pub hearing: &'h Cell<HeardAt>,
+    pub audience: Audience<'v>,
+    /// What was read last of when the desks were heard, and what was told of their silence.
     pub heard: HeardAt,
     pub silence: Silence,
 }
@@ -351,27 +351,28 @@ fn tell(viewers: Option<&RefCell<Viewers>>, now: u64) {
     }
 }
 
-impl<T: Replaces, P: Replaces, E: Sink, B: BookOf + Drop> Shows<B>
-    for Shown<'_, '_, '_, '_, T, P, E, B> {
+impl<'a, T: Replaces, P: Replaces, E: Sink, B: BookOf + Drop> Shows<B>
+    for Shown<'_, '_, 'a, Files<'a, T, E, B>, Files<'a, P, E, B>> {
     ghost use Rattle.live.specs.SightLogs.{sights_of};
     ghost use Rattle.board_command.specs.Files.{FilesGoOn};
 
     ghost seen = { λ shown. sights_of B.content B.innings_a_side shown.files.log };
 
     ghost goes_on = { λ old sight now new.
-        FilesGoOn T.given new.heard old.files sight now new.files × FilesGoOn P.given new.heard old.page sight now new.page };
+        FilesGoOn T.given new.heard old.files sight now new.files
+        × FilesGoOn P.given new.heard old.page sight now new.page };
 
     /// A file that can't be written ends no board.
     ghost failed = { λ _. false };
 
     fn show(&mut self, sheet: &MatchSheet, book: &B, now: u64) -> Result<(), WriteFailed> {
         retry(self.errors);
-        self.heard = self.hearing.get();
-        self.silence
-            .tell(self.heard, now, &mut Shared::of(self.errors));
-        self.page.show(sheet, book, self.heard, now);
-        self.files.show(sheet, book, self.heard, now);
-        tell(self.viewers, now);
+        let heard = self.audience.hearing.get();
+        self.heard = heard;
+        self.silence.tell(heard, now, &mut Shared::of(self.errors));
+        self.page.show(sheet, book, heard, now);
+        self.files.show(sheet, book, heard, now);
+        tell(self.audience.viewers, now);
         Ok(())
     }
 }

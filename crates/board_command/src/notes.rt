@@ -1,5 +1,7 @@
 //! What a board tells at standard error.
 
+use board::Witness;
+use live::Watch;
 use station_texts::{Notice, NoticeLog, Notices, print_notice};
 use streams::{Sink, Watched};
 
@@ -16,6 +18,20 @@ impl<E: Sink + Drop> Notes<E> {
         Notes {
             errors: Watched::new(errors),
             log: NoticeLog::Empty,
+        }
+    }
+}
+
+impl<E: Sink + Drop> Notes<E> {
+    ghost use Rattle.std.specs.Prelude.{◌≡◌};
+
+    /// Nothing was told yet by a board that remembers so much.
+    pub fn watching(witness: Witness, errors: E) -> Watch<Notes<E>>
+        ensures { result.witness ≡ witness }
+    {
+        Watch {
+            notices: Notes::new(errors),
+            witness,
         }
     }
 }

@@ -2,6 +2,7 @@
 
 use crate::begin::Told;
 use crate::files::{Files, Kept};
+use crate::hearing::HeardAt;
 use crate::pane::{Kind, Pane, copy_of};
 use crate::waiting::{LINES, waiting_state};
 use cards::MatchSheet;
@@ -11,7 +12,7 @@ use setup::{StopFault, Stopped};
 use station_pages::Attended;
 use station_screens::{Errors, Shared};
 use std::alloc::Global;
-use std::cell::RefCell;
+use std::cell::{Cell, RefCell};
 use std::io::Write;
 use std::os::fd::RawFd;
 use viewers::{Station, Viewers, reached_at};
@@ -32,13 +33,25 @@ struct Served<'a> {
 #[derive(Drop)]
 pub struct Page<'a> {
     served: Option<Served<'a>>,
+    /// When the board's link heard the desks.
+    hearing: Cell<HeardAt>,
+}
+
+/// Who looks at a page, if there is one, and when the board's link heard the desks.
+#[derive(Clone, Copy)]
+pub struct Audience<'v> {
+    pub viewers: Option<&'v RefCell<Viewers>>,
+    pub hearing: &'v Cell<HeardAt>,
 }
 
 impl<'a> Page<'a> {
     /// The page at an address, where one is given.
     pub fn at(rt: &HostRuntime, at: Option<Address<'a>>) -> Result<Page<'a>, Stopped<'a>> {
         let Some(at) = at else {
-            return Ok(Page { served: None });
+            return Ok(Page {
+                served: None,
+                hearing: Cell::new(HeardAt::begun(0)),
+            });
         };
         match Viewers::new(rt, rt.alloc(), at.socket, Station::Board, None) {
             Ok(viewers) => {
@@ -49,9 +62,23 @@ impl<'a> Page<'a> {
                         ends,
                         viewers: RefCell::new(viewers),
                     }),
+                    hearing: Cell::new(HeardAt::begun(0)),
                 })
             }
             Err(_) => Err(Stopped::at(at.text, StopFault::Listen)),
+        }
+    }
+
+    /// Where its board's link shows when it heard the desks.
+    pub fn hearing(&self) -> &Cell<HeardAt> {
+        &self.hearing
+    }
+
+    /// Who looks at it, and that.
+    pub fn audience(&self) -> Audience<'_> {
+        Audience {
+            viewers: self.viewers(),
+            hearing: &self.hearing,
         }
     }
 
