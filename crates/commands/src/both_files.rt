@@ -138,6 +138,29 @@ pub struct PlacedBook {
     pub places: (u32, u32),
 }
 
+/// The book of both files of these bytes, and how many places each has.
+fn placed_book(
+    alloc: Global,
+    sheet: &MatchSheet,
+    first: &[u8],
+    second: &[u8],
+) -> Result<PlacedBook, BothPrintFault>
+    ensures book { IfOk result (λ placed. IsBookOfBoth sheet.now first.now second.now placed.book.entries) }
+    ensures places { IfOk result (λ placed. HavePlaces sheet.now.game first.now second.now placed.places.0 placed.places.1) }
+    ensures same_match { IfOk result (λ placed. placed.book.innings_a_side ≡ sheet.now.innings) }
+    ensures why { IfErr result (WhyNotBoth sheet.now first.now second.now) }
+    ensures unread { IfErr result (λ fault. fault ≢ BothPrintFault.Write) }
+    ensures read_first { IfErr result (λ fault. fault ≢ BothPrintFault.Read A) }
+    ensures read_second { IfErr result (λ fault. fault ≢ BothPrintFault.Read B) }
+{
+    let both = book_of_both(alloc, sheet, first, second)?;
+    let places = (places_of(&both.a), places_of(&both.b));
+    Ok(PlacedBook {
+        book: both.book,
+        places,
+    })
+}
+
 /// The book of both files, each read to its end, A's first. Each file's votes are read once.
 pub fn book_of_readers<R: Feed>(
     alloc: Global,
@@ -159,12 +182,7 @@ pub fn book_of_readers<R: Feed>(
     ensures unwritten { IfErr result (λ fault. fault ≢ BothPrintFault.Write) }
 {
     let (first, second) = read_both(alloc, a, b)?;
-    let both = book_of_both(alloc, sheet, first.as_slice(), second.as_slice())?;
-    let places = (places_of(&both.a), places_of(&both.b));
-    Ok(PlacedBook {
-        book: both.book,
-        places,
-    })
+    placed_book(alloc, sheet, first.as_slice(), second.as_slice())
 }
 
 /// `ground card` of both files: reads both desks' votes files to the end, and prints both cards of each innings of the
