@@ -1,6 +1,6 @@
 //! `ground lines`: the full lines of a book, from which the match can be begun anew.
 
-ghost use Rattle.std.specs.Prelude.{ℕ, IfErr, IfSome, OnOk};
+ghost use Rattle.std.specs.Prelude.{ℕ, IfErr, IfOk, IfSome, OnOk};
 ghost use Rattle.notation.specs.Written.{IsEntry};
 ghost use Rattle.agree_core.specs.declared.messages.DeskId.TheVariants.{A, B};
 ghost use Rattle.streams.specs.Watched.{IsHandedOn, Prints, TellsFailure, stream_of};

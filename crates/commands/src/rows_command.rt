@@ -1,6 +1,6 @@
 //! `ground export --rows` and `ground export --penalties`: a match as tables of CSV.
 
-ghost use Rattle.std.specs.Prelude.{IfErr, IfSome, OnOk};
+ghost use Rattle.std.specs.Prelude.{IfErr, IfOk, IfSome, OnOk};
 ghost use Rattle.agree_core.specs.declared.messages.DeskId.TheVariants.{A, B};
 ghost use Rattle.streams.specs.Watched.{IsHandedOn, Prints, TellsFailure, stream_of};
 ghost use Rattle.toml.specs.View.{table_view};
