@@ -5,9 +5,11 @@ from lives import BOOK, FINGERPRINTS, LONGEST, SHEET, TOOLS, Process, told
 from pages import Viewer, answer_at, free_place, is_at_the_beginning
 from plans import HOWS, Plan, plans
 from record import Wrong, bytes_at
+from tickets import secret_in, ticket_tag
 from trials import Ground, begin, card_agrees, expect, look_at_desk
 
 LINK = re.compile(r"page: http://(\S+)/#([0-9a-f]{32})\n")
+NO_SQUARE = "page: no square can be made\n"
 VOTES = {(place, 0): line for place, line in enumerate(BOOK[:2])}
 TOLD = [("0", "next"), *((place, what) for place in "01" for what in ("pending", "agreed"))]
 # Of what a browser's life calls, all of it.
@@ -17,16 +19,22 @@ ALL = {(name, "page"): 16 for name in ("epoll_wait", "accept4", "recv", "send", 
 class Served(Process):
     """A desk whose standard error is read until it has told its page's link."""
 
-    told = ""
+    told, squares = "", 0
 
     def link(self):
-        """Its page's place and secret; nothing where it ends before."""
-        while not LINK.search(self.told):
+        """Its page's place and the ticket of the next square, which is asked for where none could be made; nothing where it ends
+        before."""
+        asked = 0
+        while len(LINK.findall(self.told)) == self.squares:
+            if self.told.count(NO_SQUARE) > asked:
+                asked += 1
+                self.say("page")
             more = os.read(self.ran.stderr.fileno(), 4096) if select.select([self.ran.stderr], [], [], LONGEST)[0] else b""
             if not more:
                 return None
             self.told += more.decode()
-        return LINK.search(self.told)
+        self.squares += 1
+        return list(LINK.finditer(self.told))[self.squares - 1]
 
     def until(self, what, holds):
         """Does this again and again until it holds. The desk must go on meanwhile."""
@@ -48,8 +56,15 @@ class Browser:
     """A scorer's. A careless one makes a new post of a line whose post wasn't answered."""
 
     def __init__(self, link, is_careless):
-        self.place, self.secret, self.is_careless = link[1], link[2], is_careless
+        self.place, self.is_careless = link[1], is_careless
         self.viewer = Viewer(self.place)
+
+    def comes_in(self, link):
+        """Takes the secret for a link's ticket. Where the answer is lost the ticket is used, and another square is needed."""
+        ticket = bytes.fromhex(link[2])
+        status, text = answer_at(self.place, f"POST /secret HTTP/1.1\r\nHost: {self.place}\r\nContent-Length: 0\r\nX-Tag: {ticket_tag(ticket)}\r\n\r\n".encode())
+        self.secret = secret_in(ticket, text.decode()) if status == 200 else None
+        return self.secret is not None
 
     def ask(self, request):
         """What is answered in the end: the status and the text, and how often it asked."""
@@ -76,7 +91,7 @@ class Browser:
     def post(self, place, line):
         """A post of a line, by the next number."""
         nonce = self.get("/nonce").decode().strip()
-        tag = hmac.new(bytes.fromhex(self.secret), f"{nonce} {place}.0 {line}".encode(), hashlib.sha256).hexdigest()
+        tag = hmac.new(self.secret, f"{nonce} {place}.0 {line}".encode(), hashlib.sha256).hexdigest()
         fields = f"Host: {self.place}\r\nContent-Length: {len(line)}\r\nX-At: {place}.0\r\nX-Nonce: {nonce}\r\nX-Tag: {tag}\r\n"
         return f"POST /line HTTP/1.1\r\n{fields}\r\n{line}".encode()
 
@@ -97,6 +112,9 @@ def keep(it, link, other, is_careless):
     browser, heard = Browser(link, is_careless), set()
     if b"<title>" not in browser.get("/"):
         raise Wrong("the page isn't the page")
+    while not browser.comes_in(link):
+        it.say("page")
+        link = it.link()
     it.until("the state", lambda: browser.watches(b'"place":0'))
     browser.type(0, BOOK[0])
     it.until("its vote", lambda: it.has(0, "pending"))
@@ -122,7 +140,7 @@ def life(folder, other, fail="", is_careless=False):
 def goes_well(ground, judge, end, place):
     """A desk that went on was told one line in its page, and told its terminal what any desk does."""
     status, out, error = end
-    if LINK.sub("", error, count=1) != f"page: {BOOK[0]}\n" or f"page: http://{place}/#" not in error or status:
+    if LINK.sub("", error).replace(NO_SQUARE, "") != f"page: {BOOK[0]}\n" or f"page: http://{place}/#" not in error or status:
         raise Wrong(f"it ended with {end}")
     if [told(line) for line in out.splitlines() if line[:1].isdigit()] != TOLD:
         raise Wrong(f"the terminal was told {out!r}")
@@ -139,7 +157,7 @@ def fail_scorer(plan, is_careless=False):
         end, heard, place = life(ground.folder, other, plan.text(), is_careless)
         calls = look_at_desk(ground, judge, heard)
         met = plan.met(calls) is not None
-        if met and (is_at_the_beginning(plan) or plan.label == "random"):
+        if met and (is_at_the_beginning(plan) or plan.label == "random" and plan.count == 1):
             expect(end, [(3, "", f"cannot listen at {place}\n")])
             if heard or bytes_at(ground.file("a.votes")) is not None:
                 raise Wrong("it has begun a file")

@@ -1,3 +1,5 @@
--- A position's text at its point: PlaceTexts. What is out over many calls: NonceLemmas.
+-- A position's text at its point: PlaceTexts. What is out over many calls: NonceLemmas. How a secret is hidden, and who is
+-- handed it: TicketLemmas.
 pub mod NonceLemmas
 pub mod PlaceTexts
+pub mod TicketLemmas

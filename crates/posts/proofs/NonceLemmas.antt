@@ -11,7 +11,7 @@ use Rattle.screen.specs.Words.{is_end}
 use Rattle.posts.specs.Texts.{tag_of}
 use Rattle.posts.specs.Posts.{IsTaken, after_check, checked, is_good_pass, is_out, is_same_place, is_tagged, line_of, out_after, out_after_pass, passed_by, stamped, used_by, verdict, with_given, without}
 use Rattle.posts.specs.Runs.{Call, accepted, accepted_by, let_by}
-use Rattle.posts.specs.Runs.Call.{Give, Judge, Look}
+use Rattle.posts.specs.Runs.Call.{Give, Judge, Look, Renew}
 use Rattle.posts.specs.declared.{judging.Post.Post, refusal.Refusal.Refusal, stamp.{Pass.Pass, Stamp.Stamp}}
 
 -- ---- what is known of a post whose line is typed
@@ -184,12 +184,17 @@ never secret n (Judge post at waiting ∷ calls) out next below lacks =
     let known = taken secret out post at waiting line typed in
     let was : is_out out n ≡ true = subst (λ x. is_out out x ≡ true) (ap (λ x. x.nonce) (same_stamp post.stamp known.stamp s known.has_stamp has) ∙ sym e) known.was_out in
     absurd (cc (was, lacks))) later)
+never secret n (Renew other ∷ calls) out next below lacks = never other n calls [] next below refl
 never secret n (Look p ∷ calls) out next below lacks =
     let later = never secret n calls (out_after_pass secret out p) next below (not_true _ _ (passed_fewer (is_good_pass secret out p) n p out) lacks) in
     with_pass (All (λ m. n ≢ m)) (is_good_pass secret out p) p _ later
     (λ good. All-cons (λ m. n ≢ m) p.nonce _ (λ e.
     let was : is_out out n ≡ true = subst (λ x. is_out out x ≡ true) (sym e) (pass_was_out secret out p good) in
     absurd (cc (was, lacks))) later)
+
+-- where none is out
+none_below : (next : ℕ) → IsBelow [] next
+none_below next = λ n is. absurd (cc is)
 
 pub once : (secret : List ℕ) (calls : List Call) (out : List ℕ) (next : ℕ) → IsBelow out next
     → AllPairs (λ m n. m ≢ n) (accepted secret out next calls)
@@ -204,6 +209,7 @@ once secret (Judge post at waiting ∷ calls) out next below =
     let same = ap (λ x. x.nonce) (same_stamp post.stamp known.stamp s known.has_stamp has) in
     AllPairs-cons (λ m n. m ≢ n) s.nonce _
     (never secret s.nonce calls (out_after secret out post) next (below s.nonce (rw same at known.was_out)) (rw same at known.is_used)) later)
+once secret (Renew other ∷ calls) out next below = once other calls [] next (none_below next)
 once secret (Look p ∷ calls) out next below =
     let later = once secret calls (out_after_pass secret out p) next (λ n is. below n (passed_fewer (is_good_pass secret out p) n p out is)) in
     with_pass (AllPairs (λ m n. m ≢ n)) (is_good_pass secret out p) p _ later
@@ -212,4 +218,4 @@ once secret (Look p ∷ calls) out next below =
     (pass_is_used (is_good_pass secret out p) out p good)) later)
 
 pub none_is_below : IsBelow [] 1
-none_is_below = λ n is. absurd (cc is)
+none_is_below = none_below 1

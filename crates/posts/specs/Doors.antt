@@ -1,8 +1,10 @@
 -- What a page knows of those who may type.
-use Rattle.std.specs.Prelude.{ℕ, List}
+use Rattle.std.specs.Prelude.{ℕ, List, Option}
+use Rattle.posts.specs.declared.tickets.Ticket.{Ticket}
 
--- the secret of its link, the nonces that are out, the oldest first, and the next one
+-- the secret of those who may type, the ticket that is out, the nonces that are out, the oldest first, and the next one
 pub record Door : Type 0 where
   pub secret : List ℕ
+  pub ticket : Option Ticket
   pub out : List ℕ
   pub next : ℕ

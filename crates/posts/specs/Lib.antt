@@ -1,6 +1,7 @@
--- The texts of a post and its tag: Texts, Stamps. What a page knows of posts: Doors. What a post comes to: Posts. What goes on over many of them: Runs.
+-- The texts of a post and its tag: Texts, Stamps. What a page knows of posts: Doors. What a post comes to: Posts. What goes on over many of them: Runs. How a page gets its secret: Tickets.
 pub mod Doors
 pub mod Posts
 pub mod Runs
 pub mod Stamps
 pub mod Texts
+pub mod Tickets

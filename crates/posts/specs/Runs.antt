@@ -4,11 +4,12 @@ use Rattle.agree_core.specs.declared.position.Position.{Position}
 use Rattle.posts.specs.Posts.{is_good_pass, verdict, out_after, out_after_pass, with_given}
 use Rattle.posts.specs.declared.{judging.Post.Post, refusal.Refusal.Refusal, stamp.{Pass.Pass, Stamp.Stamp}}
 
--- a nonce is given, a post is judged, or a pass is looked at
+-- a nonce is given, a post is judged, a pass is looked at, or the secret is another one
 pub data Call : Type 0 where
   Give : Call
   Judge : Post → Position → ℕ → Call
   Look : Pass → Call
+  Renew : List ℕ → Call
 
 abbrev pub nonce_in : Option Stamp → List ℕ
 nonce_in None = []
@@ -31,3 +32,4 @@ accepted secret out next (Judge post at waiting ∷ calls) =
     accepted_by (verdict secret out post at waiting) post ++ accepted secret (out_after secret out post) next calls
 accepted secret out next (Look p ∷ calls) =
     let_by (is_good_pass secret out p) p ++ accepted secret (out_after_pass secret out p) next calls
+accepted secret out next (Renew other ∷ calls) = accepted other [] next calls

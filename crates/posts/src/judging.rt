@@ -1,13 +1,15 @@
-//! What a page's post comes to, and a pass.
+//! What a page's post comes to, and a pass, and who is handed the secret.
 
-ghost use Rattle.std.specs.Prelude.{◌≡◌, ◌+◌, ◌<◌, ◌^◌, ◌≤◌, [], Err, IfOk, IsSome, MatchOption, MatchResult, Ok, OnOk, Some, length};
+ghost use Rattle.std.specs.Prelude.{◌≡◌, ◌+◌, ◌<◌, ◌^◌, ◌≤◌, [], Err, IfOk, IsSome, MatchOption, MatchResult, None, Ok, OnOk, Some, length};
 ghost use Rattle.std.specs.List.{list_all};
 ghost use Rattle.posts.specs.Posts as posts;
+ghost use Rattle.posts.specs.Tickets as tickets;
 
 use crate::nonces::{Nonces, is_out, let_go, put};
 use crate::refusal::Refusal;
 use crate::stamp::{Pass, Stamp};
 use crate::tags::{is_same, pass_tag, tag_of};
+use crate::tickets::Ticket;
 use agree_core::Position;
 use arrayvec::ArrayVec;
 use links::LINE_ROOM;
@@ -68,10 +70,12 @@ fn line_of(stamp: &Stamp, line: &[u8], at: Position, waiting: usize) -> Result<P
     Ok(posted)
 }
 
-/// Who may type from a page: the secret of its link, and the nonces of which each is good for one post.
+/// Who may type from a page: who has its secret, for which the ticket of its square is given, each time by a nonce that is good
+/// for one post.
 #[derive(Drop)]
 pub struct Posts {
     secret: [u8; 16],
+    ticket: Option<Ticket>,
     out: Nonces,
     next: u64,
 }
@@ -81,20 +85,65 @@ impl Model for Posts {
 
     ghost Value = { Door };
 
-    ghost view = { λ p. record { secret = p.secret; out = (p.out).items; next = p.next } };
+    ghost view = { λ p. record { secret = p.secret; ticket = p.ticket; out = (p.out).items; next = p.next } };
 }
 
 impl Posts {
-    /// Of a page whose link has this secret. No nonce is out yet.
+    /// Of a page with this secret. No ticket and no nonce is out yet.
     pub fn new(secret: [u8; 16]) -> Posts
         ensures secret { result.secret ≡ secret }
+        ensures ticket { result.ticket ≡ None }
         ensures out { result.out ≡ [] }
         ensures next { result.next ≡ 1 }
     {
         Posts {
             secret,
+            ticket: None,
             out: ArrayVec::new(),
             next: 1,
+        }
+    }
+
+    /// A square with this ticket is shown now: the one before is good no more.
+    pub fn show(&mut self, key: [u8; 16], now: u64)
+        ensures ticket { self.new.ticket ≡ Some (record { key = key; since = now }) }
+        ensures secret { self.new.secret ≡ self.old.secret }
+        ensures out { self.new.out ≡ self.old.out }
+        ensures next { self.new.next ≡ self.old.next }
+    {
+        self.ticket = Some(Ticket::new(key, now));
+    }
+
+    /// The page has this secret from here on: no ticket, no nonce and no tag from before is good.
+    pub fn renew(&mut self, secret: [u8; 16])
+        ensures secret { self.new.secret ≡ secret }
+        ensures ticket { self.new.ticket ≡ None }
+        ensures out { self.new.out ≡ [] }
+        ensures next { self.new.next ≡ self.old.next }
+    {
+        self.secret = secret;
+        self.ticket = None;
+        self.out.clear();
+    }
+
+    /// What is handed out for a tag: the secret, hidden by the ticket that is out, where it is the tag of that, in its time. Then
+    /// the ticket is used up.
+    pub fn hand_out(&mut self, tag: &[u8; 32], now: u64) -> Option<[u8; 16]>
+        ensures handed { result ≡ tickets.handed self.old.secret self.old.ticket tag.now now }
+        ensures ticket { self.new.ticket ≡ tickets.ticket_after self.old.ticket tag.now now }
+        ensures secret { self.new.secret ≡ self.old.secret }
+        ensures out { self.new.out ≡ self.old.out }
+        ensures next { self.new.next ≡ self.old.next }
+    {
+        match self.ticket {
+            None => None,
+            Some(ticket) => {
+                if !ticket.is_good(tag, now) {
+                    return None;
+                }
+                self.ticket = None;
+                Some(ticket.hides(&self.secret))
+            }
         }
     }
 
@@ -105,6 +154,7 @@ impl Posts {
             × (self.new.out ≡ posts.with_given self.old.out self.old.next)) }
         ensures some { self.old.next + 1 < 2 ^ 64 → IsSome result }
         ensures secret { self.new.secret ≡ self.old.secret }
+        ensures ticket { self.new.ticket ≡ self.old.ticket }
     {
         let nonce = self.next;
         self.next = nonce.checked_add(1)?;
@@ -162,6 +212,7 @@ impl Posts {
         ensures room { OnOk result (waiting < MOST_WAITING) }
         ensures out { self.new.out ≡ posts.out_after self.old.secret self.old.out post.now }
         ensures secret { self.new.secret ≡ self.old.secret }
+        ensures ticket { self.new.ticket ≡ self.old.ticket }
         ensures next { self.new.next ≡ self.old.next }
     {
         let stamp = self.checked(post)?;
@@ -174,6 +225,7 @@ impl Posts {
         ensures is_good { result ≡ posts.is_good_pass self.old.secret self.old.out pass.now }
         ensures out { self.new.out ≡ posts.out_after_pass self.old.secret self.old.out pass.now }
         ensures secret { self.new.secret ≡ self.old.secret }
+        ensures ticket { self.new.ticket ≡ self.old.ticket }
         ensures next { self.new.next ≡ self.old.next }
     {
         if !is_out(&self.out, pass.nonce) {

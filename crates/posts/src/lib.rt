@@ -1,4 +1,4 @@
-//! Who may type from a page: only who has the secret of its link, at the desk's position, and each such post once. Whose
+//! Who may type from a page: only who has its secret, for which the ticket of its square is given once, at the desk's position, and each such post once. Whose
 //! place there is safe: who has a pass by that secret.
 #![tactic(auto)]
 
@@ -8,9 +8,11 @@ mod nonces;
 mod refusal;
 mod stamp;
 mod tags;
+mod tickets;
 
 pub use judging::{MOST_WAITING, Post, PostedLine, Posts};
-pub use laws::{each_nonce_once, what_is_taken};
+pub use laws::{each_nonce_once, each_ticket_once, what_a_ticket_gives, what_is_taken};
 pub use nonces::MOST_OUT;
 pub use refusal::Refusal;
-pub use stamp::{Pass, Stamp, place_in};
+pub use stamp::{Pass, Stamp, place_in, tag_in};
+pub use tickets::{GOOD_FOR, Ticket};

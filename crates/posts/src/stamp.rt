@@ -71,7 +71,7 @@ pub fn place_in(text: &str) -> Option<Position>
 }
 
 /// The tag that 64 hex digits are.
-fn tag_in(text: &str) -> Option<[u8; 32]>
+pub fn tag_in(text: &str) -> Option<[u8; 32]>
     ensures { MatchResult (decode_sized text.now 32) (λ tag. result ≡ Some tag) (λ _. result ≡ None) }
 {
     <[u8; 32] as FromHex>::from_hex(text).ok()

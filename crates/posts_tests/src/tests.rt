@@ -1,7 +1,7 @@
 //! Posts whose tags Python's `hmac` computed, with the bytes 0 to 15 as the secret.
 
 use agree_core::Position;
-use posts::{Post, Posts, Refusal, Stamp};
+use posts::{Post, Posts, Refusal, Stamp, tag_in};
 
 const SECRET: [u8; 16] = [0, 1, 2, 3, 4, 5, 6, 7, 8, 9, 10, 11, 12, 13, 14, 15];
 
@@ -18,6 +18,17 @@ const IN_3: &str = "d18d88b99adacf1e5c7bfa01a3a27d5fb679db44c4393fbbf4602c29b71d
 const LONGEST: &str = "9a639f78cb130050410453560b36a93520daa795838a3b563da36cfc17862a11";
 
 const ONE: &str = "2377b60ac29a9590dba449c97dfa00aa029419b444d50a6c85f4ac59742898fc";
+
+/// The bytes 16 to 31, and by them the tag of a claim, and the secret as it is handed out.
+const TICKET: [u8; 16] = [
+    16, 17, 18, 19, 20, 21, 22, 23, 24, 25, 26, 27, 28, 29, 30, 31,
+];
+
+const CLAIM: &str = "ef8e0805841dee0cbd1cb63865e2433c6d7b22ecad6ec1ad6233430ef94c8e6c";
+
+const HIDDEN: [u8; 16] = [
+    0xc0, 0x71, 0xac, 0x82, 0x80, 0xc1, 0xd6, 0xca, 0x3f, 0xba, 0xe6, 0x42, 0xf4, 0xbc, 0x02, 0xd0,
+];
 
 const HERE: Position = Position {
     place: 18,
@@ -162,4 +173,34 @@ fn the_oldest_nonce_is_forgotten(rt: HostRuntime) {
     assert_eq!(rt; judged(&mut given(64), four, b"4", 0), Ok(1));
     assert_eq!(rt; judged(&mut given(65), four, b"4", 0), Err(Refusal::NotOut));
     assert_eq!(rt; judged(&mut given(65), ["18.0", "8", ONE], b"1", 0), Ok(1));
+}
+
+/// What is handed out for a tag, at this time.
+fn handed(posts: &mut Posts, tag: &str, now: u64) -> Option<[u8; 16]> {
+    let tag = tag_in(tag)?;
+    posts.hand_out(&tag, now)
+}
+
+#[test]
+fn a_ticket_is_good_once(rt: HostRuntime) {
+    let mut posts = given(0);
+    assert_eq!(rt; handed(&mut posts, CLAIM, 5), None);
+    posts.show(TICKET, 5);
+    assert_eq!(rt; handed(&mut posts, FOUR, 5), None);
+    assert_eq!(rt; handed(&mut posts, CLAIM, 5), Some(HIDDEN));
+    assert_eq!(rt; handed(&mut posts, CLAIM, 5), None);
+}
+
+#[test]
+fn a_ticket_is_good_for_two_minutes(rt: HostRuntime) {
+    let mut posts = given(0);
+    posts.show(TICKET, 5);
+    assert_eq!(rt; handed(&mut posts, CLAIM, 120_005), None);
+    assert_eq!(rt; handed(&mut posts, CLAIM, 120_004), Some(HIDDEN));
+    posts.show(TICKET, 7);
+    posts.show(SECRET, 8);
+    assert_eq!(rt; handed(&mut posts, CLAIM, 9), None);
+    posts.show(TICKET, 9);
+    posts.renew(SECRET);
+    assert_eq!(rt; handed(&mut posts, CLAIM, 10), None);
 }

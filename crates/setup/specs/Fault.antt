@@ -18,7 +18,7 @@ use Rattle.machine_files.specs.declared.write_fault.Cause.TheVariants as causes
 use Rattle.setup.specs.declared.key_fault.KeyFault.{KeyFault}
 use Rattle.setup.specs.declared.key_fault.KeyFault.TheVariants as keys
 use Rattle.setup.specs.declared.fault.{StopFault.StopFault, TheConstants.TURNS}
-use Rattle.setup.specs.declared.fault.StopFault.TheVariants.{NoMemory, Read, Write, Sheet, SheetTold, Schedule, Votes, VotesNamed, BadVotes, NotOneHistory, FilesDiffer, Line, NotAgreed, Listen, Disk, FileMoved, LacksLines, File, Lost, CopyLost, Key}
+use Rattle.setup.specs.declared.fault.StopFault.TheVariants.{NoMemory, Read, Write, Sheet, SheetTold, Schedule, Votes, VotesNamed, BadVotes, NotOneHistory, FilesDiffer, Line, NotAgreed, Listen, Disk, FileMoved, File, Lost, CopyLost, Key}
 
 -- an input isn't read to its end
 abbrev pub of_input : InputFault → StopFault
@@ -62,7 +62,6 @@ is_refusal (VotesNamed why) = is_file_refusal why
 is_refusal (BadVotes place) = true
 is_refusal (NotOneHistory place) = true
 is_refusal (FilesDiffer place) = true
-is_refusal LacksLines = true
 is_refusal (Line number why) = true
 is_refusal fault = false
 
@@ -142,7 +141,6 @@ fault_line path (NotAgreed place) = turns_line place TURNS
 fault_line path Listen = codes "cannot listen at " ++ path ++ codes "\n"
 fault_line path Disk = codes "cannot write\nstart the same command again\n"
 fault_line path FileMoved = codes "cannot write\nits file was moved, deleted or replaced: put it back\n"
-fault_line path LacksLines = codes "this file lacks lines that the other desk has: put the right file back\n"
 fault_line path (File why) = file_line path why
 fault_line path (Lost why) = loss_lines path why
 fault_line path (CopyLost why) = copy_loss_lines path why

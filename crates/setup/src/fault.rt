@@ -52,8 +52,6 @@ pub enum StopFault {
     Disk,
     /// The file of a desk that runs was moved, deleted or replaced.
     FileMoved,
-    /// The file of a desk that runs lacks lines that the other desk has.
-    LacksLines,
     /// A file of a desk, a board or a new key can't be written.
     File(WriteFault),
     /// The file of a desk that runs can't be written.
@@ -86,8 +84,7 @@ impl StopFault {
             StopFault::Schedule(ScheduleFault::NoMemory) => false,
             StopFault::Sheet(_) | StopFault::SheetTold | StopFault::Schedule(_) => true,
             StopFault::BadVotes { .. } | StopFault::NotOneHistory { .. } => true,
-            StopFault::FilesDiffer { .. } => true,
-            StopFault::Line { .. } | StopFault::LacksLines => true,
+            StopFault::FilesDiffer { .. } | StopFault::Line { .. } => true,
             _ => false,
         }
     }
@@ -336,10 +333,6 @@ pub fn print_fault<W: Sink>(
         StopFault::FileMoved => writeln!(
             out,
             "cannot write\nits file was moved, deleted or replaced: put it back"
-        ),
-        StopFault::LacksLines => writeln!(
-            out,
-            "this file lacks lines that the other desk has: put the right file back"
         ),
         StopFault::File(why) => print_file_fault(out, path, why),
         StopFault::Lost(why) => print_loss(out, path, why),

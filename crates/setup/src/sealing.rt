@@ -86,19 +86,28 @@ fn key_of(bytes: Vec<u8>) -> Result<Vec<u8>, KeyFault>
     Ok(bytes)
 }
 
-/// The key in a file, which is read to its end.
-fn key_run<R: Feed>(alloc: Global, reader: &mut Watched<R>) -> Result<Vec<u8>, StopFault>
+/// The key in a file of so many bytes, which is read to its end. What has others than these isn't on a disk, as `/proc/version`.
+fn key_run<R: Feed>(alloc: Global, reader: &mut Watched<R>, size: u64) -> Result<Vec<u8>, StopFault>
     ensures key { IfOk result (λ key. keys.IsSomeKey key.items) }
     ensures read { IfSome (R.remaining (stream_of reader.old)) (λ bytes.
         IfOk result (λ key. keys.IsKey bytes key.items)) }
 {
     let bytes = read_all(alloc, reader)?;
+    if bytes.len() as u64 != size {
+        return Err(StopFault::Key(KeyFault::NotAFile));
+    }
     key_of(bytes).map_err(|why| StopFault::Key(why))
 }
 
-/// Asks that a key's file is a plain one, so that no read of it waits, and isn't the sheet. Standard error is told where
-/// others may read it; that it can't be told is no fault.
-fn expect_key_file<'a>(rt: &HostRuntime, path: &'a str, sheet: &str) -> Result<(), Stopped<'a>> {
+/// What a key's file has, and who may read it.
+#[derive(Clone, Copy)]
+struct KeyFile {
+    size: u64,
+    mode: u32,
+}
+
+/// Asks that a key's file is a plain one, so that no read of it waits, and isn't the sheet.
+fn key_file_at<'a>(rt: &HostRuntime, path: &'a str, sheet: &str) -> Result<KeyFile, Stopped<'a>> {
     let Ok(found) = fs::metadata(rt, path) else {
         return Err(Stopped::at(path, StopFault::Read));
     };
@@ -108,20 +117,33 @@ fn expect_key_file<'a>(rt: &HostRuntime, path: &'a str, sheet: &str) -> Result<(
     if is_same_file(rt, path, sheet) {
         return Err(Stopped::at(path, StopFault::Key(KeyFault::Sheet)));
     }
-    if found.mode() & 0o044 != 0 {
+    Ok(KeyFile {
+        size: found.len(),
+        mode: found.mode(),
+    })
+}
+
+/// Tells standard error where others may read a key. That it can't be told is no fault.
+fn tell_readers(rt: &HostRuntime, path: &str, mode: u32) {
+    if mode & 0o044 != 0 {
         let path = printable(path);
         let _ = writeln!(rt.stderr(), "others may read the key: chmod 600 {path}");
     }
-    Ok(())
 }
 
 /// The key in a file that isn't the sheet.
 fn key_at<'a>(rt: &HostRuntime, path: &'a str, sheet: &str) -> Result<Vec<u8>, Stopped<'a>>
     ensures { IfOk result (λ key. keys.IsSomeKey key.items) }
 {
-    expect_key_file(rt, path, sheet)?;
+    let file = key_file_at(rt, path, sheet)?;
     let mut reader = open_input(rt, path)?;
-    key_run(rt.alloc(), &mut reader).map_err(|fault| Stopped::at(path, fault))
+    match key_run(rt.alloc(), &mut reader, file.size) {
+        Ok(key) => {
+            tell_readers(rt, path, file.mode);
+            Ok(key)
+        }
+        Err(fault) => Err(Stopped::at(path, fault)),
+    }
 }
 
 /// Asks the system to leave this process's memory out of what it keeps of one that crashed. Where it doesn't, that is no

@@ -1,14 +1,16 @@
-//! A station and its page: a clock by which it is seen to, and of a desk what is typed in it, the rows that it shows, and the
-//! state.
+//! A station and its page: a clock by which it is seen to, and of a desk what is typed in it, the words that are its own, the
+//! rows that it shows, and the state.
 #![tactic(auto)]
 
 mod attended;
 mod page_lines;
+mod page_words;
 mod rows;
 mod scorers_page;
 mod sight;
 
 pub use attended::{Attended, Attends};
 pub use page_lines::PageLines;
+pub use page_words::{PageWord, PageWords, Squares};
 pub use scorers_page::ScorersPage;
 pub use sight::PageSight;

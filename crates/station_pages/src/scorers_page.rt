@@ -20,23 +20,36 @@ pub struct ScorersPage {
     watching: usize,
     counted: u64,
     told: usize,
+    /// When it was seen to last, by the desk's clock.
+    now: u64,
 }
 
 impl ScorersPage {
-    /// With these who look at it.
-    pub fn new(alloc: Global, viewers: Viewers) -> ScorersPage {
+    /// With these who look at it, from now on.
+    pub fn new(alloc: Global, viewers: Viewers, now: u64) -> ScorersPage {
         ScorersPage {
             viewers,
             rows: Rows::new(alloc),
             watching: 0,
             counted: 0,
             told: 0,
+            now,
         }
     }
 
     /// What ends a desk's waits where somebody looks or types.
     pub fn descriptor(&self) -> RawFd {
         self.viewers.descriptor()
+    }
+
+    /// A square with this ticket in its link is shown now.
+    pub fn show_square(&mut self, ticket: [u8; 16]) {
+        self.viewers.show(ticket, self.now);
+    }
+
+    /// It has this secret from here on. Who had the one before is let go.
+    pub fn renew(&mut self, secret: [u8; 16]) {
+        self.viewers.renew(secret);
     }
 
     /// Takes what the scorer was told.
@@ -97,6 +110,7 @@ impl ScorersPage {
 
 impl Attends for ScorersPage {
     fn attend(&mut self, now: u64) {
+        self.now = now;
         self.viewers.pump(now);
         self.viewers.tell(now);
         self.count(now);

@@ -1,2 +1,3 @@
--- Lemmas on answers, as HTTP's grammar reads them.
+-- Lemmas on answers, as HTTP's grammar reads them, and on who is let go.
+pub mod PlaceLemmas
 pub mod ResponseLemmas

@@ -1,5 +1,5 @@
 -- Whose place is safe.
-use Rattle.std.specs.Prelude.{◌≡◌, ◌≢◌, ℕ, Bool, true, false, List, Option, None, Some, get_or}
+use Rattle.std.specs.Prelude.{◌≡◌, ◌≢◌, ℕ, Bool, true, false, if◌then◌else◌, List, Option, None, Some, get_or}
 use Rattle.viewers.specs.declared.viewer.Viewer.{Viewer}
 
 module _ {V : Type 0} where
@@ -20,6 +20,17 @@ module _ {S : Type 0} {r : _} {w : _} where
   abbrev pub is_signed : Option (Viewer S r w) → Bool
   is_signed None = false
   is_signed (Some viewer) = viewer.is_signed
+
+  abbrev pub is_unsigned : Option (Viewer S r w) → Bool
+  is_unsigned slot = if is_signed slot then false else true
+
+  -- nobody who is there is signed
+  abbrev pub HasNoSigned : List (Option (Viewer S r w)) → Type 0
+  HasNoSigned slots = (k : ℕ) → is_signed (get_or slots k None) ≡ false
+
+  -- each that isn't signed is there and as it was
+  abbrev pub KeepsUnsigned : List (Option (Viewer S r w)) → List (Option (Viewer S r w)) → Type 0
+  KeepsUnsigned old new = KeepsThose is_unsigned old new
 
   -- each that is signed is there and as it was, whoever came
   abbrev pub KeepsSigned : List (Option (Viewer S r w)) → List (Option (Viewer S r w)) → Type 0

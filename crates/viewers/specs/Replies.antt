@@ -1,13 +1,14 @@
 -- What a viewer is sent, of what is shown: a head by HTTP's grammar, as `http1` writes it, and behind it the page, a text
 -- that was handed over, or a refusal.
 use Rattle.std.specs.Prelude.{ℕ, ◌==◌, Bool, false, if◌then◌else◌, List, [], ◌∷◌, ◌++◌, length, codes, decimal}
+use Rattle.hex.specs.Hex.{encode_lower}
 use Rattle.http1.specs.declared.server.Server.{Server}
 use Rattle.http1.specs.declared.conn.BodySize.TheVariants.{Known, Unknown}
 use Rattle.http1.specs.Fields.{Header}
 use Rattle.http1.specs.Server.{after_response, planned_response, writing}
 use Rattle.http1.specs.Conn.{after_data, data_text, finish_text}
 use Rattle.viewers.specs.declared.asks.{Ask.Ask, Asked.Asked}
-use Rattle.viewers.specs.declared.asks.Ask.TheVariants.{Page, Lines, State, Events, Given, Typed, Unready, Full, Missing, Method, Foreign, Faulty}
+use Rattle.viewers.specs.declared.asks.Ask.TheVariants.{Page, Lines, State, Events, Given, Typed, Signed, Handed, Unready, Full, Missing, Method, Foreign, Faulty}
 use Rattle.viewers.specs.declared.{shown.Shown.Shown, station.Station.Station}
 use Rattle.viewers.specs.declared.page.TheConstants as board
 use Rattle.viewers.specs.declared.desk_page.TheConstants as desk
@@ -80,6 +81,10 @@ page_text s station head = whole_text s station 200 (codes "OK") html (page_of s
 abbrev pub nonce_text : Server → Station → ℕ → List ℕ
 nonce_text s station nonce = whole_text s station 200 (codes "OK") plain (decimal nonce ++ codes "\n") false
 
+-- a hidden secret in hex digits, as a text of one line
+abbrev pub handed_text : Server → Station → List ℕ → List ℕ
+handed_text s station hidden = whole_text s station 200 (codes "OK") plain (encode_lower hidden ++ codes "\n") false
+
 -- what the lines of a station are
 abbrev pub lines_kind : Station → List ℕ
 lines_kind Board = plain
@@ -94,6 +99,8 @@ answer_text s State head shown = whole_text s shown.station 200 (codes "OK") jso
 answer_text s Events head shown = stream_text s shown.station
 answer_text s (Given nonce) head shown = nonce_text s shown.station nonce
 answer_text s Typed head shown = whole_text s shown.station 200 (codes "OK") plain (codes "typed\n") head
+answer_text s Signed head shown = whole_text s shown.station 200 (codes "OK") plain (codes "signed\n") head
+answer_text s (Handed hidden) head shown = handed_text s shown.station hidden
 answer_text s Unready head shown = whole_text s shown.station 503 (codes "Not Yet") plain (codes "no score yet\n") head
 answer_text s Full head shown = whole_text s shown.station 503 (codes "Full") plain (codes "no place is free\n") head
 answer_text s Missing head shown = whole_text s shown.station 404 (codes "Not Found") plain (codes "not here\n") head

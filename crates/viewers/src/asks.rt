@@ -5,12 +5,12 @@ ghost use Rattle.std.specs.Prelude.{◌≡◌, false};
 use crate::host::is_named;
 use crate::station::Station;
 use httparse::spans::{HeaderSpan, RequestSpans, Span};
-use posts::{Pass, Stamp};
+use posts::{Pass, Stamp, tag_in};
 use std::net::SocketAddr;
 use std::str;
 
 /// What is asked for, as far as its head tells, or why it isn't had.
-#[derive(Clone, Copy, PartialEq, Eq)]
+#[derive(Clone, Copy)]
 pub enum Ask {
     /// The page itself.
     Page,
@@ -24,6 +24,10 @@ pub enum Ask {
     Given(u64),
     /// A line was typed.
     Typed,
+    /// A pass was good: the page is still signed.
+    Signed,
+    /// The secret of the desk's page, hidden by the ticket of its square.
+    Handed([u8; 16]),
     /// Nothing was handed over yet.
     Unready,
     /// No place is free.
@@ -54,6 +58,10 @@ pub enum Wish {
     Nonce,
     /// To be told each state, with a pass.
     Watch(Pass),
+    /// To know whether a pass is good.
+    Look(Pass),
+    /// The secret of the desk's page.
+    Claim(Claim),
     /// To type the line that follows.
     Line(Heading),
 }
@@ -64,6 +72,15 @@ pub struct Heading {
     /// Whether it comes from this page, or from none.
     pub is_from_here: bool,
     pub stamp: Option<Stamp>,
+}
+
+/// What the head of a post says that asks for the secret of the desk's page.
+#[derive(Clone, Copy)]
+pub struct Claim {
+    /// Whether it comes from this page, or from none.
+    pub is_from_here: bool,
+    /// By a square's ticket.
+    pub tag: Option<[u8; 32]>,
 }
 
 /// The bytes of a span, where they are there.
@@ -169,7 +186,7 @@ pub fn asked_by(station: Station, method: &[u8], target: &[u8], is_here: bool) -
     let found = ask_at(station, path_of(target));
     let ask = if !is_here {
         Ask::Foreign
-    } else if is_head && found == Ask::Events {
+    } else if is_head && matches!(found, Ask::Events) {
         Ask::Method
     } else if is_head || method == b"GET".as_slice() {
         found
@@ -179,23 +196,31 @@ pub fn asked_by(station: Station, method: &[u8], target: &[u8], is_here: bool) -
     Asked { ask, is_head }
 }
 
-/// Whether a request is one that only a desk takes: this method, for this path.
-fn is_of_desk(station: Station, method: &[u8], target: &[u8], of: &[u8], path: &[u8]) -> bool {
-    station == Station::Desk && method == of && path_of(target) == path
+/// What a post to a desk wishes.
+fn posted_to_desk(target: &[u8], input: &[u8], fields: &[HeaderSpan], host: &[u8]) -> Option<Wish> {
+    let path = path_of(target);
+    if path == b"/line".as_slice() {
+        Some(Wish::Line(heading_in(input, fields, host)))
+    } else if path == b"/secret".as_slice() {
+        Some(Wish::Claim(claim_in(input, fields, host)))
+    } else {
+        None
+    }
 }
 
-/// What a request wishes that names this host.
-fn wished_by(station: Station, method: &[u8], target: &[u8], heading: Heading) -> Wish {
-    if is_of_desk(station, method, target, b"GET", b"/nonce") {
-        Wish::Nonce
-    } else if is_of_desk(station, method, target, b"POST", b"/line") {
-        Wish::Line(heading)
-    } else if is_of_desk(station, method, target, b"GET", b"/events")
-        && let Some(pass) = pass_in(target)
-    {
-        Wish::Watch(pass)
+/// What a page asks a desk for that is nobody else's: a number, or something by a pass.
+fn got_of_desk(target: &[u8]) -> Option<Wish> {
+    let path = path_of(target);
+    if path == b"/nonce".as_slice() {
+        return Some(Wish::Nonce);
+    }
+    let pass = pass_in(target)?;
+    if path == b"/events".as_slice() {
+        Some(Wish::Watch(pass))
+    } else if path == b"/signed".as_slice() {
+        Some(Wish::Look(pass))
     } else {
-        Wish::Answer(asked_by(station, method, target, true))
+        None
     }
 }
 
@@ -210,6 +235,14 @@ fn heading_in(input: &[u8], fields: &[HeaderSpan], host: &[u8]) -> Heading {
     }
 }
 
+/// What the head of a post says that asks for the secret.
+fn claim_in(input: &[u8], fields: &[HeaderSpan], host: &[u8]) -> Claim {
+    Claim {
+        is_from_here: is_own_page(input, fields, host),
+        tag: tag_in(text_in(input, fields, b"x-tag")),
+    }
+}
+
 /// What a head wishes of a station's page at this address.
 pub fn wish_in(
     station: Station,
@@ -221,9 +254,19 @@ pub fn wish_in(
     let method = bytes_at(input, head.method);
     let target = bytes_at(input, head.path);
     let host = field_in(input, fields, b"host").unwrap_or(b"");
-    if is_named(host, at) {
-        wished_by(station, method, target, heading_in(input, fields, host))
-    } else {
-        Wish::Answer(asked_by(station, method, target, false))
+    if !is_named(host, at) {
+        return Wish::Answer(asked_by(station, method, target, false));
+    }
+    let wish = match station {
+        Station::Board => None,
+        Station::Desk if method == b"POST".as_slice() => posted_to_desk(
+            target, input, fields, host,
+        ),
+        Station::Desk if method == b"GET".as_slice() => got_of_desk(target),
+        Station::Desk => None,
+    };
+    match wish {
+        Some(wish) => wish,
+        None => Wish::Answer(asked_by(station, method, target, true)),
     }
 }

@@ -1,7 +1,7 @@
 //! All who look at a page.
 
 ghost use Rattle.std.specs.Prelude.{◌≡◌, ◌≤◌, IfSome};
-ghost use Rattle.viewers.specs.Places.{KeepsSigned};
+ghost use Rattle.viewers.specs.Places.{HasNoSigned, KeepsSigned, KeepsUnsigned};
 
 use crate::inbox::Inbox;
 use crate::listening::listener_at;
@@ -226,6 +226,27 @@ impl Viewers {
         ensures { self.new.shown ≡ self.old.shown }
     {
         self.crowd.tell(&self.shown, now);
+    }
+
+    /// A square with this ticket in its link is shown now.
+    pub fn show(&mut self, ticket: [u8; 16], now: u64)
+        ensures { self.new.shown ≡ self.old.shown }
+    {
+        if let Some(inbox) = &mut self.inbox {
+            inbox.show(ticket, now);
+        }
+    }
+
+    /// The page has this secret from here on. Who is signed is let go.
+    pub fn renew(&mut self, secret: [u8; 16])
+        ensures shown { self.new.shown ≡ self.old.shown }
+        ensures gone { HasNoSigned self.new.crowd.places.viewers.items }
+        ensures others { KeepsUnsigned self.old.crowd.places.viewers.items self.new.crowd.places.viewers.items }
+    {
+        if let Some(inbox) = &mut self.inbox {
+            inbox.renew(secret);
+        }
+        self.crowd.places.let_signed_go();
     }
 
     /// How many are told what is shown.

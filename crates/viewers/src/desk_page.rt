@@ -2,7 +2,7 @@
 
 /// What may be run and loaded in the page: its own style and script, and what it asks of its station.
 pub const POLICY: &[u8] =
-    b"default-src 'none'; script-src 'sha256-ya1BhAWBQX2Ml0woO7VLfKS/I2dYI4qg0EYxSTkTja4='; style-src 'sha256-TJJPdKyscPeFsFxnBDMw0VKlpaQlWwlCPIb52rVEc1E='; connect-src 'self'; img-src data:; base-uri 'none'; form-action 'none'; frame-ancestors 'none'";
+    b"default-src 'none'; script-src 'sha256-23a4UYnVty5O3878a89IxnkBvmUVZEUtvSMDCwhkLZM='; style-src 'sha256-TJJPdKyscPeFsFxnBDMw0VKlpaQlWwlCPIb52rVEc1E='; connect-src 'self'; img-src data:; base-uri 'none'; form-action 'none'; frame-ancestors 'none'";
 
 /// The page.
 pub const PAGE: &[u8] = b"<!DOCTYPE html>
@@ -16,7 +16,8 @@ pub const PAGE: &[u8] = b"<!DOCTYPE html>
 <!-- A scorer's page, for a telephone in one hand, a tablet or a laptop. A desk serves it: it tells its state and its rows (GET /events), and takes
      what a scorer would type there (POST /line). The page writes only such lines, most of them short ones, and keeps no book: each figure is the
      desk's. A line that was tapped stands for 1.2 seconds and may be taken back (?grace=3000 behind the address for another time), then it is sent
-     once, with the place and the round that the scorer saw, and signed with the secret behind # in the desk's link. It is never sent again by itself. -->
+     once, with the place and the round that the scorer saw, and signed with the desk's secret. It is never sent again by itself. The secret is given
+     once for the ticket behind # in the link of the desk's square (POST /secret), stays in this tab, and stands in no address. -->
 <style>
 :root {
   color-scheme: light dark;
@@ -237,7 +238,7 @@ form input::placeholder { color: var(--quiet); opacity: 1; }
   <div id=\"card\" role=\"dialog\" aria-modal=\"true\" aria-labelledby=\"question\">
     <div class=\"bar\"><h2 id=\"question\" tabindex=\"-1\"></h2><button type=\"button\" id=\"back\">Cancel</button></div>
     <div id=\"choices\"></div>
-    <form id=\"ask\" hidden><label for=\"answer\" class=\"unseen\">The secret</label>
+    <form id=\"ask\" hidden><label for=\"answer\" class=\"unseen\">The letters and digits behind # in the link</label>
       <input id=\"answer\" autocomplete=\"off\" autocapitalize=\"off\" autocorrect=\"off\" spellcheck=\"false\" enterkeyhint=\"done\" placeholder=\"what stands behind #\">
       <button>Use it</button></form>
   </div>
@@ -327,7 +328,7 @@ function hmac(key, bytes) {
 const hex = bytes => Array.from(bytes, byte => byte.toString(16).padStart(2, \"0\")).join(\"\");
 
 // The bytes of 32 hex digits at the end of a text, as of a whole link.
-function secretIn(text) {
+function bytesIn(text) {
   const found = /(?:^|[^0-9a-f])([0-9a-f]{32})$/i.exec(text.trim());
   return found && Uint8Array.from(found[1].match(/../g), pair => parseInt(pair, 16));
 }
@@ -335,7 +336,9 @@ function secretIn(text) {
 // ---- What the desk tells.
 let state = null;        // its state
 let version = 0;         // how many states came
-let secret = null;       // the link's, in memory alone
+let secret = null;       // by which lines are signed; this tab keeps it, so that a page that is loaded again has it
+let ticket = null;       // of the square's link, until it is given for the secret
+let needs = \"\";          // why a new square is needed
 let source = null;       // its events
 let isOpen = false;      // whether they come
 let asked = 0;           // when they were asked for last, by this page's clock, or will have been at the latest
@@ -348,7 +351,7 @@ let told = nothingTold();
 // What the rows tell, from those that the desk keeps on.
 function nothingTold() {
   const entries = new Map();   // what stands at each place, as it was corrected last
-  return { all: [], rows: [], entries, last: null, differs: null, other: null, isHeard: true, check: [], isChecking: false, spells: [], bowls: null, side: null, part: \"\" };
+  return { all: [], rows: [], entries, last: null, differs: null, other: null, isHeard: true, doubts: null, check: [], isChecking: false, spells: [], bowls: null, side: null, part: \"\" };
 }
 
 const isKnown = () => state !== null && state.format === \"yermudosh desk 1\";
@@ -358,11 +361,63 @@ const isLost = () => !isOpen || Date.now() - heard > LOST;
 const differs = () => state.round > 0 && state.pending === null;
 const standing = () => JSON.stringify([state.place, state.round, state.pending, state.held]);
 
-function readSecret() {
-  const found = secretIn(location.hash);
-  if (location.hash) history.replaceState(null, \"\", location.pathname + location.search);
-  if (found) { secret = found; note = null; }
+// ---- The secret, for which the ticket of a square is given once. Neither is sent: the ticket makes a tag, and turns the bits of what is answered.
+const KEPT = \"secret\";
+const tagged = (key, text) => hmac(key, new TextEncoder().encode(text));
+
+function keep(found) {
+  secret = found;
+  try {
+    if (found) sessionStorage.setItem(KEPT, hex(found));
+    else sessionStorage.removeItem(KEPT);
+  } catch (why) {
+    // A browser that keeps nothing: a page that is loaded again needs a new square.
+  }
   later();
+}
+
+function keptSecret() {
+  try {
+    return bytesIn(sessionStorage.getItem(KEPT) || \"\");
+  } catch (why) {
+    return null;
+  }
+}
+
+// Takes the ticket out of the address, so that no history has it.
+function readLink() {
+  const found = bytesIn(location.hash);
+  if (location.hash) history.replaceState(null, \"\", location.pathname + location.search);
+  if (found) ticket = found;
+  later();
+}
+
+const USED = \"That square is no longer good: it was used, or it is older than two minutes.\";
+const LET_GO = \"The desk has begun again, or it let this page go.\";
+
+// Gives the ticket for the secret. Where the desk isn't reached that is tried again.
+async function redeem() {
+  const given = ticket;
+  const answer = await request(\"secret\", { method: \"POST\", headers: { \"X-Tag\": hex(tagged(given, \"ticket\")) } });
+  const hidden = answer.ok ? bytesIn(await answer.text()) : null;
+  if (given !== ticket) return;
+  ticket = null;
+  const pad = tagged(given, \"secret\");
+  if (hidden) { note = null; keep(hidden.map((byte, n) => byte ^ pad[n])); }
+  else needs = USED;
+}
+
+// What shows that this page has the secret: a number that the desk gave, and its tag.
+async function pass() {
+  const nonce = await nonceGiven();
+  return \"nonce=\" + nonce + \"&tag=\" + hex(tagged(secret, nonce + \" watch\"));
+}
+
+// Asks whether the secret is still the desk's. Where it isn't, the page needs a new square, and says so.
+async function lookSigned() {
+  const asked = secret;
+  const answer = await request(\"signed?\" + await pass());
+  if (answer.status === 403 && asked === secret) { needs = LET_GO; keep(null); }
 }
 
 function hearAgain() {
@@ -372,10 +427,10 @@ function hearAgain() {
 
 // Where the events are. Who has the secret signs that it wants them: so it loses its place to nobody who hasn't.
 async function eventsPath() {
-  if (secret === null) return \"events\";
   try {
-    const nonce = await nonceGiven();
-    return \"events?nonce=\" + nonce + \"&tag=\" + hex(hmac(secret, new TextEncoder().encode(nonce + \" watch\")));
+    if (ticket !== null) await redeem();
+    if (secret !== null) await lookSigned();
+    return secret === null ? \"events\" : \"events?\" + await pass();
   } catch (why) {
     return \"events\";
   }
@@ -455,11 +510,13 @@ function follow(row) {
   else if (other) told.other = Number(other[1]);
   else if (row === \"the other desk isn't heard\") told.isHeard = false;
   else if (row === \"the other desk is heard again\") told.isHeard = true;
+  else if (row.startsWith(\"this file lacks lines that \")) told.doubts = row;
+  else if (row.startsWith(\"this desk goes on \") || row.startsWith(\"the other desk is where this one is\")) told.doubts = null;
   else if (row.startsWith(\"dropped \") && THEIRS.test(told.rows[told.rows.length - 2])) told.differs.dropped = row;
 }
 
 const WRONG = new RegExp(\"^(fault |refused |which one|no such player|who bowls|undo: |[wb]: |\\\\w+ has no fielder|\" +
-  \"\\\\d+ (not taken|doesn't differ|is cast|differs: begin)|dropped |24 lines |not held|peer: |not a peer|cannot |this file |this is the copy|the other desk's file |its file |votes)\");
+  \"\\\\d+ (not taken|doesn't differ|is cast|isn't written|differs: begin)|dropped |24 lines |not held|peer: |not a peer|cannot |this file |this is the copy|the other desk's file |its file |votes)\");
 const CHANGED = /^(now: |innings \\d+: |\\.\\. and )/;
 
 // What the scorer is to read before going on: a row that says why a line isn't taken, or what a correction has changed. Not what was told before this page came.
@@ -542,13 +599,13 @@ function flush() {
 const UNREACHED = \"The desk wasn't reached. Tap it again when it is back.\";
 const REFUSED = {
   400: \"The desk couldn't read it.\",
-  403: \"This link isn't the desk's. Was the desk started again? Then open its new link.\",
+  403: \"This page isn't signed any more. Type \\\"page\\\" at the desk, and point at its new square.\",
   409: \"The desk is at another place by now. Look, and tap again.\",
   410: \"It came too late. Tap it again.\",
   413: \"A line has at most 128 letters.\",
   503: \"Eight lines wait at the desk. Wait a moment, and tap it again.\",
 };
-const QUESTION = /^(list|score|card|players|bowlers|help|short)\\b/;
+const QUESTION = /^(list|score|card|players|bowlers|help|short|go on)\\b/;
 
 // Asks the desk, and waits five seconds at most.
 function request(path, options) {
@@ -579,13 +636,13 @@ async function send(line, label, where) {
   } catch (why) {
     return fail(\"Not written: \" + label, UNREACHED);
   }
-  const tag = hex(hmac(secret, new TextEncoder().encode(nonce + \" \" + where + \" \" + line)));
+  const tag = hex(tagged(secret, nonce + \" \" + where + \" \" + line));
   try {
     answer = await request(\"line\", { method: \"POST\", headers: { \"X-At\": where, \"X-Nonce\": nonce, \"X-Tag\": tag }, body: line });
   } catch (why) {
     return fail(\"No answer: \" + label, \"It was sent. See whether it stands at the desk before you tap it again.\");
   }
-  if (answer.status === 403) secret = null;
+  if (answer.status === 403) keep(null);
   if (!answer.ok) return fail(\"Not written: \" + label, REFUSED[answer.status] || \"The desk answered \" + answer.status + \".\");
   if (sent) {
     sent.since = now();
@@ -1016,9 +1073,10 @@ function formatView() {
 
 function secretView() {
   if (secret !== null) return null;
-  const why = note ? note.head + \". \" + note.detail + \"\\n\" : \"\";
-  const detail = why + \"Open the link that the desk tells, or type what stands behind # in it.\";
-  return { kind: why ? \"bad\" : \"wait\", head: \"This page can't write yet\", detail, answers: [[\"Type it\", askSecret, \"\", \"main\"]] };
+  if (ticket !== null) return { kind: \"\", head: \"Signing in\", detail: \"\" };
+  const why = note ? note.head + \". \" + note.detail + \"\\n\" : needs ? needs + \"\\n\" : \"\";
+  const detail = why + \"Type \\\"page\\\" at the desk, and point the camera at its square, or type what stands behind # below it.\";
+  return { kind: why ? \"bad\" : \"wait\", head: needs ? \"This page needs a new square\" : \"This page can't write yet\", detail, answers: [[\"Type it\", askTicket, \"\", \"main\"]] };
 }
 
 function heldView() {
@@ -1028,6 +1086,13 @@ function heldView() {
 
 function noteView() {
   return note ? { kind: note.kind, head: note.head, detail: note.detail, answers: [[\"OK\", () => { note = null; show(); }]] } : null;
+}
+
+// A desk that doubts its file writes nothing.
+function doubtView() {
+  if (told.doubts === null) return null;
+  const detail = told.doubts + \".\\nTalk to the other scorer. Where a file was lost, end the desk and put it back. Where none was, go on.\";
+  return { kind: \"bad\", head: \"This desk writes nothing\", detail, answers: [[\"Go on\", () => send(\"go on\", \"go on\", position())]] };
 }
 
 // In words, and where these leave room for it as it is written.
@@ -1160,7 +1225,7 @@ function withNews(view, isSaid) {
   return { ...view, detail: news.filter(text => text).join(\"\\n\") };
 }
 
-const VIEWS = [lostView, formatView, secretView, heldView, noteView, pendingView, amendView, differsView, askedView, readyView];
+const VIEWS = [lostView, formatView, secretView, heldView, noteView, doubtView, pendingView, amendView, differsView, askedView, readyView];
 
 // ---- Showing. Nothing is drawn anew under a finger: that would take the tap, or give it to something else.
 let isDown = false;      // a finger or a button is down
@@ -1376,17 +1441,17 @@ function closeTold() {
   at(\"open-told\").focus();
 }
 
-function askSecret() {
-  ask(\"The secret of the desk's link\", [], () => {});
+function askTicket() {
+  ask(\"What stands behind # in the link\", [], () => {});
 }
 
-function useSecret(event) {
+function useTicket(event) {
   event.preventDefault();
-  const found = secretIn(at(\"answer\").value);
+  const found = bytesIn(at(\"answer\").value);
   at(\"answer\").value = \"\";
-  if (found) { secret = found; note = null; listen(); }
+  if (found) { ticket = found; note = null; listen(); }
   closeSheet();
-  if (!found) tell(\"bad\", \"That is no secret\", \"It has 32 digits and letters from a to f.\");
+  if (!found) tell(\"bad\", \"That isn't what stands there\", \"It has 32 digits and letters from a to f.\");
   show();
 }
 
@@ -1419,21 +1484,22 @@ at(\"sheet\").addEventListener(\"click\", event => { if (event.target === at(\"s
 at(\"open-told\").addEventListener(\"click\", openTold);
 at(\"close-told\").addEventListener(\"click\", closeTold);
 at(\"typed\").addEventListener(\"submit\", typeLine);
-at(\"ask\").addEventListener(\"submit\", useSecret);
+at(\"ask\").addEventListener(\"submit\", useTicket);
 at(\"rows\").addEventListener(\"scroll\", () => { const rows = at(\"rows\"); isAtEnd = rows.scrollHeight - rows.scrollTop - rows.clientHeight < 40; });
 addEventListener(\"resize\", follows);
-addEventListener(\"hashchange\", () => { readSecret(); listen(); });
+addEventListener(\"hashchange\", () => { readLink(); listen(); });
 document.addEventListener(\"visibilitychange\", () => { if (!document.hidden && isLost()) listen(); });
 
 // Looks whether the desk is there, and asks anew where it isn't.
 function tick() {
-  if (isLost() && Date.now() - asked > (isOpen ? LOST : AGAIN)) listen();
+  if ((isLost() || ticket !== null) && Date.now() - asked > (isOpen ? LOST : AGAIN)) listen();
   if (sent && sent.isTaken && now() - sent.since > ANSWER) sent = null;
   show();
 }
 
 setInterval(tick, 500);
-readSecret();
+secret = keptSecret();
+readLink();
 listen();
 </script>
 </body>

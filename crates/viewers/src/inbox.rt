@@ -3,9 +3,10 @@
 ghost use Rattle.std.specs.Prelude.{◌≡◌, ◌≤◌, ◌∷◌, ◌++◌, [], IfSome, MatchOption, MatchResult, None, Some, if◌then◌else◌, length, take};
 ghost use Rattle.posts.specs.Posts as posts;
 ghost use Rattle.posts.specs.Posts.{is_same_place};
+ghost use Rattle.posts.specs.Tickets as tickets;
 ghost use Rattle.viewers.specs.Inboxes as inboxes;
 
-use crate::asks::{Ask, Heading};
+use crate::asks::{Ask, Claim, Heading};
 use agree_core::Position;
 use arrayvec::ArrayVec;
 use links::LineBuffer;
@@ -20,7 +21,7 @@ pub struct Inbox {
 }
 
 impl Inbox {
-    /// Of a desk whose page has this secret in its link. Nothing is posted yet.
+    /// Of a desk whose page has this secret. Nothing is posted yet.
     pub fn new(secret: [u8; 16]) -> Inbox
         ensures { result.lines.items ≡ [] }
     {
@@ -86,6 +87,33 @@ impl Inbox {
         self.posts.look_at(pass)
     }
 
+    /// A square with this ticket in its link is shown now.
+    pub fn show(&mut self, ticket: [u8; 16], now: u64)
+        ensures ticket { self.new.posts.ticket ≡ Some (record { key = ticket; since = now }) }
+        ensures secret { self.new.posts.secret ≡ self.old.posts.secret }
+        ensures lines { self.new.lines ≡ self.old.lines }
+    {
+        self.posts.show(ticket, now);
+    }
+
+    /// The page has this secret from here on.
+    pub fn renew(&mut self, secret: [u8; 16])
+        ensures secret { self.new.posts.secret ≡ secret }
+        ensures ticket { self.new.posts.ticket ≡ None }
+        ensures lines { self.new.lines ≡ self.old.lines }
+    {
+        self.posts.renew(secret);
+    }
+
+    /// What is handed out for a tag.
+    fn hand_out(&mut self, tag: &[u8; 32], now: u64) -> Option<[u8; 16]>
+        ensures handed { result ≡ tickets.handed self.old.posts.secret self.old.posts.ticket tag.now now }
+        ensures ticket { self.new.posts.ticket ≡ tickets.ticket_after self.old.posts.ticket tag.now now }
+        ensures lines { self.new.lines ≡ self.old.lines }
+    {
+        self.posts.hand_out(tag, now)
+    }
+
     /// What a post comes to: its line waits from here on, or why not.
     fn posted(&mut self, post: &Post<'_>) -> Option<Refusal>
         ensures comes_to { MatchResult (posts.verdict self.old.posts.secret self.old.posts.out post.now self.old.at (length self.old.lines.items))
@@ -132,5 +160,20 @@ pub fn is_passed(inbox: &mut Option<Inbox>, pass: &Pass) -> bool {
     match inbox {
         Some(inbox) => inbox.look_at(pass),
         None => false,
+    }
+}
+
+/// Answers who asks for the secret: it is hidden by the ticket of the newest square, which is good once.
+pub fn hand_out(inbox: &mut Option<Inbox>, claim: &Claim, now: u64) -> Ask {
+    let Some(inbox) = inbox else {
+        return Ask::Missing;
+    };
+    let handed = match claim.tag {
+        Some(tag) if claim.is_from_here => inbox.hand_out(&tag, now),
+        _ => None,
+    };
+    match handed {
+        Some(hidden) => Ask::Handed(hidden),
+        None => Ask::Faulty(403),
     }
 }

@@ -16,7 +16,7 @@ mod station;
 mod stream;
 mod viewer;
 
-pub use asks::{Ask, Asked, Heading};
+pub use asks::{Ask, Asked, Claim, Heading};
 pub use crowd::Viewers;
 pub use host::is_named;
 pub use inbox::Inbox;

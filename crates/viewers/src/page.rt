@@ -2,7 +2,7 @@
 
 /// What may be run and loaded in the page: its own style and script, and what it asks of its station.
 pub const POLICY: &[u8] =
-    b"default-src 'none'; script-src 'sha256-B9HOqGoNwPnWu+4+6N5zR5xXC87dmp7I5LzPaSXLSJY='; style-src 'sha256-QTzaF9fK6xdGbJz7DGRRKpa/QtTpHcO/oL3P59HrW1w='; connect-src 'self'; img-src data:; base-uri 'none'; form-action 'none'; frame-ancestors 'none'";
+    b"default-src 'none'; script-src 'sha256-c+AmzPZsdMtQ4XLb11b5nHgk7xe+xEGK1O6JamXatOg='; style-src 'sha256-DTH/OFZGnBmiDtiQkR3rBSdsBgAlJjHqn7xirAivU0E='; connect-src 'self'; img-src data:; base-uri 'none'; form-action 'none'; frame-ancestors 'none'";
 
 /// The page.
 pub const PAGE: &[u8] = b"<!DOCTYPE html>
@@ -37,6 +37,7 @@ h1, h2 { font-weight: 600; }
 header { display: flex; flex-wrap: wrap; gap: .2em 1em; justify-content: space-between; align-items: baseline; padding: .5em 1em; border-bottom: 2px solid var(--line); }
 h1 { font-size: 1.1em; overflow-wrap: anywhere; }
 #age { color: var(--quiet); white-space: nowrap; padding: .1em .5em; border-radius: .3em; }
+#trouble { margin: .5em .75em 0; padding: .4em .8em; border-radius: .3em; background: var(--alarm-ground); color: var(--alarm-text); font-weight: 700; overflow-wrap: anywhere; }
 #age.old { background: var(--alarm-ground); color: var(--alarm-text); font-weight: 700; }
 main { display: grid; gap: .75em; padding: .75em; grid-template-columns: minmax(0, 1fr); }
 section { background: var(--panel); border: 1px solid var(--line); border-radius: .5em; padding: .6em .9em; min-width: 0; }
@@ -99,6 +100,7 @@ ol.over li.wicket { border-color: var(--wicket); border-radius: .2em; background
 html.overlay { background: transparent; }
 .overlay h1, .overlay #age:not(.old), .overlay #missing, .overlay #wickets, .overlay #chart, .overlay #cards { display: none; }
 .overlay header { position: fixed; right: 2vw; top: 2vh; padding: 0; border: 0; }
+.overlay #trouble { position: fixed; left: 2vw; top: 2vh; max-width: 60vw; margin: 0; }
 .overlay main { position: fixed; left: 2vw; right: 2vw; bottom: 3vh; padding: 0; align-items: stretch; grid-template-columns: minmax(0, 1fr) minmax(0, 1.5fr) minmax(0, 1fr); }
 .overlay section { background: rgba(10, 24, 16, .92); border: 0; }
 @media (min-width: 900px) {
@@ -117,6 +119,7 @@ html.overlay { background: transparent; }
 .big { --u: calc(min(1vh, .5625vw) * var(--fit, 1)); font-size: calc(2.6 * var(--u)); overflow: hidden; }
 .big header { flex-wrap: nowrap; font-size: calc(2 * var(--u)); }
 .big h1 { white-space: nowrap; }
+.big #trouble { font-size: calc(3.6 * var(--u)); }
 .big main { display: block; padding: .3em 1.4em 0; }
 .big section { background: none; border: 0; border-radius: 0; padding: 0; }
 .big #stand, .big #over, .big #wickets, .big #chart, .big #cards, .big #crease-heading { display: none; }
@@ -149,6 +152,7 @@ html.overlay { background: transparent; }
   <h1 id=\"title\">Scoreboard</h1>
   <p id=\"age\">waiting for the board</p>
 </header>
+<p id=\"trouble\" role=\"alert\" hidden></p>
 <main>
   <section id=\"score\" aria-labelledby=\"team\">
     <h2 id=\"team\">Waiting for the board</h2>
@@ -407,6 +411,7 @@ function show(board, before) {
   const label = now.result !== null ? \"Last innings: \" : last && last.closed ? \"Innings closed: \" : \"Batting: \";
   at(\"team\").replaceChildren(...(last ? [element(\"span\", label, \"label\"), last.team] : [waits(board) ? \"Waiting for the desks\" : \"No play yet\"]));
   putIf(\"missing\", \"\");
+  putIf(\"trouble\", board.trouble ? \"Place \" + board.trouble.place + \": \" + board.trouble.text : \"\");
   put(\"runs\", last ? last.runs + \"/\" + last.wickets : \"\");
   put(\"overs\", last ? last.overs + (known(now.overs) ? \" of \" + now.overs : \"\") + \" overs\" : \"\");
   putIf(\"aim\", now.result === null && now.target !== null ? \"Target \" + now.target + \", needs \" + now.needs + off(now) : \"\");

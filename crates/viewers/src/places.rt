@@ -1,7 +1,7 @@
 //! The places at a page: who has one, and whose is given to whom.
 
 ghost use Rattle.std.specs.Prelude.{◌≡◌, [], None, false, get_or};
-ghost use Rattle.viewers.specs.Places.{KeepsAll, KeepsOthers, KeepsSigned, is_signed};
+ghost use Rattle.viewers.specs.Places.{HasNoSigned, KeepsAll, KeepsOthers, KeepsSigned, KeepsUnsigned, is_signed};
 
 use crate::inbox::Inbox;
 use crate::shown::Shown;
@@ -255,10 +255,32 @@ impl<S: Stream + Drop> Places<S> {
 
     /// Lets go who is at a place.
     fn let_go(&mut self, place: usize)
-        ensures { KeepsOthers place self.old.viewers.items self.new.viewers.items }
+        ensures here { get_or self.new.viewers.items place None ≡ None }
+        ensures others { KeepsOthers place self.old.viewers.items self.new.viewers.items }
     {
         if let Some(slot) = self.viewers.get_mut(place) {
             *slot = None;
+        }
+    }
+
+    /// Lets go who is at a place, where they are signed.
+    fn let_signed_go_at(&mut self, place: usize)
+        ensures here { is_signed (get_or self.new.viewers.items place None) ≡ false }
+        ensures others { KeepsOthers place self.old.viewers.items self.new.viewers.items }
+        ensures unsigned { KeepsUnsigned self.old.viewers.items self.new.viewers.items }
+    {
+        if self.is_signed_at(place) {
+            self.let_go(place);
+        }
+    }
+
+    /// Lets go all who are signed.
+    pub fn let_signed_go(&mut self)
+        ensures gone { HasNoSigned self.new.viewers.items }
+        ensures others { KeepsUnsigned self.old.viewers.items self.new.viewers.items }
+    {
+        for place in 0..self.viewers.len() {
+            self.let_signed_go_at(place);
         }
     }
 

@@ -1,6 +1,7 @@
 //! What a viewer is sent.
 
 ghost use Rattle.std.specs.Prelude.{◌≡◌, ◌<◌, ◌^◌, ◌++◌, [], IfOk, None, OnOk, codes, decimal, length};
+ghost use Rattle.hex.specs.Hex.{encode_lower};
 ghost use Rattle.http1.specs.Head.{pairs};
 ghost use Rattle.http1.specs.Server.{after_response, planned_response, response_refusal, writing};
 ghost use Rattle.http1.specs.Conn.{after_data, data_refusal, data_text, finish_refusal, finish_text};
@@ -10,6 +11,7 @@ ghost use Rattle.viewers.specs.Replies as texts;
 use crate::asks::Ask;
 use crate::shown::Shown;
 use crate::station::{Station, page_of, policy_of};
+use hex::encode_to_slice;
 use http1::{BodySize, Header, Server, WriteError};
 use itoa::Buffer;
 use std::alloc::{AllocError, Global};
@@ -173,6 +175,13 @@ const TYPED: ShortAnswer = ShortAnswer {
     line: b"typed\n",
 };
 
+/// The page has the secret that the desk has.
+const SIGNED: ShortAnswer = ShortAnswer {
+    status: 200,
+    reason: b"OK",
+    line: b"signed\n",
+};
+
 /// There is nothing to show yet.
 const UNREADY: ShortAnswer = ShortAnswer {
     status: 503,
@@ -332,6 +341,28 @@ fn nonce_text(
     }
 }
 
+/// The text of a hidden secret: hex digits, and the end of a line.
+fn handed_line(hidden: &[u8; 16]) -> [u8; 33]
+    ensures { result ≡ encode_lower hidden.now ++ codes "\n" }
+{
+    let mut text = [b'\n'; 33];
+    let _ = encode_to_slice(hidden.as_slice(), &mut text[..32]);
+    text
+}
+
+/// A hidden secret, as a text of one line.
+fn handed_text(
+    alloc: Global,
+    server: &mut Server,
+    station: Station,
+    hidden: &[u8; 16],
+) -> Result<Vec<u8>, WriteError>
+    ensures { IfOk result (λ bytes. bytes.items ≡ texts.handed_text server.old station hidden.now) }
+{
+    let line = handed_line(hidden);
+    whole(alloc, server, station, 200, b"OK", TEXT, &line[..], false)
+}
+
 /// The lines that are shown: a board's six, or those that a desk told.
 fn lines_text(
     alloc: Global,
@@ -369,6 +400,8 @@ pub fn reply(
         Ask::Events => stream(alloc, server, station),
         Ask::Given(nonce) => nonce_text(alloc, server, station, nonce),
         Ask::Typed => short_answer(alloc, server, station, TYPED, head),
+        Ask::Signed => short_answer(alloc, server, station, SIGNED, head),
+        Ask::Handed(hidden) => handed_text(alloc, server, station, &hidden),
         Ask::Unready => short_answer(alloc, server, station, UNREADY, head),
         Ask::Full => short_answer(alloc, server, station, FULL, head),
         Ask::Missing => short_answer(alloc, server, station, MISSING, head),

@@ -5,7 +5,7 @@ ghost use Rattle.std.specs.Result.{ForOk};
 ghost use Rattle.viewers.specs.Said.{said_in, taken_by};
 
 use crate::asks::{Ask, Asked, Heading, Wish, bytes_at, wish_in};
-use crate::inbox::{Inbox, give, is_passed, take};
+use crate::inbox::{Inbox, give, hand_out, is_passed, take};
 use crate::logs::SaidLog;
 use crate::replies::{beat, reply, told};
 use crate::shown::Shown;
@@ -281,14 +281,29 @@ impl<S: Stream> Viewer<S> {
         self.reply_to(alloc, ask, shown);
     }
 
+    /// Learns whether a pass is good.
+    fn look(&mut self, alloc: Global, is_good: bool, shown: &Shown) {
+        let ask = if is_good {
+            Ask::Signed
+        } else {
+            Ask::Faulty(403)
+        };
+        self.reply_to(alloc, ask, shown);
+    }
+
     /// Reads the head that came, once it is whole, and does what it wishes.
-    fn read_head(&mut self, alloc: Global, shown: &Shown, inbox: &mut Option<Inbox>) {
+    fn read_head(&mut self, alloc: Global, shown: &Shown, inbox: &mut Option<Inbox>, now: u64) {
         match self.wish(shown.station) {
             Some(Wish::Answer(asked)) => {
                 let asked = ready(asked, shown, self.guest.is_behind);
                 self.answer(alloc, asked, shown);
             }
             Some(Wish::Watch(pass)) => self.watch(alloc, is_passed(inbox, &pass), shown),
+            Some(Wish::Look(pass)) => self.look(alloc, is_passed(inbox, &pass), shown),
+            Some(Wish::Claim(claim)) => {
+                let ask = hand_out(inbox, &claim, now);
+                self.reply_to(alloc, ask, shown);
+            }
             Some(Wish::Nonce) => {
                 let given = give(inbox);
                 self.reply_to(alloc, given, shown);
@@ -299,10 +314,10 @@ impl<S: Stream> Viewer<S> {
     }
 
     /// Does what follows of what came, in so many steps: a head, a line's pieces, its end. What stands behind is passed over.
-    fn go_on(&mut self, alloc: Global, shown: &Shown, inbox: &mut Option<Inbox>) {
+    fn go_on(&mut self, alloc: Global, shown: &Shown, inbox: &mut Option<Inbox>, now: u64) {
         for _ in 0..MOST_PIECES {
             match self.stage {
-                Stage::Head => self.read_head(alloc, shown, inbox),
+                Stage::Head => self.read_head(alloc, shown, inbox, now),
                 Stage::Line(heading) => self.read_line(alloc, heading, shown, inbox),
                 _ => break,
             }
@@ -310,7 +325,14 @@ impl<S: Stream> Viewer<S> {
     }
 
     /// Takes bytes that came. Those behind the first request are passed over.
-    fn take(&mut self, alloc: Global, bytes: &[u8], shown: &Shown, inbox: &mut Option<Inbox>) {
+    fn take(
+        &mut self,
+        alloc: Global,
+        bytes: &[u8],
+        shown: &Shown,
+        inbox: &mut Option<Inbox>,
+        now: u64,
+    ) {
         if !matches!(self.stage, Stage::Head | Stage::Line(_)) {
             return;
         }
@@ -318,7 +340,7 @@ impl<S: Stream> Viewer<S> {
             self.is_gone = true;
             return;
         }
-        self.go_on(alloc, shown, inbox);
+        self.go_on(alloc, shown, inbox, now);
     }
 
     /// Nothing more comes. Who was answered still gets the rest of it.
@@ -331,13 +353,13 @@ impl<S: Stream> Viewer<S> {
     }
 
     /// Reads once, and answers what was asked for.
-    fn read(&mut self, alloc: Global, shown: &Shown, inbox: &mut Option<Inbox>) {
+    fn read(&mut self, alloc: Global, shown: &Shown, inbox: &mut Option<Inbox>, now: u64) {
         let mut buffer = [0u8; 2048];
         match self.wire.read(&mut buffer) {
             Ok(Some(0)) => self.leave(),
             Ok(Some(count)) => {
                 let count = count.min(buffer.len());
-                self.take(alloc, &buffer[..count], shown, inbox);
+                self.take(alloc, &buffer[..count], shown, inbox, now);
             }
             Ok(None) => self.may_read = false,
             Err(_) => self.is_gone = true,
@@ -405,7 +427,7 @@ impl<S: Stream> Viewer<S> {
             if !self.may_read || self.is_gone {
                 break;
             }
-            self.read(alloc, shown, inbox);
+            self.read(alloc, shown, inbox, now);
         }
         self.send(now);
     }
