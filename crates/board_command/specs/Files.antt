@@ -1,5 +1,7 @@
 -- What a board's files are given of what is handed over to be shown.
 use Rattle.std.specs.Prelude.{◌≡◌, ◌⊎◌, ◌-◌, ℕ, Bool, true, false, not, ◌&&◌, nat_eq, nat_le, if◌then◌else◌, List, ◌++◌, length, Option, Some, None, ⊤, codes}
+use Rattle.board.specs.declared.trouble.{Trouble.Trouble, Why.Why}
+use Rattle.board.specs.declared.trouble.Why.TheVariants.{Refused, Anew, Apart}
 use Rattle.corrections.specs.CleanList.{history_of}
 use Rattle.cards.specs.Board.{board as six_lines}
 use Rattle.live.specs.Sights.{Sight}
@@ -13,7 +15,7 @@ use Rattle.waits.specs.declared.times.TheConstants.{FILE_RETRY_WAIT, LONGEST_STA
 
 -- what is handed over, by a board that heard its desks so, at this time
 abbrev pub moment_of : Sight → HeardAt → ℕ → Moment
-moment_of s heard now = record { entries = length s.book; heard = heard; now = now }
+moment_of s heard now = record { entries = length s.book; trouble = s.trouble; heard = heard; now = now }
 
 -- the texts of what is handed over: its six lines, its state as JSON, and that as a script, for a page that was opened from a
 -- folder: a value of JSON in printable ASCII is one of JavaScript's
@@ -21,7 +23,7 @@ abbrev pub lines_of : Sight → List ℕ
 lines_of s = six_lines s.sheet s.innings (history_of s.book)
 
 abbrev pub state_of : Sight → HeardAt → ℕ → List ℕ
-state_of s heard now = board_text s.sheet s.innings s.book (last_heard heard now)
+state_of s heard now = board_text s.sheet s.innings s.book (last_heard heard now) s.trouble
 
 abbrev pub script_with : List ℕ → List ℕ
 script_with state = codes "window.yermudosh = " ++ state
@@ -37,16 +39,34 @@ abbrev pub same : Bool → Bool → Bool
 same true b = b
 same false b = not b
 
--- what was tried is noted: of how many entries, whether the desks were silent, when, and whether it failed
-abbrev pub tried_at : Moment → Bool → Tried
-tried_at m failed = record { entries = m.entries; is_silent = silent_at m; at = m.now; has_failed = failed }
+-- one thing keeps a board from going on, or nothing both times
+abbrev pub same_why : Why → Why → Bool
+same_why Refused Refused = true
+same_why Anew Anew = true
+same_why Apart Apart = true
+same_why one other = false
 
--- how long that stands before the next: a second where it failed, a tenth of one where the book has another length or a
--- silence has begun or ended, and otherwise so long at most
+abbrev pub same_trouble : Option Trouble → Option Trouble → Bool
+same_trouble None None = true
+same_trouble (Some one) (Some other) = nat_eq one.place other.place && same_why one.why other.why
+same_trouble one other = false
+
+-- what was tried is noted: of how many entries, what kept the board from going on, whether the desks were silent, when, and
+-- whether it failed
+abbrev pub tried_at : Moment → Bool → Tried
+tried_at m failed = record { entries = m.entries; trouble = m.trouble; is_silent = silent_at m; at = m.now; has_failed = failed }
+
+-- the book has the same length, the same thing keeps the board from going on, and the desks are silent or not as they were
+abbrev pub has_all : Tried → Moment → Bool
+has_all tried m =
+    nat_eq tried.entries m.entries && (same_trouble tried.trouble m.trouble && same tried.is_silent (silent_at m))
+
+-- how long that stands before the next: a second where it failed, a tenth of one where something else is to be told, and
+-- otherwise so long at most
 abbrev pub wait_of : Tried → Moment → ℕ → ℕ
 wait_of tried m longest =
     if tried.has_failed then FILE_RETRY_WAIT
-    else (if nat_eq tried.entries m.entries && same tried.is_silent (silent_at m) then longest else SHORTEST_FILE_AGE)
+    else (if has_all tried m then longest else SHORTEST_FILE_AGE)
 
 -- whether the book is to be written: never before a desk was heard; then at first, and once so long is over
 abbrev pub is_past : Option Tried → Moment → ℕ → Bool
@@ -76,7 +96,7 @@ module _ {T E : Type 0} (given : T → Option (List (List ℕ))) (longest : ℕ)
   AreKept _ _ = ⊥
 
 -- What is handed over is the newest, once a desk was heard: the file of the six lines is given just its lines where it hasn't
--- their book yet, and that of the state just its state, and that of the script just its script, also where what they have
+-- been given what is handed over yet, and that of the state just its state, and that of the script just its script, also where what they have
 -- becomes old. Before that each is left as it is.
 pub record FilesGoOn
     {T E B : Type 0} (given : T → Option (List (List ℕ))) (heard : HeardAt) (old : Files T E B) (sight : Sight) (now : ℕ)

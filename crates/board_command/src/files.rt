@@ -15,6 +15,7 @@ ghost use Rattle.waits.specs.declared.times.TheConstants.{LONGEST_STATE_AGE};
 
 use crate::hearing::{HeardAt, Silence};
 use crate::page::Audience;
+use board::{Trouble, Why};
 use cards::{MatchSheet, board_lines};
 use corrections::BookOf;
 use live::{Shows, SightLog};
@@ -31,10 +32,12 @@ use waits::{FILE_RETRY_WAIT, LONGEST_STATE_AGE, SHORTEST_FILE_AGE};
 /// A text stands as long as its book does.
 const FOREVER: u64 = u64::MAX;
 
-/// What a board hands its book over at: how many entries that has, when the board heard its desks, and the time.
+/// What a board hands its book over at: how many entries that has, what keeps it from going on, when it heard its desks, and the
+/// time.
 #[derive(Clone, Copy)]
 struct Moment {
     entries: u32,
+    trouble: Option<Trouble>,
     heard: HeardAt,
     now: u64,
 }
@@ -55,10 +58,34 @@ fn same(one: bool, other: bool) -> bool
     one == other
 }
 
-/// When a file was written, or couldn't be, how many entries the book had, and whether the desks were silent.
+/// Whether a board doesn't go on for one reason.
+fn same_why(one: Why, other: Why) -> bool
+    ensures { result ≡ given.same_why one other }
+{
+    match one {
+        Why::Refused => matches!(other, Why::Refused),
+        Why::Anew => matches!(other, Why::Anew),
+        Why::Apart => matches!(other, Why::Apart),
+    }
+}
+
+/// Whether one thing keeps a board from going on, or nothing both times.
+fn same_trouble(one: Option<Trouble>, other: Option<Trouble>) -> bool
+    ensures { result ≡ given.same_trouble one other }
+{
+    match (one, other) {
+        (None, None) => true,
+        (Some(one), Some(other)) => one.place == other.place && same_why(one.why, other.why),
+        _ => false,
+    }
+}
+
+/// When a file was written, or couldn't be, how many entries the book had, what kept its board from going on, and whether the
+/// desks were silent.
 #[derive(Clone, Copy)]
 struct Tried {
     entries: u32,
+    trouble: Option<Trouble>,
     is_silent: bool,
     at: u64,
     has_failed: bool,
@@ -66,16 +93,25 @@ struct Tried {
 
 impl Tried {
     ghost use Rattle.std.specs.Prelude.{◌-◌, nat_le};
-    ghost use Rattle.board_command.specs.Files.{wait_of};
+    ghost use Rattle.board_command.specs.Files.{has_all, wait_of};
+
+    /// Whether it has what there is to tell at this moment.
+    fn is_of(self, moment: Moment) -> bool
+        ensures { result ≡ has_all self moment }
+    {
+        self.entries == moment.entries
+            && same_trouble(self.trouble, moment.trouble)
+            && same(self.is_silent, moment.is_silent())
+    }
 
     /// Whether a file that stands so long at most is to be written at this moment: the last time it couldn't be, the book has
-    /// grown, a silence has begun or ended, or the file becomes old.
+    /// grown, something else is to be told, or the file becomes old.
     fn is_past(self, moment: Moment, longest: u64) -> bool
         ensures { result ≡ nat_le (wait_of self moment longest) (moment.now - self.at) }
     {
         let wait = if self.has_failed {
             FILE_RETRY_WAIT
-        } else if self.entries == moment.entries && same(self.is_silent, moment.is_silent()) {
+        } else if self.is_of(moment) {
             longest
         } else {
             SHORTEST_FILE_AGE
@@ -136,6 +172,7 @@ impl<'a, T: Replaces, E: Sink> Kept<'a, T, E> {
         }
         self.tried = Some(Tried {
             entries: moment.entries,
+            trouble: moment.trouble,
             is_silent: moment.is_silent(),
             at: moment.now,
             has_failed: written.is_err(),
@@ -176,9 +213,10 @@ fn state_of<B: BookOf>(
     moment: Moment,
 ) -> Result<Vec<u8>, AllocError>
     ensures { IfOk result (λ text.
-        text.items ≡ laws.board_text sheet.now (B.innings_a_side book.now) (B.content book.now) (last_heard moment.heard moment.now)) }
+        text.items ≡ laws.board_text sheet.now (B.innings_a_side book.now) (B.content book.now) (last_heard moment.heard moment.now) moment.trouble) }
 {
-    board_text(alloc, sheet, book, moment.heard.last(moment.now))
+    let heard = moment.heard.last(moment.now);
+    board_text(alloc, sheet, book, heard, moment.trouble)
 }
 
 /// The script of a state that was made.
@@ -225,9 +263,9 @@ fn states_due<B: BookOf, T: Replaces, E: Sink>(
     script: &Option<Kept<'_, T, E>>,
 ) -> States
     ensures json { IsMade LONGEST_STATE_AGE moment
-        (laws.board_text sheet.now (B.innings_a_side book.now) (B.content book.now) (last_heard moment.heard moment.now)) file.now result.json }
+        (laws.board_text sheet.now (B.innings_a_side book.now) (B.content book.now) (last_heard moment.heard moment.now) moment.trouble) file.now result.json }
     ensures script { IsMade LONGEST_STATE_AGE moment
-        (given.script_with (laws.board_text sheet.now (B.innings_a_side book.now) (B.content book.now) (last_heard moment.heard moment.now)))
+        (given.script_with (laws.board_text sheet.now (B.innings_a_side book.now) (B.content book.now) (last_heard moment.heard moment.now) moment.trouble))
         script.now result.script }
 {
     let is_json_due = is_due(file, moment, LONGEST_STATE_AGE);
@@ -305,17 +343,26 @@ impl<T: Replaces, E: Sink, B: BookOf + Drop> Files<'_, T, E, B> {
     ghost use Rattle.live.specs.SightLogs.{sights_of};
     ghost use Rattle.board_command.specs.Files.{FilesGoOn};
 
-    /// Writes each once a desk was heard, then where the book has grown or a silence of the desks has begun or ended, at most
-    /// ten times a second, and where it couldn't be written, once a second. State and script are otherwise written anew before
-    /// ten seconds are over. A file that can't be written ends no board.
-    fn show(&mut self, sheet: &MatchSheet, book: &B, heard: HeardAt, now: u64)
+    /// Writes each once a desk was heard, then where the book has grown, where something begins or ceases to keep the board from
+    /// going on, or where a silence of the desks has begun or ended, at most ten times a second, and where it couldn't be written,
+    /// once a second. State and script are otherwise written anew before ten seconds are over. A file that can't be written ends
+    /// no board.
+    fn show(
+        &mut self,
+        sheet: &MatchSheet,
+        book: &B,
+        trouble: Option<Trouble>,
+        heard: HeardAt,
+        now: u64,
+    )
         ensures seen { sights_of B.content B.innings_a_side self.new.log ≡ sights_of B.content B.innings_a_side self.old.log
-            ++ sight_of sheet.now (B.innings_a_side book.now) (B.content book.now) ∷ [] }
+            ++ sight_of sheet.now (B.innings_a_side book.now) (B.content book.now) trouble ∷ [] }
         ensures goes_on { FilesGoOn T.given heard self.old
-            (sight_of sheet.now (B.innings_a_side book.now) (B.content book.now)) now self.new }
+            (sight_of sheet.now (B.innings_a_side book.now) (B.content book.now) trouble) now self.new }
     {
         let moment = Moment {
             entries: book.len(),
+            trouble,
             heard,
             now,
         };
@@ -324,7 +371,7 @@ impl<T: Replaces, E: Sink, B: BookOf + Drop> Files<'_, T, E, B> {
         put(&mut self.text, lines, moment);
         put(&mut self.state, states.json, moment);
         put(&mut self.script, states.script, moment);
-        self.log = self.log.handed(sheet, book);
+        self.log = self.log.handed(sheet, book, trouble);
     }
 }
 
@@ -365,13 +412,19 @@ impl<'a, T: Replaces, P: Replaces, E: Sink, B: BookOf + Drop> Shows<B>
     /// A file that can't be written ends no board.
     ghost failed = { λ _. false };
 
-    fn show(&mut self, sheet: &MatchSheet, book: &B, now: u64) -> Result<(), WriteFailed> {
+    fn show(
+        &mut self,
+        sheet: &MatchSheet,
+        book: &B,
+        trouble: Option<Trouble>,
+        now: u64,
+    ) -> Result<(), WriteFailed> {
         retry(self.errors);
         let heard = self.audience.hearing.get();
         self.heard = heard;
         self.silence.tell(heard, now, &mut Shared::of(self.errors));
-        self.page.show(sheet, book, heard, now);
-        self.files.show(sheet, book, heard, now);
+        self.page.show(sheet, book, trouble, heard, now);
+        self.files.show(sheet, book, trouble, heard, now);
         tell(self.audience.viewers, now);
         Ok(())
     }

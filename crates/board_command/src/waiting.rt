@@ -47,7 +47,8 @@ fn kept_state(alloc: Global, bytes: &[u8], game: u64) -> Result<Option<Vec<u8>>,
     let count = book_len(line).min(bytes.len());
     let mut state = Vec::new(alloc);
     state.extend_from_slice(&bytes[..count])?;
-    state.extend_from_slice(",\"heard\":{\"a\":null,\"b\":null}}\n".as_bytes())?;
+    state.extend_from_slice(",\"heard\":{\"a\":null,\"b\":null}".as_bytes())?;
+    state.extend_from_slice(",\"trouble\":null}\n".as_bytes())?;
     Ok(Some(state))
 }
 
@@ -64,5 +65,11 @@ pub fn waiting_state(
     {
         return Ok(state);
     }
-    board_text(rt.alloc(), sheet, book, LastHeard { a: None, b: None })
+    board_text(
+        rt.alloc(),
+        sheet,
+        book,
+        LastHeard { a: None, b: None },
+        None,
+    )
 }

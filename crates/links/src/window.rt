@@ -336,9 +336,9 @@ impl Known {
         }
     }
 
-    /// Notes what the link gave, from this peer in the match of this number, and answers what of it is for now, with the
-    /// message that it says, where it says one: a vote that comes early is lost for now, but at a desk, which sees by it
-    /// whether its own file lacks lines. What doesn't open changes nothing.
+    /// Notes what the link gave, from this peer in the match of this number, and answers it with the message that it says, where
+    /// it says one. A vote that comes early is given at once too: a desk sees by it whether its own file lacks lines, and a
+    /// board whether the desks told it different ones. What doesn't open changes nothing.
     fn hear(
         &mut self,
         game: u64,
@@ -363,10 +363,8 @@ impl Known {
         let Ok(message) = message_of(game, bytes.as_slice()) else {
             return (taken, None);
         };
-        if self.hear_message(&message, &bytes, peer, now) || self.from != Asker::Board {
-            return (taken, Some(message));
-        }
-        (Taken::Lost, None)
+        self.hear_message(&message, &bytes, peer, now);
+        (taken, Some(message))
     }
 }
 

@@ -1,10 +1,12 @@
 -- The state of a board as one JSON value: a function of the sheet s and of the book.
-use Rattle.std.specs.Prelude.{ℕ, List, [], ◌∷◌, ◌++◌, length, codes, decimal}
+use Rattle.std.specs.Prelude.{ℕ, List, [], ◌∷◌, ◌++◌, length, codes, decimal, Option, Some, None}
 use Rattle.notation.specs.declared.entry.Entry.{Entry}
 use Rattle.corrections.specs.CleanList.{history_of}
 use Rattle.ball_laws.specs.History.{History}
 use Rattle.cards.specs.Sheet.{Sheet}
-use Rattle.json.specs.Json.{Json}
+use Rattle.board.specs.declared.trouble.{Trouble.Trouble, Why.Why}
+use Rattle.board.specs.declared.trouble.Why.TheVariants.{Refused, Anew, Apart}
+use Rattle.json.specs.Json.{Json, null}
 use Rattle.json.specs.Tree.{json_tokens}
 use Rattle.json.specs.Print.{print}
 use Rattle.json_fields.specs.Values.{Field, array_of, object_of, text_field, number_field}
@@ -44,10 +46,36 @@ heard_fields l = (codes "a", number_or_null l.a) ∷ [] ++ (codes "b", number_or
 abbrev pub heard_field : LastHeard → Field
 heard_field l = (codes "heard", object_of (heard_fields l))
 
--- the same, and when the board heard its desks
-abbrev pub told_value : Sheet → ℕ → List Entry → LastHeard → Json
-told_value s n book heard = object_of (book_fields s n book ++ heard_field heard ∷ [])
+-- why a board doesn't go on
+abbrev pub why_text : Why → List ℕ
+why_text Refused = codes "refused"
+why_text Anew = codes "written anew"
+why_text Apart = codes "different lines"
+
+-- and in words
+abbrev pub why_words : Why → List ℕ
+why_words Refused = codes "both desks' votes were refused: no later score is shown"
+why_words Anew = codes "a desk's file lacks lines: no later score is shown"
+why_words Apart = codes "the desks told this board different lines"
+
+-- what keeps a board from going on: at which place of its book, and why
+abbrev pub trouble_fields : Trouble → List Field
+trouble_fields t =
+    number_field (codes "place") t.place ∷ []
+    ++ text_field (codes "why") (why_text t.why) ∷ []
+    ++ text_field (codes "text") (why_words t.why) ∷ []
+
+abbrev pub trouble_or_null : Option Trouble → Json
+trouble_or_null None = null
+trouble_or_null (Some t) = object_of (trouble_fields t)
+
+abbrev pub trouble_field : Option Trouble → Field
+trouble_field trouble = (codes "trouble", trouble_or_null trouble)
+
+-- the same, when the board heard its desks, and what keeps it from going on
+abbrev pub told_value : Sheet → ℕ → List Entry → LastHeard → Option Trouble → Json
+told_value s n book heard trouble = object_of (book_fields s n book ++ heard_field heard ∷ [] ++ trouble_field trouble ∷ [])
 
 -- its text, as the library writes it, and a newline
-abbrev pub board_text : Sheet → ℕ → List Entry → LastHeard → List ℕ
-board_text s n book heard = print (json_tokens (told_value s n book heard)) ++ codes "\n"
+abbrev pub board_text : Sheet → ℕ → List Entry → LastHeard → Option Trouble → List ℕ
+board_text s n book heard trouble = print (json_tokens (told_value s n book heard trouble)) ++ codes "\n"

@@ -1,10 +1,10 @@
 //! The state of a board as one JSON value, with the runs off each over that was called, and its text.
 
-ghost use Rattle.std.specs.Prelude.{◌≡◌, ◌≤◌, ◌∷◌, [], IfOk, length, map};
+ghost use Rattle.std.specs.Prelude.{◌≡◌, ◌≤◌, ◌∷◌, [], IfOk, Some, codes, length, map};
 ghost use Rattle.notation.specs.declared.entry.TheConstants.{PLACES};
 ghost use Rattle.corrections.specs.CleanList.{history_of};
 ghost use Rattle.limits.specs.inner.Walks.{walk};
-ghost use Rattle.json_fields.specs.Values.{PutsFields, PutsValues};
+ghost use Rattle.json_fields.specs.Values.{PutsFields, PutsValues, text_field};
 ghost use Rattle.scoreboard.specs.Limited.{number_or_null};
 ghost use Rattle.scoreboard.specs.OverRuns.{over_runs, over_value, overs_field};
 ghost use Rattle.scoreboard.specs.Value as laws;
@@ -15,6 +15,7 @@ use crate::limited::put_limits;
 use crate::now::put_now;
 use crate::stand::partnership_now;
 use crate::told::told_of;
+use board::{Trouble, Why};
 use cards::{MatchSheet, all_runs};
 use corrections::{BookOf, Placed, overs_of};
 use falls::falls_at;
@@ -172,35 +173,89 @@ fn put_heard(out: &mut Compact, heard: LastHeard) -> Result<(), AllocError>
     end_object(out)
 }
 
-/// Puts the same value, and in it when the board heard its desks.
+/// Puts why a board doesn't go on.
+fn put_why(out: &mut Compact, why: Why) -> Result<(), AllocError>
+    ensures { PutsFields result out.old out.new (text_field (codes "why") (laws.why_text why) ∷ []) }
+{
+    match why {
+        Why::Refused => put_text(out, "why", "refused"),
+        Why::Anew => put_text(out, "why", "written anew"),
+        Why::Apart => put_text(out, "why", "different lines"),
+    }
+}
+
+/// Puts that in words.
+fn put_words(out: &mut Compact, why: Why) -> Result<(), AllocError>
+    ensures { PutsFields result out.old out.new (text_field (codes "text") (laws.why_words why) ∷ []) }
+{
+    match why {
+        Why::Refused => put_text(
+            out,
+            "text",
+            "both desks' votes were refused: no later score is shown",
+        ),
+        Why::Anew => put_text(
+            out,
+            "text",
+            "a desk's file lacks lines: no later score is shown",
+        ),
+        Why::Apart => put_text(out, "text", "the desks told this board different lines"),
+    }
+}
+
+fn put_some_trouble(out: &mut Compact, trouble: Trouble) -> Result<(), AllocError>
+    ensures { PutsFields result out.old out.new (laws.trouble_field (Some trouble) ∷ []) }
+{
+    begin_field(out, "trouble")?;
+    put_figure(out, "place", trouble.place)?;
+    put_why(out, trouble.why)?;
+    put_words(out, trouble.why)?;
+    end_object(out)
+}
+
+/// Puts what keeps a board from going on, if anything does.
+fn put_trouble(out: &mut Compact, trouble: Option<Trouble>) -> Result<(), AllocError>
+    ensures { PutsFields result out.old out.new (laws.trouble_field trouble ∷ []) }
+{
+    match trouble {
+        Some(trouble) => put_some_trouble(out, trouble),
+        None => put_null(out, "trouble"),
+    }
+}
+
+/// Puts the same value, and in it when the board heard its desks, and what keeps it from going on.
 fn put_told<B: BookOf>(
     out: &mut Compact,
     alloc: Global,
     sheet: &MatchSheet,
     book: &B,
     heard: LastHeard,
+    trouble: Option<Trouble>,
 ) -> Result<(), AllocError>
     ensures { PutsValues result out.old out.new
-        (laws.told_value sheet.now (B.innings_a_side book.now) (B.content book.now) heard ∷ []) }
+        (laws.told_value sheet.now (B.innings_a_side book.now) (B.content book.now) heard trouble ∷ []) }
 {
     begin_object(out)?;
     put_book(out, alloc, sheet, book)?;
     put_heard(out, heard)?;
+    put_trouble(out, trouble)?;
     end_object(out)
 }
 
-/// The state of a board with this book, which heard its desks so, as JSON on one line, and a newline.
+/// The state of a board with this book, which heard its desks so and which this keeps from going on, if anything does, as JSON
+/// on one line, and a newline.
 pub fn board_text<B: BookOf>(
     alloc: Global,
     sheet: &MatchSheet,
     book: &B,
     heard: LastHeard,
+    trouble: Option<Trouble>,
 ) -> Result<Vec<u8>, AllocError>
     ensures { IfOk result (λ text.
-        text.items ≡ laws.board_text sheet.now (B.innings_a_side book.now) (B.content book.now) heard) }
+        text.items ≡ laws.board_text sheet.now (B.innings_a_side book.now) (B.content book.now) heard trouble) }
 {
     let mut out = Compact::new(alloc);
-    put_told(&mut out, alloc, sheet, book, heard)?;
+    put_told(&mut out, alloc, sheet, book, heard, trouble)?;
     let mut text = out.into_inner();
     text.push(b'\n')?;
     Ok(text)

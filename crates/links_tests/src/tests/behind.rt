@@ -127,11 +127,6 @@ fn is_given(rt: &impl Abort, window: &mut Windowed<'_>, world: &World, message: 
     assert_eq!(rt; given(window, world, message), Taken::Datagram(48));
 }
 
-/// It isn't given as it comes.
-fn is_early(rt: &impl Abort, window: &mut Windowed<'_>, world: &World, message: &MessageBytes) {
-    assert_eq!(rt; given(window, world, message), Taken::Lost);
-}
-
 /// A desk's first vote for a place comes, and is given.
 fn hears(rt: &impl Abort, window: &mut Windowed<'_>, world: &World, desk: DeskId, place: u32)
     requires { place < PLACES }
@@ -259,14 +254,15 @@ fn a_peer_has_so_many_windows(rt: HostRuntime) {
 }
 
 #[test]
-fn early_votes_come_when_the_board_is_there(rt: HostRuntime) {
+fn early_votes_come_again_when_the_board_is_there(rt: HostRuntime) {
     let world = World::new();
     let mut window = windowed(rt.alloc(), &world);
     window.send(&ask_at(Asker::Board, 0, 0));
     let one = over(&rt, DeskId::A, 1, 0);
     let other = over(&rt, DeskId::B, 1, 0);
+    // each as it comes, by which a board sees whether the desks told it different lines
     for early in [one, one, other] {
-        is_early(&rt, &mut window, &world, &early);
+        is_given(&rt, &mut window, &world, &early);
     }
     hears(&rt, &mut window, &world, DeskId::A, 0);
     hears(&rt, &mut window, &world, DeskId::B, 0);
@@ -277,7 +273,7 @@ fn early_votes_come_when_the_board_is_there(rt: HostRuntime) {
     gives(&rt, &mut window, &other);
     is_silent(&rt, &mut window);
     // what a board lacks is asked for
-    is_early(&rt, &mut window, &world, &over(&rt, DeskId::A, 2, 0));
+    hears(&rt, &mut window, &world, DeskId::A, 2);
     world.now.set(4);
     window.send(&ask_at(Asker::Board, 2, 0));
     has_sent(&rt, &world, 2);
@@ -290,15 +286,15 @@ fn a_second_round_comes_in_its_turn(rt: HostRuntime) {
     window.send(&over(&rt, DeskId::A, 3, 0));
     let second = over(&rt, DeskId::B, 3, 1);
     let next = over(&rt, DeskId::B, 4, 0);
-    is_early(&rt, &mut window, &world, &next);
-    is_early(&rt, &mut window, &world, &second);
+    is_given(&rt, &mut window, &world, &next);
+    is_given(&rt, &mut window, &world, &second);
     window.send(&ask_at(Asker::A, 3, 1));
     gives(&rt, &mut window, &second);
     is_silent(&rt, &mut window);
     window.send(&ask_at(Asker::A, 4, 0));
     gives(&rt, &mut window, &next);
     has_sent(&rt, &world, 1);
-    // a desk is given what comes early at once too, and has no use for what it passed
+    // what a station passed is of no use
     hears(&rt, &mut window, &world, DeskId::B, 5);
     window.send(&over(&rt, DeskId::A, 6, 0));
     is_silent(&rt, &mut window);
