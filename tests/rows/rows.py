@@ -2,6 +2,7 @@
 import os
 import re
 import shlex
+import socket
 import subprocess
 
 HERE = os.path.dirname(os.path.realpath(__file__))
@@ -9,6 +10,20 @@ ESCAPE = re.compile(r"\\(?:x([0-9a-f]{2})|(.))", re.S)
 ONE_BYTE = {"\\": b"\\", "t": b"\t", "r": b"\r"}
 # What a row has once, beside its files.
 PARTS = ("make", "input", "output", "error")
+
+
+# Stands for the address by which others reach this machine; where it has none, for no line.
+OWN = "this machine is at OWN\n"
+
+
+def own_line():
+    """What a program tells of that address: nothing is sent for it."""
+    with socket.socket(socket.AF_INET, socket.SOCK_DGRAM) as it:
+        try:
+            it.connect(("192.0.2.1", 9))
+        except OSError:
+            return ""
+        return OWN.replace("OWN", it.getsockname()[0])
 
 
 class BadRow(Exception):
@@ -98,7 +113,7 @@ def bytes_of(lines, kind):
             raise BadRow(f"a line of a block begins with '| ', and this one doesn't: {line!r}")
         if line != line.rstrip():
             raise BadRow(f"blanks at the end of a line are written \\x20, in a block that is 'escaped': {line!r}")
-    text = "".join(f"{line[2:]}\n" for line in lines)
+    text = "".join(f"{line[2:]}\n" for line in lines).replace(OWN, own_line())
     if kind == "escaped":
         return unescaped(text)
     return unhexed(text) if kind == "hex" else text.encode()

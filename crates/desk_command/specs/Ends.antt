@@ -4,7 +4,7 @@ use Rattle.ahead.specs.declared.log.AheadLog.{AheadLog}
 use Rattle.ahead.specs.Ahead.{held_of, lost_of}
 use Rattle.live.specs.declared.desk_life.LifeEnd.{LifeEnd}
 use Rattle.live.specs.declared.desk_life.LifeEnd.TheVariants.{Ended, NotBegun}
-use Rattle.live.specs.declared.ends.DeskEnd.TheVariants.{Device, LacksLines, NoMoreLines, Quit, Write}
+use Rattle.live.specs.declared.ends.DeskEnd.TheVariants.{Device, NoMoreLines, Quit, Write}
 use Rattle.station_texts.specs.Asides.{all_dropped}
 use Rattle.setup.specs.Fault.{of_opening}
 use Rattle.setup.specs.declared.fault.StopFault.{StopFault}
@@ -19,11 +19,9 @@ stop_of (Err (Ended NoMoreLines)) true = Some StopFault.Read
 stop_of (Err (Ended NoMoreLines)) false = None
 stop_of (Err (Ended Write)) failed = Some StopFault.Write
 stop_of (Err (Ended Device)) failed = Some StopFault.Disk
-stop_of (Err (Ended LacksLines)) failed = Some StopFault.LacksLines
 
 -- The last that is told, in rows of so many columns, by how its desk's process ended: where it ended by itself, which lines are
 -- dropped. Where its scorer stopped that was told before, and where it can't write nothing is.
 abbrev pub last_told : Result (Unit {0}) LifeEnd → ℕ → AheadLog → List ℕ
 last_told (Err (Ended Device)) columns log = all_dropped columns (held_of log) (lost_of log)
-last_told (Err (Ended LacksLines)) columns log = all_dropped columns (held_of log) (lost_of log)
 last_told ended columns log = []

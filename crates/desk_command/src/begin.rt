@@ -9,7 +9,7 @@ ghost use Rattle.desk_command.specs.Lives.{copy_of, desk_of, path_of};
 use crate::desk_disk::{desk_disk_at, empty_book};
 use crate::desk_screen::DeskScreen;
 use crate::life::{Kept, Life, keep_on};
-use crate::page::Page;
+use crate::page::{Page, PageSquares};
 use agree_core::DeskId;
 use ahead::Ahead;
 use cards::{Columns, MatchSheet};
@@ -18,7 +18,7 @@ use live::{DeskEnd, LifeEnd};
 use machine::{Address, Keyboard, MOST_PEERS, MonotonicClock};
 use machine_files::{LastFault, WriteFault};
 use setup::{Sealing, StopFault, Stopped, short_sheet_at, with_cause, with_copys_cause};
-use station_pages::PageLines;
+use station_pages::{PageLines, PageWord, PageWords};
 use station_screens::{Shared, errors_at, output_at};
 use station_texts::asides::print_all_dropped;
 use std::cell::RefCell;
@@ -45,7 +45,6 @@ fn stop_of(ended: Result<(), LifeEnd>, keyboard_failed: bool) -> Option<StopFaul
         }
         Err(LifeEnd::Ended(DeskEnd::Write)) => Some(StopFault::Write),
         Err(LifeEnd::Ended(DeskEnd::Device)) => Some(StopFault::Disk),
-        Err(LifeEnd::Ended(DeskEnd::LacksLines)) => Some(StopFault::LacksLines),
     }
 }
 
@@ -112,7 +111,7 @@ fn tell_dropped<K: Keys, C: Clock, W: Sink>(
     ensures failed { TellsFailure result out.old out.new }
 {
     match ended {
-        Err(LifeEnd::Ended(DeskEnd::Device | DeskEnd::LacksLines)) => {
+        Err(LifeEnd::Ended(DeskEnd::Device)) => {
             let (held, lost) = keys.drop_rest();
             print_all_dropped(out, columns, held.as_slice(), lost.as_slice())
         }
@@ -199,15 +198,16 @@ pub fn start_desk<'a>(
         errors: Shared::of(&errors),
     };
     let keyboard = Keyboard::of_standard_input(rt, lines);
-    let keys = Ahead::new(keyboard, MonotonicClock::new(rt));
-    let ends = page.ends_with(keys.keys().descriptor());
+    let ends = page.ends_with(keyboard.descriptor());
+    let squares = PageSquares::of(rt, &page, Shared::of(&errors));
+    let keys = Ahead::new(PageWords::of(keyboard, squares), MonotonicClock::new(rt));
     let lasts = [LastFault::new(None), LastFault::new(None)];
     let book = empty_book(rt, &sheet)?;
     let disk = desk_disk_at(rt, &sheet, desk, file, copy, &lasts)?;
     let sealed = sealing.sealed_at(rt, at, peers, ends, Shared::of(&errors))?;
     let link = sealing.link_over(rt.alloc(), MonotonicClock::new(rt), sealed);
     let _ = sealing.tell_fingerprints(&mut Shared::of(&errors));
-    page.tell(rt, &mut Shared::of(&errors));
+    page.tell(rt, PageWord::Square, &mut Shared::of(&errors));
     let Kept {
         ended,
         life,
@@ -220,7 +220,7 @@ pub fn start_desk<'a>(
     drop(link);
     let _ = tell_dropped(&mut out, sheet.columns(), ended, &mut keys);
     let is_seen = is_seen(out);
-    let keyboard_failed = keys.keys().has_failed();
+    let keyboard_failed = keys.keys().keys().has_failed();
     drop(keys);
     let _ = errors.into_inner().end();
     let _ = answer_of(ended, keyboard_failed, is_seen, file, copy, &lasts)?;

@@ -12,17 +12,16 @@ use ahead::Ahead;
 use cards::MatchSheet;
 use corrections::CheckedBook;
 use entry_log::{Disk, Slots};
-use links::{Clock, InputLog, Keys, Link, MoreLines};
+use links::{Clock, InputLog, Keys, Link};
 use live::{LifeEnd, Outside, keep_desk};
-use machine::{Keyboard, MonotonicClock};
-use station_pages::{Attended, PageSight, ScorersPage};
+use machine::MonotonicClock;
+use station_pages::{Attended, PageSight, PageWords, ScorersPage, Squares};
 use std::cell::RefCell;
-use std::io::Read;
 use std::snapshot::Snapshot;
 use streams::{Sink, Watched};
 
 /// The life of a desk: its letter, the paths of its votes file and of its copy, where it has one, and what was typed at its
-/// keyboard and in its page, which clauses alone read.
+/// keyboard and in its page but for the words of that, which clauses alone read.
 #[derive(Drop)]
 pub struct Life<'a> {
     desk: DeskId,
@@ -92,19 +91,19 @@ pub struct Kept<'a, L: Link, K: Keys, W: Sink> {
 }
 
 /// The same, of a scorer who types at a keyboard and in a page, and nothing yet: with the life that the desk had.
-pub fn keep_on<'a, L: Link, R: Read, M: MoreLines, C: Clock, W: Sink>(
+pub fn keep_on<'a, L: Link, K: Keys, S: Squares, C: Clock, W: Sink>(
     rt: &HostRuntime,
     disk: DeskDisk<'_>,
     desk: DeskId,
     book: CheckedBook,
     sheet: &MatchSheet,
     link: L,
-    keys: Ahead<Keyboard<R, M>, C>,
+    keys: Ahead<PageWords<K, S>, C>,
     out: Watched<W>,
     page: Option<&RefCell<ScorersPage>>,
     file: &'a str,
     copy: Option<&'a str>,
-) -> Kept<'a, L, Ahead<Keyboard<R, M>, C>, W>
+) -> Kept<'a, L, Ahead<PageWords<K, S>, C>, W>
     requires empty { book.entries ≡ [] }
     requires innings { book.innings_a_side ≡ sheet.now.innings }
     requires untyped { given_of (keys.queue).log ≡ [] }

@@ -1,10 +1,11 @@
-//! The page of a desk.
+//! The page of a desk, and the squares by which a scorer comes to it.
 
 use hex::encode_to_slice;
-use machine::{Address, WaitEnds, draw};
+use links::Clock;
+use machine::{Address, MonotonicClock, WaitEnds, draw};
 use qr::code_of;
 use setup::{StopFault, Stopped};
-use station_pages::ScorersPage;
+use station_pages::{PageWord, ScorersPage, Squares};
 use std::cell::RefCell;
 use std::io::{self, ErrorKind, IsTerminal, Write};
 use std::net::SocketAddr;
@@ -13,10 +14,11 @@ use std::random::RandomSource;
 use std::str;
 use viewers::{Inbox, Station, Viewers, reached_at};
 
-/// A page, and its link, in which alone its secret stands.
+/// A page, by whose secret a scorer signs. The secret stands in no link.
 #[derive(Drop)]
 struct Served {
-    link: String,
+    /// The address at which others reach it.
+    at: SocketAddr,
     /// What ends a wait where somebody looks or types.
     ends: RawFd,
     page: RefCell<ScorersPage>,
@@ -28,13 +30,28 @@ pub struct Page {
     served: Option<Served>,
 }
 
-/// The link to a page at an address, with its secret in hex digits behind `#`.
-fn link_to(rt: &HostRuntime, at: SocketAddr, secret: &[u8; 16]) -> io::Result<String> {
+/// Shows the squares of a page while its desk runs.
+#[derive(Drop)]
+pub struct PageSquares<'p, E> {
+    rt: &'p HostRuntime,
+    page: &'p Page,
+    errors: E,
+}
+
+/// Sixteen bytes of the system's randomness.
+fn random(rt: &HostRuntime) -> io::Result<[u8; 16]> {
+    let mut bytes = [0; 16];
+    rt.fill_bytes(&mut bytes[..])?;
+    Ok(bytes)
+}
+
+/// The link to a page at an address, with a ticket in hex digits behind `#`.
+fn link_to(rt: &HostRuntime, at: SocketAddr, ticket: &[u8; 16]) -> io::Result<String> {
     let mut digits = [0; 32];
-    let made = encode_to_slice(&secret[..], &mut digits[..]).is_ok();
+    let made = encode_to_slice(&ticket[..], &mut digits[..]).is_ok();
     match str::from_utf8(&digits[..]) {
-        Ok(secret) if made => {
-            let link = format!(in rt.alloc(); "http://{at}/#{secret}");
+        Ok(ticket) if made => {
+            let link = format!(in rt.alloc(); "http://{at}/#{ticket}");
             link.map_err(|_| io::Error::from(ErrorKind::OutOfMemory))
         }
         _ => Err(io::Error::from(ErrorKind::InvalidData)),
@@ -43,15 +60,13 @@ fn link_to(rt: &HostRuntime, at: SocketAddr, secret: &[u8; 16]) -> io::Result<St
 
 /// A page at an address, with a secret of the system's randomness.
 fn served_at(rt: &HostRuntime, at: &Address<'_>) -> io::Result<Served> {
-    let mut secret = [0; 16];
-    rt.fill_bytes(&mut secret[..])?;
-    let link = link_to(rt, reached_at(rt, at.socket), &secret)?;
-    let inbox = Some(Inbox::new(secret));
+    let inbox = Some(Inbox::new(random(rt)?));
     let viewers = Viewers::new(rt, rt.alloc(), at.socket, Station::Desk, inbox)?;
+    let now = MonotonicClock::new(rt).millis();
     Ok(Served {
-        link,
+        at: reached_at(rt, at.socket),
         ends: viewers.descriptor(),
-        page: RefCell::new(ScorersPage::new(rt.alloc(), viewers)),
+        page: RefCell::new(ScorersPage::new(rt.alloc(), viewers, now)),
     })
 }
 
@@ -63,6 +78,23 @@ fn draw_code(rt: &HostRuntime, link: &str) {
     let mut drawing = Vec::new(rt.alloc());
     if write!(drawing, "{code}").is_ok() {
         draw(rt, &drawing);
+    }
+}
+
+impl Served {
+    /// Puts a new ticket into a link, which is the only one that is good from here on. Where all are to be let in anew, the page
+    /// has a new secret first.
+    fn new_link(&self, rt: &HostRuntime, word: PageWord) -> io::Result<String> {
+        let ticket = random(rt)?;
+        let link = link_to(rt, self.at, &ticket)?;
+        let Ok(mut page) = self.page.try_borrow_mut() else {
+            return Err(io::Error::from(ErrorKind::WouldBlock));
+        };
+        if matches!(word, PageWord::Anew) {
+            page.renew(random(rt)?);
+        }
+        page.show_square(ticket);
+        Ok(link)
     }
 }
 
@@ -96,15 +128,36 @@ impl Page {
         }
     }
 
-    /// Tells the link, and on a terminal as a code too that a camera reads. That it can't be told is no fault.
-    pub fn tell<W: Write>(&self, rt: &HostRuntime, errors: &mut W) {
+    /// Tells a link with a new ticket, where there is a page, and on a terminal as a square too that a camera reads. That it
+    /// can't be told is no fault.
+    pub fn tell<W: Write>(&self, rt: &HostRuntime, word: PageWord, errors: &mut W) {
         let Some(served) = &self.served else {
             return;
         };
-        let link = served.link.as_str();
+        let Ok(link) = served.new_link(rt, word) else {
+            let _ = writeln!(errors, "page: no square can be made");
+            return;
+        };
         if rt.stderr().is_terminal() {
-            draw_code(rt, link);
+            draw_code(rt, link.as_str());
         }
         let _ = writeln!(errors, "page: {link}");
+    }
+}
+
+impl<'p, E> PageSquares<'p, E> {
+    /// Of this page.
+    pub fn of(rt: &'p HostRuntime, page: &'p Page, errors: E) -> PageSquares<'p, E> {
+        PageSquares { rt, page, errors }
+    }
+}
+
+impl<E: Write> Squares for PageSquares<'_, E> {
+    fn show(&mut self, word: PageWord) {
+        if self.page.scorers().is_none() {
+            let _ = writeln!(self.errors, "page: this desk has none, without --serve");
+            return;
+        }
+        self.page.tell(self.rt, word, &mut self.errors);
     }
 }

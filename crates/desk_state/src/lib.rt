@@ -2,7 +2,7 @@
 //! and who may bowl, this over with its places, both sides, the desk's own vote and the lines that are held.
 #![tactic(auto, using(json_fields::proofs::Putting::json_parts), unfolding(json_fields::specs::Values::fields_tokens, json_fields::specs::Values::values_tokens))]
 
-mod board;
+mod board_field;
 mod deliveries;
 mod head;
 mod laws;

@@ -5,7 +5,7 @@ ghost use Rattle.notation.specs.Written.{IsEntry};
 ghost use Rattle.json_fields.specs.Values.{PutsFields, PutsValues};
 ghost use Rattle.desk_state.specs.Value as laws;
 
-use crate::board::put_board_field;
+use crate::board_field::put_board_field;
 use crate::deliveries::over_shown;
 use crate::head::put_head;
 use crate::next::put_next;

@@ -5,7 +5,7 @@ use Rattle.std.proofs.lemmas.List.Elements.{All-nil}
 use Rattle.streams.proofs.Appending.{appends_none}
 use Rattle.wire.specs.Layout.{IsMessage, Says}
 use Rattle.wire.specs.inner.Fields.{place_in}
-use Rattle.std.specs.Prelude.{All, Ok, Err, IsErr, IsErrAnd, IsSome, OnOk}
+use Rattle.std.specs.Prelude.{All, Ok, Err, IsErr, IsErrAnd, IsSome, OnOk, is_some}
 use Rattle.std.specs.Io.KnownBytes.{Appends}
 use Rattle.notation.specs.declared.entry.Entry.{Entry}
 use Rattle.agree_core.specs.declared.messages.{Message.Message, Vote.Vote}
@@ -14,18 +14,18 @@ use Rattle.corrections.specs.Refusal.{book_refusal}
 use Rattle.wire.specs.declared.what.What.{What}
 use Rattle.cards.specs.Board.{board as board_text}
 use Rattle.cards.specs.Sheet.{Sheet}
-use Rattle.board.specs.declared.{refusal.BoardRefusal.BoardRefusal, board.Board.Board}
+use Rattle.board.specs.declared.{refusal.BoardRefusal.BoardRefusal, board.Board.Board, trouble.Why.Why}
 use Rattle.board.specs.Board.{SameMatch, book_of, game_of, state_of}
 use Rattle.board.specs.Rounds.{parts}
 use Rattle.board.specs.Takes.{Takes}
 use Rattle.links.specs.Passed.{Passed, Came, sends}
 use Rattle.links.specs.declared.link.Receivers.TheVariants.{ToAll}
 use Rattle.live.specs.Runs.{Goes, Logs, known_where, with_told}
-use Rattle.live.specs.Boards.{Asks, BoardCall, BoardGoes, BoardLives, BoardRuns, BoardTurn, Given, Looked, Memory, Parted, Read, Ticked, TurnEnded, TurnStep, Unopened}
-use Rattle.live.specs.Boards.{at_turn, beat_of, board_kind, given, in_turn, memory_given, memory_parted, memory_unopened, shown, sight_at, unheard, unless_stopped}
+use Rattle.live.specs.Boards.{Asks, BoardCall, BoardGoes, BoardLives, BoardRuns, BoardTurn, Given, IsApart, Looked, Memory, Parted, PassedBy, Read, Ticked, ToldApart, TurnEnded, TurnStep, Unopened}
+use Rattle.live.specs.Boards.{at_turn, beat_of, board_kind, given, in_turn, memory_given, memory_troubled, memory_unopened, shown, sight_at, unheard}
 use Rattle.live.specs.Sights.{Sight}
 use Rattle.live.specs.Ticks.{IsInTime, Ticking, after_look, reads, unticked}
-use Rattle.station_texts.specs.Notices.{notices_after, notices_parted, notices_unopened}
+use Rattle.station_texts.specs.Notices.{is_stopped, notices_after, notices_unopened}
 use Rattle.links.specs.declared.link.TheConstants.{MOST_TAKEN}
 use Rattle.station_texts.specs.declared.notices.Notice.{Notice}
 use Rattle.live.proofs.TellingLemmas.{told_first}
@@ -67,24 +67,44 @@ module _ {B : Type 0} {g : _} {content : B → List Entry} {innings_of : B → �
   module _ {turns had taken : ℕ} {memory : Memory} {ticking : Ticking} {noted : List Notice} {seen : List Sight} {a : Logs} where
     -- it was given bytes
     pub given_to : {l : Board B g} (bytes : List ℕ) (answer : Result What BoardRefusal) {later : Memory} {heard : Ticking} {notes : List Notice}
-        → IsInTime ticking → heard ≡ ticking → taken < MOST_TAKEN → ((v : Vote) → Says (game_of k) bytes (Message.Vote v) → parts memory.rounds v ≡ false) → SameMatch innings_of k l
+        → IsInTime ticking → heard ≡ ticking → taken < MOST_TAKEN → is_stopped memory.telling ≡ false
+        → ((v : Vote) → Says (game_of k) bytes (Message.Vote v) → parts memory.rounds v ≡ false) → SameMatch innings_of k l
         → Takes (book_refusal (innings_of (book_of k))) (game_of k) (state_of content k) bytes answer (state_of content l)
         → later ≡ memory_given (state_of content k) memory bytes answer → notes ≡ notices_after memory.telling noted answer
         → BoardGoes content innings_of sheet k l (in_turn content k turns had taken memory ticking noted seen) (in_turn content l turns had (taken + 1) later heard notes seen)
         a (record a { passed = a.passed ++ Came bytes ∷ [] })
-    given_to {l = l} bytes answer beats stands few whole same takes tells notices =
+    given_to {l = l} bytes answer beats stands few running whole same takes tells notices =
         called (Given bytes answer) [] same (All-nil IsMessage)
-        ((few, whole), (takes, refl), (λ i. in_turn content l turns had (taken + 1) (tells i) (stands i) (notices i) seen), beats) refl refl (rw append-nil) (appends_none a.told)
+        ((few, running, whole), (takes, refl), (λ i. in_turn content l turns had (taken + 1) (tells i) (stands i) (notices i) seen), beats) refl refl (rw append-nil) (appends_none a.told)
 
     -- bytes came that show that a desk's file lacks lines
     pub parted : (bytes : List ℕ) (v : Vote) {later : Memory} {passed : Ticking} {notes : List Notice} → IsInTime ticking → passed ≡ ticking → taken < MOST_TAKEN
-        → Says (game_of k) bytes (Message.Vote v) → parts memory.rounds v ≡ true → later ≡ memory_parted memory → notes ≡ notices_parted memory.telling noted (place_in bytes)
+        → is_stopped memory.telling ≡ false → Says (game_of k) bytes (Message.Vote v) → parts memory.rounds v ≡ true
+        → later ≡ memory_troubled memory (place_in bytes) Why.Anew → notes ≡ noted ++ Notice.Parted (place_in bytes) ∷ []
         → BoardGoes content innings_of sheet k k (in_turn content k turns had taken memory ticking noted seen) (in_turn content k turns had (taken + 1) later passed notes seen)
         a (record a { passed = a.passed ++ Came bytes ∷ [] })
-    parted bytes v beats stands few says against tells notices =
+    parted bytes v beats stands few running says against tells notices =
         called (Parted bytes) [] same_here (All-nil IsMessage)
-        ((few, v, says, against), (refl, refl), (λ i. in_turn content k turns had (taken + 1) (tells i) (stands i) (notices i) seen), beats)
+        ((few, running, v, says, against), (refl, refl), (λ i. in_turn content k turns had (taken + 1) (tells i) (stands i) (notices i) seen), beats)
         refl refl (rw append-nil) (appends_none a.told)
+
+    -- bytes came once it had stopped
+    pub passed_by : (bytes : List ℕ) → IsInTime ticking → taken < MOST_TAKEN → is_stopped memory.telling ≡ true
+        → BoardGoes content innings_of sheet k k (in_turn content k turns had taken memory ticking noted seen) (in_turn content k turns had (taken + 1) memory ticking noted seen)
+        a (record a { passed = a.passed ++ Came bytes ∷ [] })
+    passed_by bytes beats few over =
+        called (PassedBy bytes) [] same_here (All-nil IsMessage) ((few, over), (refl, refl), refl, beats) refl refl (rw append-nil) (appends_none a.told)
+
+    -- it told that the desks told it different lines
+    pub told_apart : {later : Memory} {passed : Ticking} {notes : List Notice} → IsInTime ticking → passed ≡ ticking
+        → IsApart (state_of content k).reader.position memory.later → is_some memory.telling.trouble ≡ false
+        → later ≡ memory_troubled memory (state_of content k).reader.position.place Why.Apart
+        → notes ≡ noted ++ Notice.Apart (state_of content k).reader.position.place ∷ []
+        → BoardGoes content innings_of sheet k k (in_turn content k turns had taken memory ticking noted seen) (in_turn content k turns had taken later passed notes seen) a a
+    told_apart beats stands apart untold tells notices =
+        called ToldApart [] same_here (All-nil IsMessage)
+        ((apart, untold), (refl, refl), (λ i. in_turn content k turns had taken (tells i) (stands i) (notices i) seen), beats)
+        (rw append-nil) refl (rw append-nil) (appends_none a.told)
 
     -- bytes came that don't open
     pub passed_over : {later : Memory} {passed : Ticking} {notes : List Notice} {after : List Passed} → IsInTime ticking → passed ≡ ticking → taken < MOST_TAKEN
@@ -123,7 +143,7 @@ module _ {B : Type 0} {g : _} {content : B → List Entry} {innings_of : B → �
 
     -- its turn is over
     pub turn_over : {t : Option (List ℕ)} {rested : Ticking} {sees : List Sight} → IsSome ticking.looked → IsInTime ticking → rested ≡ record ticking { looked = None }
-        → sees ≡ seen ++ unless_stopped memory.telling.is_stopped (sight_at content innings_of sheet k ∷ [])
+        → sees ≡ seen ++ sight_at content innings_of sheet k memory.telling.trouble ∷ []
         → Appends a.told t (shown sheet (innings_of (book_of k)) (in_turn content k turns had taken memory ticking noted seen) TurnEnded (at_turn content k (turns + 1) memory rested noted sees))
         → BoardGoes content innings_of sheet k k (in_turn content k turns had taken memory ticking noted seen) (at_turn content k (turns + 1) memory rested noted sees)
         a (record a { told = t })
@@ -178,11 +198,11 @@ module _ {B : Type 0} {g : _} {content : B → List Entry} {innings_of : B → �
   -- its first lines are printed and its book is handed over, and then it runs
   pub lives_on : {l : Board B g} {E : Type 0} (a : Logs) {b : Logs} {readings : List ℕ} {t : Option (List ℕ)} {to : ℕ} {noted notes : List Notice} {seen had sees : List Sight}
       (r : Result (Unit {0}) E) (now : ℕ) → readings ≡ a.readings ++ now ∷ [] → Appends a.told t (board_text sheet (innings_of (book_of k)) (history_of (content (book_of k))))
-      → had ≡ seen ++ sight_at content innings_of sheet k ∷ []
+      → had ≡ seen ++ sight_at content innings_of sheet k None ∷ []
       → BoardRuns content innings_of sheet k l (record a { readings = readings; told = t }) b 0 to unheard unticked noted notes had sees r
       → BoardLives content innings_of sheet k l a b to noted notes seen sees r
   lives_on a {t = t} r now times text is v = record {
-    first = sight_at content innings_of sheet k ∷ [];
+    first = sight_at content innings_of sheet k None ∷ [];
     shows_first = inl refl;
     runs = rw (← is) (record {
       last = v.last;
@@ -197,13 +217,13 @@ module _ {B : Type 0} {g : _} {content : B → List Entry} {innings_of : B → �
   -- or that failed
   pub not_begun : {E failed : Type 0} (a : Logs) {readings : List ℕ} {t : Option (List ℕ)} {to : ℕ} {noted : List Notice} {seen sees : List Sight}
       (r : Result (Unit {0}) E) (fault : E) (now : ℕ) → IsErrAnd r (λ e. e ≡ fault) → readings ≡ a.readings ++ now ∷ []
-      → (sees ≡ seen ++ sight_at content innings_of sheet k ∷ []) ⊎ ((sees ≡ seen) × failed)
+      → (sees ≡ seen ++ sight_at content innings_of sheet k None ∷ []) ⊎ ((sees ≡ seen) × failed)
       → BoardLives content innings_of sheet k k a (record a { readings = readings; told = t }) to noted noted seen sees r
   not_begun a (Ok done) fault now h times seen = absurd h
   not_begun {E = E} a {readings = readings} {t = t} {to = to} {noted = noted} {seen = seen} {sees = sees} (Err e) fault now h times began =
       let failed : Result (Unit {0}) E = Err e in
       let Lives : Type 0 = BoardLives content innings_of sheet k k a (record a { readings = readings; told = t }) to noted noted seen sees failed in
-      let ends : (first : List Sight) → (first ≡ sight_at content innings_of sheet k ∷ []) ⊎ ((first ≡ []) × IsErr failed) → seen ++ first ≡ sees → Lives = λ first shows is.
+      let ends : (first : List Sight) → (first ≡ sight_at content innings_of sheet k None ∷ []) ⊎ ((first ≡ []) × IsErr failed) → seen ++ first ≡ sees → Lives = λ first shows is.
       let last = at_turn content k 0 unheard unticked noted (seen ++ first) in
       record {
         first = first;

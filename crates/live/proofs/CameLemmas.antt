@@ -1,5 +1,5 @@
 -- What is told of a message that was read is what is told of its bytes.
-use Rattle.std.proofs.Common.{◌≡◌, ◌∙◌, ℕ, Bool, List, Option, Some, Result, Ok, refl, sym, ap}
+use Rattle.std.proofs.Common.{◌≡◌, ◌∙◌, ℕ, List, Option, Some, Result, Ok, refl, sym, ap}
 use Rattle.notation.specs.declared.entry.Entry.{Entry}
 use Rattle.agree_core.specs.declared.{messages.Message.Message, messages.Vote.Vote, seat.Heard.Heard}
 use Rattle.agree_core.specs.Desks.{DeskState, Receives, Told}
@@ -10,7 +10,7 @@ use Rattle.wire.proofs.FaultLemmas.{reads_once}
 use Rattle.wire.specs.declared.{fault.WireFault.WireFault, what.What.What}
 use Rattle.cards.specs.Sheet.{Sheet}
 use Rattle.desk.specs.Takes.{Takes}
-use Rattle.station_texts.specs.declared.warned.Warned.{Warned}
+use Rattle.station_texts.specs.declared.{doubt.Evidence.Evidence, warned.Warned.Warned}
 use Rattle.station_texts.specs.Texts.{came_text}
 use Rattle.live.specs.Desks.{entry_in}
 use Rattle.live.proofs.HiddenLemmas.{entry_of_vote}
@@ -25,8 +25,8 @@ module _ {Disk : Type 0} (view : FileView Disk) (game : ℕ) (k l : DeskState Di
 
   pub came_so : (bytes : List ℕ) (read : Result Message WireFault) (what : What) (out : List Message) (other : Option Entry) → Takes view game k bytes what l out
       → Reads game bytes read → ((v : Vote) → read ≡ Ok (Message.Vote v) → other ≡ Some v.entry)
-      → (sheet : Sheet) (innings place : ℕ) (own : Option Entry) (book : List Entry) (warned : Warned) (loss : Bool)
-      → came_text sheet innings place own other book warned loss what ≡ came_text sheet innings place own (entry_in bytes) book warned loss what
-  came_so bytes read (What.Heard h) out other t reads e sheet innings place own book warned loss =
-      ap (λ (o : Option Entry). came_text sheet innings place own o book warned loss (What.Heard h)) (entry_so bytes read h out other t.0 t.1 t.2 reads e)
-  came_so bytes read what out other t reads e sheet innings place own book warned loss = refl
+      → (sheet : Sheet) (innings place : ℕ) (own : Option Entry) (book : List Entry) (warned : Warned) (evidence : Evidence)
+      → came_text sheet innings place own other book warned evidence what ≡ came_text sheet innings place own (entry_in bytes) book warned evidence what
+  came_so bytes read (What.Heard h) out other t reads e sheet innings place own book warned evidence =
+      ap (λ (o : Option Entry). came_text sheet innings place own o book warned evidence (What.Heard h)) (entry_so bytes read h out other t.0 t.1 t.2 reads e)
+  came_so bytes read what out other t reads e sheet innings place own book warned evidence = refl

@@ -1,6 +1,6 @@
 -- Runs of a desk.
 use Rattle.std.proofs.Common.{◌≡◌, ◌≤◌, ◌+◌, ℕ, List, [], ◌∷◌, ◌++◌, None, Some, Option, Result, Ok, Err}
-use Rattle.std.proofs.Common.{true, false, refl, sym, ap, ◌∙◌, subst, append-nil, append_assoc, arith, length, map, All}
+use Rattle.std.proofs.Common.{Bool, true, false, refl, sym, ap, ◌∙◌, subst, append-nil, append_assoc, arith, length, map, All}
 use Rattle.std.specs.Prelude.{IsErrOf, IsErrAnd, IsSome, is_some, nat_lt}
 use Rattle.std.specs.Bool.{⊤}
 use Rattle.std.specs.Io.KnownBytes.{Appends, Keeps}
@@ -13,6 +13,7 @@ use Rattle.entry_log.specs.Blame.{BlamesDisk}
 use Rattle.entry_log.specs.Disk.{Faults}
 use Rattle.entry_log.specs.declared.{disk.Disk.Ghosts as Disks, slots_of.SlotsOf.Ghosts as Files}
 use Rattle.agree_core.specs.declared.messages.Message.{Message}
+use Rattle.agree_core.specs.Ballots.{Ballot}
 use Rattle.agree_core.specs.Desks.{Pens, Ticks}
 use Rattle.vote_store.specs.View.{file_view}
 use Rattle.wire.specs.Layout.{IsMessage, written}
@@ -29,15 +30,14 @@ use Rattle.station_texts.specs.Saying.{ComesTo, SaysEntry}
 use Rattle.links.specs.Typing.{Input, Line, End}
 use Rattle.links.specs.declared.aside.Aside.{Aside}
 use Rattle.station_texts.specs.Asides.{aside_text}
-use Rattle.station_texts.specs.Texts.{came_text, reminder_text, said_text, unopened_text, warned_after, warned_reminded, warned_unopened}
-use Rattle.live.specs.LostLines.{end_given, end_here}
-use Rattle.live.specs.Ends.{Course, course_of, end_of, ending, further, known_at, known_in, known_until, turns_after}
-use Rattle.live.specs.Desks.{Blames, disks_of, Calls, DeskCall, DeskGoes, DeskProcess, DeskStep, Given, FitsLongest, MayCall, MayRemind, Looked, Read, Reminded, Ticked, ToldAside, TurnEnded, Typed}
-use Rattle.live.specs.Desks.{TypingEnded, Unopened, after_call, beat_of, course_after, desk_kind, entry_in, given, innings_of, kind_of, loss_in, own_line, process_of, receivers_of, told_of, typed}
+use Rattle.station_texts.specs.Doubts.{holds_up}
+use Rattle.station_texts.specs.Texts.{came_text, reminder_text, said_text, unopened_text, warned_after, warned_reminded, warned_said, warned_unopened}
+use Rattle.live.specs.Ends.{Course, course_of, end_at, end_of, ending, further, known_at, known_in, known_until, turns_after}
+use Rattle.live.specs.Desks.{Blames, disks_of, Calls, DeskCall, DeskGoes, DeskProcess, DeskStep, Given, FitsLongest, MayCall, MayRemind, MaySay, Looked, Read, Reminded, Ticked, ToldAside, TurnEnded, Typed}
+use Rattle.live.specs.Desks.{TypingEnded, Unopened, after_call, beat_of, course_after, desk_kind, entry_in, given, innings_of, kind_of, own_line, process_of, receivers_of, shown_by, told_of, typed}
 use Rattle.live.specs.Ticks.{IsInTime, MayBeat, Ticking, after_look, reads}
 use Rattle.live.specs.declared.ends.DeskEnd.{DeskEnd}
 use Rattle.station_texts.specs.declared.{reminder.Reminder.Reminder, said.Said.Said, warned.Warned.Warned}
-use Rattle.live.proofs.LostLemmas.{heard_ends}
 use Rattle.live.proofs.RunLemmas.{both, one, retold, stays, unsaid}
 
 -- no device call failed
@@ -112,33 +112,34 @@ module _ {S B D : Type 0} {g : Files S D} {h : Disks D} {b : Books B} where
 
   module _ {sheet : Sheet} {k l : Desk S B D g h b} {warned : Warned} {turns : ℕ} {ticking : Ticking} {a : Logs} where
     -- its scorer typed a line
-    pub says : {line : List ℕ} (answer : Said) {course : Course} {after : List Passed} {y : List Input} {t : Option (List ℕ)}
-        → IsInTime ticking → Calls sheet k l (Typed line answer) a.passed after
-        → y ≡ a.typed ++ Line line ∷ [] → course ≡ end_of answer
-        → Appends a.told t (said_text sheet (innings_of k) (state_of k).seat.position (own_line (state_of k)) (state_of k).seat.theirs warned.of_silence (state_of l).book answer)
-        → DeskGoes sheet k l (process_of k warned turns ticking further) (process_of l warned turns ticking course) a
+    pub says : {line : List ℕ} (answer : Said) {course : Course} {later : Warned} {after : List Passed} {y : List Input} {t : Option (List ℕ)}
+        → IsInTime ticking → MaySay (holds_up warned.doubt) answer → Calls sheet k l (Typed line answer) a.passed after
+        → y ≡ a.typed ++ Line line ∷ [] → later ≡ warned_said warned answer → course ≡ end_of answer
+        → Appends a.told t (said_text sheet (innings_of k) (state_of k).seat.position (own_line (state_of k)) (state_of k).seat.theirs warned (state_of l).book answer)
+        → DeskGoes sheet k l (process_of k warned turns ticking further) (process_of l later turns ticking course) a
         (record a { passed = after; typed = y; told = t })
-    says answer beats c types is text = called (Typed _ answer) {ticking = ticking} tt beats c (rw append-nil) types (rw append-nil) (rw is) text
+    says answer beats may c types tells is text = called (Typed _ answer) {ticking = ticking} may beats c (rw append-nil) types (rw append-nil) (rw (tells, is)) text
 
     -- a line at which the process ends
-    pub says_last : {line : List ℕ} (answer : Said) (end : DeskEnd) {after : List Passed} {y : List Input} → IsInTime ticking
-        → Calls sheet k l (Typed line answer) a.passed after → y ≡ a.typed ++ Line line ∷ [] → end_of answer ≡ Err end
-        → DeskGoes sheet k l (process_of k warned turns ticking further) (process_of l warned turns ticking (ending end)) a
+    pub says_last : {line : List ℕ} (answer : Said) (end : DeskEnd) {later : Warned} {after : List Passed} {y : List Input} → IsInTime ticking
+        → MaySay (holds_up warned.doubt) answer → Calls sheet k l (Typed line answer) a.passed after → y ≡ a.typed ++ Line line ∷ []
+        → later ≡ warned_said warned answer → end_of answer ≡ Err end
+        → DeskGoes sheet k l (process_of k warned turns ticking further) (process_of l later turns ticking (ending end)) a
         (record a { passed = after; typed = y })
-    says_last answer end beats c types e =
-        says answer beats c types (grind arith) (grind (arith, appends_none))
+    says_last answer end beats may c types tells e =
+        says answer beats may c types tells (grind arith) (grind (arith, appends_none))
 
     -- bytes came
     pub hears : {bytes : List ℕ} (what : What) {course : Course} {later : Warned} {heard : Ticking} {before after : List Passed} {t : Option (List ℕ)}
         → IsInTime ticking → heard ≡ ticking → Calls sheet k l (Given bytes what) before after
-        → before ≡ a.passed ++ Came bytes ∷ [] → later ≡ warned_after warned (loss_in (state_of k) bytes what) what → course ≡ end_here (state_of k).seat bytes what
-        → Appends a.told t (came_text sheet (innings_of k) (state_of k).seat.position.place (own_line (state_of k)) (entry_in bytes) (state_of l).book warned (loss_in (state_of k) bytes what) what)
+        → before ≡ a.passed ++ Came bytes ∷ [] → later ≡ warned_after warned (shown_by (state_of k) bytes what) what → course ≡ end_at what
+        → Appends a.told t (came_text sheet (innings_of k) (state_of k).seat.position.place (own_line (state_of k)) (entry_in bytes) (state_of l).book warned (shown_by (state_of k) bytes what) what)
         → DeskGoes sheet k l (process_of k warned turns ticking further) (process_of l later turns heard course) a (record a { passed = after; told = t })
     hears what beats same c came tells is text = called (Given _ what) {ticking = ticking} tt beats c came (rw append-nil) (rw append-nil) (rw (tells, same, is)) text
 
     -- bytes at which the process ends
     pub hears_last : {bytes : List ℕ} (what : What) (end : DeskEnd) {later : Warned} {heard : Ticking} {before after : List Passed} → IsInTime ticking
-        → heard ≡ ticking → Calls sheet k l (Given bytes what) before after → before ≡ a.passed ++ Came bytes ∷ [] → later ≡ warned_after warned (loss_in (state_of k) bytes what) what → end_here (state_of k).seat bytes what ≡ Err end
+        → heard ≡ ticking → Calls sheet k l (Given bytes what) before after → before ≡ a.passed ++ Came bytes ∷ [] → later ≡ warned_after warned (shown_by (state_of k) bytes what) what → end_at what ≡ Err end
         → DeskGoes sheet k l (process_of k warned turns ticking further) (process_of l later turns heard (ending end)) a (record a { passed = after })
     hears_last what end beats same c came tells e =
         hears what beats same c came tells (grind arith) (grind (arith, appends_none))
@@ -219,6 +220,11 @@ module _ {S B D : Type 0} {g : Files S D} {h : Disks D} {b : Books B} where
       → Calls sheet k k (Typed line answer) log log
   unpenned sheet k line answer log w = unmoved {sheet = sheet} (Typed line answer) (grind arith) (λ e. grind arith)
 
+  -- a line that says an entry, at a desk that casts no vote
+  pub withheld : (sheet : Sheet) (k : Desk S B D g h b) (line : List ℕ) (e : Entry) (log : List Passed)
+      → SaysEntry sheet (state_of k).book (state_of k).votes (state_of k).seat.position.round line e → Calls sheet k k (Typed line Said.Withheld) log log
+  withheld sheet k line e log says = unmoved {sheet = sheet} (Typed line Said.Withheld) ((e, says), refl, refl) (λ e. (cc))
+
   abbrev PenStep : Desk S B D g h b → Entry → Result Penned Refusal → Desk S B D g h b → Type 0
   PenStep k e r l = AreSent (game_of k) (sent r) (λ out. Pens (view_of k) (rules_of k) (state_of k) e (pen_answer r) (state_of l) out)
 
@@ -270,11 +276,11 @@ module _ {S B D : Type 0} {g : Files S D} {h : Disks D} {b : Books B} where
   -- what it answers to bytes blames the disk as the call did
   answers : (k l : Desk S B D g h b) (bytes : List ℕ) (what : What) (out : List Message) → (state_of k).failed ≡ false
       → Takes (view_of k) (game_of k) (state_of k) bytes what (state_of l) out
-      → BlamesDisk What.Device ⊤ (device_answer what) (h.faults (disk_of k)) (h.faults (disk_of l)) → DeskBlame k (end_here (state_of k).seat bytes what) l
+      → BlamesDisk What.Device ⊤ (device_answer what) (h.faults (disk_of k)) (h.faults (disk_of l)) → DeskBlame k (end_at what) l
   answers k l bytes What.Device out runs r blame =
       blamed (device_answer What.Device) What.Device (Err DeskEnd.Device) _ _ (λ q. refl) (λ q. refl) (λ q room. tt) blame
   answers k l bytes What.Failed out runs r blame = absurd (let path : true ≡ false = sym r.0 ∙ runs in (cc))
-  answers k l bytes (What.Heard h) out runs r blame = blameless (end_given _ (What.Heard h)) _ _ (heard_ends _ h) (blame.same (λ q. (cc)))
+  answers k l bytes (What.Heard h) out runs r blame = blameless (end_at (What.Heard h)) _ _ (λ e. (cc)) (blame.same (λ q. (cc)))
   answers k l bytes what out runs r blame = blameless further _ _ (λ q. (cc)) (blame.same (λ q. (cc)))
 
   pub taken : (sheet : Sheet) (k l : Desk S B D g h b) (bytes : List ℕ) (what : What) (reply : Option (List ℕ)) (before after : List Passed) → SameOwner k l
@@ -319,6 +325,11 @@ module _ {S B D : Type 0} {g : Files S D} {h : Disks D} {b : Books B} where
       → DeskGoes sheet k l p (process_of l later turns ticking (course_of r)) (known_in r a) (known_in r c)
   passed_on a c (Ok value) met e v = absurd e
   passed_on a c (Err end) met e v = rw e v
+
+-- a line that says no entry may be answered so, whatever the desk doubts
+pub may_come : (sheet : Sheet) (book : List Entry) (votes : List Ballot) (differs is_cast : Bool) (line : List ℕ) (said : Said) (doubts : Bool)
+    → ComesTo sheet book votes differs is_cast line said → MaySay doubts said
+may_come sheet book votes differs is_cast line said doubts h = grind arith
 
 -- an answer that is passed on in a turn
 pub turn_passed_on : {T : Type 0} (r : Result T DeskEnd) (met : DeskEnd) (turns : ℕ) (P : ℕ → Course → (Logs → Logs) → Type 0)

@@ -1,6 +1,6 @@
--- How a desk's process goes on where bytes come for a later position, and what they show of the other desk's file.
+-- What bytes show of lines that one of both desks' files lacks.
 use Rattle.std.proofs.Common.{arith, ◌≡◌, ℕ, Bool, true, false, List, [], ◌∷◌, Option, Some, None, Result, Ok, refl, sym, ap, ◌∙◌, subst, inr, map, not, ◌&&◌, IsTrue, ◌↔◌}
-use Rattle.std.specs.Prelude.{IsErrOf, is_some, if◌then◌else◌}
+use Rattle.std.specs.Prelude.{is_some, if◌then◌else◌}
 use Rattle.std.specs.Result.{ForOk}
 use Rattle.std.specs.Str.{bytes_eq}
 use Rattle.std.proofs.lemmas.Bool.Decides.{Decides-like, nat_tests, same_from_decides}
@@ -25,13 +25,10 @@ use Rattle.wire.specs.Reading.{Reads}
 use Rattle.wire.specs.Sent.{AreSent}
 use Rattle.wire.specs.declared.{fault.WireFault.WireFault, what.What.What}
 use Rattle.wire.proofs.FaultLemmas.{reads_once}
-use Rattle.wire.proofs.MessageLemmas.{code_in, place_of, round_of}
-use Rattle.live.specs.LostLines.{end_ahead, end_given, end_here, loss_of, position_in, shows_loss}
-use Rattle.live.specs.declared.ends.DeskEnd.{DeskEnd}
-
--- a vote that was heard blames no disk
-pub heard_ends : (reach : Bool) (h : Heard) → IsErrOf (end_given reach (What.Heard h)) DeskEnd.Device → ⊥
-heard_ends reach h e = grind arith
+use Rattle.wire.proofs.MessageLemmas.{asker_of, code_in, place_of, round_of}
+use Rattle.live.specs.LostLines.{asker_in, evidence, evidence_of, is_other, position_in}
+use Rattle.live.specs.declared.lost_lines.Bearing.{Bearing}
+use Rattle.station_texts.specs.declared.doubt.Evidence.TheVariants.{Nothing, OtherLacks, Ahead, Level}
 
 -- the position that bytes say is that of their message
 pub position_of_message : (game : ℕ) (bytes : List ℕ) (m : Message) → Says game bytes m → position_in bytes ≡ message_at m
@@ -40,18 +37,6 @@ position_of_message game bytes m says = λ i. record { place = place_of game byt
 -- what was read has its numbers in their ranges
 pub is_message : (game : ℕ) (bytes : List ℕ) (read : Result Message WireFault) → Reads game bytes read → ForOk read IsMessage
 is_message game bytes read reads m is = let says : Says game bytes m = subst (Reads game bytes) is reads in says.0
-
--- its position is that of the bytes
-read_at : (game : ℕ) (bytes : List ℕ) (read : Result Message WireFault) (at : Position) (m : Message) → Says game bytes m → Reads game bytes read
-    → ForOk read (λ n. at ≡ message_at n) → at ≡ position_in bytes
-read_at game bytes read at m says reads e = e m (reads_once game bytes read (Ok m) reads says) ∙ sym (position_of_message game bytes m says)
-
-pub ends_so : {Disk : Type 0} (view : FileView Disk) (game : ℕ) (k l : DeskState Disk) (bytes : List ℕ) (read : Result Message WireFault) (what : What)
-    (out : List Message) (at : Position) → Takes view game k bytes what l out → Reads game bytes read → ForOk read (λ m. at ≡ message_at m)
-    → end_given (is_in_reach k.seat at) what ≡ end_here k.seat bytes what
-ends_so view game k l bytes read (What.Heard Heard.Ahead) out at t reads e =
-    ap (λ (p : Position). end_ahead (is_in_reach k.seat p)) (read_at game bytes read at t.0 t.1 reads e)
-ends_so view game k l bytes read what out at t reads e = refl
 
 -- ---- of the other desk's file
 
@@ -107,6 +92,11 @@ module _ {Disk : Type 0} (view : FileView Disk) (game : ℕ) (k l : DeskState Di
       by_message bytes reply s.0 t.0 t.1 s.2 t.2
 
   -- what was read, and the reply, show what the bytes do
+  reach_so : (bytes : List ℕ) (read : Result Message WireFault) (m : Message) (reach : Bool) → Says game bytes m → Reads game bytes read
+      → ForOk read (λ n. reach ≡ is_in_reach k.seat (message_at n)) → reach ≡ is_in_reach k.seat (position_in bytes)
+  reach_so bytes read m reach says reads e =
+      e m (reads_once game bytes read (Ok m) reads says) ∙ ap (is_in_reach k.seat) (sym (position_of_message game bytes m says))
+
   another_so_read : (bytes : List ℕ) (read : Result Message WireFault) (h : Heard) (out : List Message) (another : Bool) (m : Message) → Says game bytes m
       → Receives view k m (Told h) l out → Reads game bytes read
       → ((v : Vote) → read ≡ Ok (Message.Vote v) → another ≡ is_another k.seat k.votes (position_of v) (code v.entry))
@@ -116,15 +106,25 @@ module _ {Disk : Type 0} (view : FileView Disk) (game : ℕ) (k l : DeskState Di
       ∙ sym (λ i. is_another k.seat k.votes (position_of_message game bytes (Message.Vote v) says i) (code_in game bytes v says i))
   another_so_read bytes read h out another (Message.Ask q) says r reads a = absurd r
 
-  pub loses_so : (bytes : List ℕ) (read : Result Message WireFault) (what : What) (out : List Message) (at : Position) (another has_reply : Bool)
-      → Takes view game k bytes what l out → Reads game bytes read → ForOk read (λ m. at ≡ message_at m)
-      → ((v : Vote) → read ≡ Ok (Message.Vote v) → another ≡ is_another k.seat k.votes (position_of v) (code v.entry))
+  pub shown_so : (bytes : List ℕ) (read : Result Message WireFault) (what : What) (out : List Message) (b : Bearing) (has_reply : Bool)
+      → Takes view game k bytes what l out → Reads game bytes read
+      → ((v : Vote) → read ≡ Ok (Message.Vote v) → b.another ≡ is_another k.seat k.votes (position_of v) (code v.entry))
+      → ForOk read (λ m. b.passed_over ≡ is_before (message_at m) k.seat.position) → ForOk read (λ m. b.in_reach ≡ is_in_reach k.seat (message_at m))
+      → ((q : Ask) → read ≡ Ok (Message.Ask q)
+      → b.is_level ≡ (is_at (message_at (Message.Ask q)) k.seat.position && is_other k.seat.desk (Some q.from)))
       → (what ≡ What.Asked → has_reply ≡ is_voted k.votes (position_in bytes))
-      → loss_of another (is_before at k.seat.position && not has_reply) what ≡ shows_loss k.seat k.votes bytes what
-  loses_so bytes read (What.Heard Heard.Old) out at another has_reply t reads e a replied =
-      another_so_read bytes read Heard.Old out another t.0 t.1 t.2 reads a
-  loses_so bytes read What.Asked out at another has_reply t reads e a replied =
-      let same = read_at game bytes read at t.0 t.1 reads e in
+      → evidence_of (record b { passed_over = b.passed_over && not has_reply }) what ≡ evidence k.seat k.votes bytes what
+  shown_so bytes read (What.Heard Heard.Old) out b has_reply t reads another passed reach level replied =
+      ap (λ (x : Bool). if x then OtherLacks else Nothing) (another_so_read bytes read Heard.Old out b.another t.0 t.1 t.2 reads another)
+  shown_so bytes read (What.Heard Heard.Ahead) out b has_reply t reads another passed reach level replied =
+      ap (λ (x : Bool). if x then Nothing else Ahead) (reach_so bytes read t.0 b.in_reach t.1 reads reach)
+  shown_so bytes read What.Asked out b has_reply (Message.Vote v, says, r) reads another passed reach level replied = absurd r
+  shown_so bytes read What.Asked out b has_reply (Message.Ask q, says, r) reads another passed reach level replied =
+      let is : read ≡ Ok (Message.Ask q) = reads_once game bytes read (Ok (Message.Ask q)) reads says in
+      let here = position_of_message game bytes (Message.Ask q) says in
+      let who : Some q.from ≡ asker_in bytes = sym (asker_of game bytes q says) in
+      let over = passed (Message.Ask q) is ∙ ap (λ (p : Position). is_before p k.seat.position) (sym here) in
       let has = replied refl in
-      λ i. is_before (same i) k.seat.position && not (has i)
-  loses_so bytes read what out at another has_reply t reads e a replied = refl
+      let level_is = level q is ∙ (λ i. is_at (sym here i) k.seat.position && is_other k.seat.desk (who i)) in
+      λ i. if over i && not (has i) then OtherLacks else (if level_is i then Level else Nothing)
+  shown_so bytes read what out b has_reply t reads another passed reach level replied = refl

@@ -1,8 +1,8 @@
--- The rounds that a board's process remembers.
-use Rattle.std.proofs.Common.{◌≡◌, ◌∙◌, ℕ, Bool, true, false, List, Option, Some, Result, Ok, refl, sym, ap}
+-- The rounds that a board's process remembers, and which desks it has heard to be ahead.
+use Rattle.std.proofs.Common.{◌≡◌, ◌∙◌, ℕ, Bool, true, false, List, Option, Some, None, Result, Ok, refl, sym, ap, ap₂, nat_lt}
 use Rattle.std.specs.Prelude.{if◌then◌else◌}
 use Rattle.notation.specs.declared.entry.Entry.{Entry}
-use Rattle.agree_core.specs.declared.{messages.Message.Message, messages.Vote.Vote, seat.Heard.Heard}
+use Rattle.agree_core.specs.declared.{messages.DeskId.DeskId, messages.Message.Message, messages.Vote.Vote, seat.Heard.Heard}
 use Rattle.agree_core.specs.Boards.{BoardState}
 use Rattle.agree_core.specs.Books.{Rules}
 use Rattle.vote_store.specs.Record.{entry_coded}
@@ -10,10 +10,12 @@ use Rattle.wire.specs.Layout.{Says, body_in}
 use Rattle.wire.specs.Reading.{Reads}
 use Rattle.wire.specs.declared.{fault.WireFault.WireFault, what.What.What}
 use Rattle.wire.proofs.FaultLemmas.{reads_once}
+use Rattle.wire.proofs.MessageLemmas.{place_of, voter_of}
 use Rattle.board.specs.declared.{refusal.BoardRefusal.BoardRefusal, witness.Round.Round}
 use Rattle.board.specs.Rounds.{parts, whole_round, with_round}
 use Rattle.board.specs.Takes.{Takes}
-use Rattle.live.specs.Boards.{rounds_after, settles}
+use Rattle.live.specs.Boards.{desk_ahead, desk_ahead_in, later_after, rounds_after, settles, with_desk}
+use Rattle.live.specs.declared.later.Later.{Later}
 use Rattle.live.proofs.HiddenLemmas.{entry_of_vote}
 
 module _ {Why : Type 0} (rules : Rules Why) (game : ℕ) (k l : BoardState) (bytes : List ℕ) where
@@ -44,6 +46,20 @@ module _ {Why : Type 0} (rules : Rules Why) (game : ℕ) (k l : BoardState) (byt
         → ((v : Vote) → read ≡ Ok (Message.Vote v) → entry ≡ Some v.entry) → Takes rules game k bytes answer l
         → (if settles answer then with_round rounds (whole_round k.reader entry) else rounds) ≡ rounds_after k rounds bytes answer
     rounds_noted answer entry rounds is takes = noted_when (settles answer) answer entry rounds refl is takes
+
+    ahead_so : (place : ℕ) (desk : Option DeskId) → ((v : Vote) → read ≡ Ok (Message.Vote v) → desk ≡ desk_ahead place v) → (v : Vote) → Says game bytes (Message.Vote v)
+        → desk ≡ desk_ahead_in place bytes
+    ahead_so place desk is v says =
+        is v (reads_once game bytes read (Ok (Message.Vote v)) reads says)
+        ∙ ap₂ (λ (p : ℕ) (found : Option DeskId). if nat_lt place p then found else None) (sym (place_of game bytes (Message.Vote v) says)) (sym (voter_of game bytes v says))
+
+    -- who is ahead by a message that was read is so by its bytes
+    pub later_noted : (answer : Result What BoardRefusal) (place : ℕ) (desk : Option DeskId) (later : Later)
+        → ((v : Vote) → read ≡ Ok (Message.Vote v) → desk ≡ desk_ahead place v) → Takes rules game k bytes answer l
+        → later_after later desk answer ≡ later_after later (desk_ahead_in place bytes) answer
+    later_noted (Ok (What.Heard Heard.Ahead)) place desk later is (Message.Vote v, says, r) = ap (with_desk later) (ahead_so place desk is v says)
+    later_noted (Ok (What.Heard Heard.Ahead)) place desk later is (Message.Ask q, says, r) = absurd r
+    later_noted answer place desk later is takes = refl
 
   -- what doesn't part, read so, doesn't by its bytes
   pub unparted : (read : Result Message WireFault) → Reads game bytes read → (rounds : List Round) → ((v : Vote) → read ≡ Ok (Message.Vote v) → parts rounds v ≡ false)

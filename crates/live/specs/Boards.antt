@@ -1,21 +1,21 @@
 -- A board's process, turn by turn.
-use Rattle.std.specs.Prelude.{◌≡◌, ◌⊎◌, ◌<◌, ◌+◌, ℕ, Bool, true, false, if◌then◌else◌, nat_eq, List, [], ◌∷◌, ◌++◌, All, length, Result, Ok, IsErr, OnOk}
+use Rattle.std.specs.Prelude.{◌≡◌, ◌⊎◌, ◌<◌, ◌+◌, ℕ, Bool, true, false, if◌then◌else◌, nat_eq, nat_lt, List, [], ◌∷◌, ◌++◌, All, length, slice_index, Option, Some, None, is_some, Result, Ok, Err, IsErr, OnOk}
 use Rattle.notation.specs.declared.entry.Entry.{Entry}
 use Rattle.corrections.specs.CleanList.{history_of}
 use Rattle.corrections.specs.Refusal.{book_refusal}
-use Rattle.agree_core.specs.declared.{messages.Message.Message, messages.Vote.Vote, seat.Heard.Heard}
+use Rattle.agree_core.specs.declared.{messages.DeskId.DeskId, messages.Message.Message, messages.Vote.Vote, position.Position.Position, seat.Heard.Heard}
 use Rattle.agree_core.specs.Boards.{BoardState, BoardTicks}
 use Rattle.vote_store.specs.Record.{entry_coded}
 use Rattle.wire.specs.Layout.{IsMessage, Says, body_in}
-use Rattle.wire.specs.inner.Fields.{place_in}
+use Rattle.wire.specs.inner.Fields.{desk_numbered, place_in}
 use Rattle.wire.specs.declared.what.What.{What}
 use Rattle.cards.specs.Sheet.{Sheet}
 use Rattle.cards.specs.Board.{board as board_text}
-use Rattle.board.specs.declared.{refusal.BoardRefusal.BoardRefusal, board.Board.Board, witness.Round.Round}
+use Rattle.board.specs.declared.{refusal.BoardRefusal.BoardRefusal, board.Board.Board, trouble.Trouble.Trouble, trouble.Why.Why, witness.Round.Round}
 use Rattle.board.specs.Board.{SameMatch, book_of, game_of, state_of}
 use Rattle.board.specs.Rounds.{parts, whole_round, with_round}
 use Rattle.board.specs.Takes.{Takes}
-use Rattle.station_texts.specs.Notices.{notices_after, notices_parted, notices_unopened, telling_after, telling_parted, telling_unopened, untold}
+use Rattle.station_texts.specs.Notices.{is_stopped, notices_after, notices_unopened, opens, telling_after, telling_unopened, untold, with_trouble}
 use Rattle.links.specs.Passed.{Passed, Came, sends}
 use Rattle.links.specs.declared.link.Receivers.TheVariants.{ToAll}
 use Rattle.live.specs.Runs.{Goes, Kind, Logs, known_where, with_told}
@@ -23,14 +23,17 @@ use Rattle.live.specs.Sights.{Sight, sight_of}
 use Rattle.live.specs.Ticks.{Beat, Look, MayBeat, Other, Reading, Tick, Ticking, TurnEnd, after_beat, unticked}
 use Rattle.links.specs.declared.link.TheConstants.{MOST_TAKEN}
 use Rattle.station_texts.specs.declared.{notices.Notice.Notice, notices.Telling.Telling}
+use Rattle.live.specs.declared.later.Later.{Later}
 
--- a call of a board: it is given bytes; bytes came that show that a desk's file lacks lines, or don't open, of which it is given
--- nothing; a look at its clock, whether a tick is due, a tick, another reading of its clock, each with what it shows, or the
--- end of a turn
+-- a call of a board: it is given bytes; bytes came that show that a desk's file lacks lines, or came once it has stopped, or
+-- don't open, of which it is given nothing; it tells that the desks told it different lines; a look at its clock, whether a tick
+-- is due, a tick, another reading of its clock, each with what it shows, or the end of a turn
 pub data BoardCall : Type 0 where
   Given : List ℕ → Result What BoardRefusal → BoardCall
   Parted : List ℕ → BoardCall
+  PassedBy : List ℕ → BoardCall
   Unopened : BoardCall
+  ToldApart : BoardCall
   Looked : ℕ → BoardCall
   Ticked : BoardCall
   Read : ℕ → BoardCall
@@ -50,39 +53,64 @@ beat_of Ticked = Tick
 beat_of TurnEnded = TurnEnd
 beat_of call = Other
 
--- what a board's process remembers: what it has told of what it can't take, and the rounds that it has heard whole, the
--- oldest first
+-- what a board's process remembers: what it has told, the rounds that it has heard whole, the oldest first, and which desks it
+-- has heard to be ahead
 pub record Memory : Type 0 where
   pub telling : Telling
   pub rounds : List Round
+  pub later : Later
 
-abbrev pub memory_of : Telling → List Round → Memory
-memory_of telling rounds = record { telling = telling; rounds = rounds }
+abbrev pub memory_of : Telling → List Round → Later → Memory
+memory_of telling rounds later = record { telling = telling; rounds = rounds; later = later }
+
+abbrev pub neither : Later
+neither = record { a = false; b = false }
 
 -- nothing was told or heard
 abbrev pub unheard : Memory
-unheard = memory_of untold []
+unheard = memory_of untold [] neither
 
--- an answer by which the board goes on to another position: both votes of its own were heard
+-- an answer by which the board goes on to another position
 abbrev pub settles : Result What BoardRefusal → Bool
-settles (Ok (What.Heard Heard.Agreed)) = true
-settles (Ok (What.Heard Heard.Differ)) = true
-settles answer = false
+settles (Ok what) = opens what
+settles (Err refusal) = false
 
 -- the rounds once a board has answered so to bytes
 abbrev pub rounds_after : BoardState → List Round → List ℕ → Result What BoardRefusal → List Round
 rounds_after k rounds bytes answer =
     if settles answer then with_round rounds (whole_round k.reader (entry_coded (body_in bytes))) else rounds
 
+-- this desk too, if it is one
+abbrev pub with_desk : Later → Option DeskId → Later
+with_desk later None = later
+with_desk later (Some DeskId.A) = record later { a = true }
+with_desk later (Some DeskId.B) = record later { b = true }
+
+-- the desk of a vote for a later place than this; and the one of the vote that bytes say, likewise
+abbrev pub desk_ahead : ℕ → Vote → Option DeskId
+desk_ahead place v = if nat_lt place v.place then Some v.desk else None
+
+abbrev pub desk_ahead_in : ℕ → List ℕ → Option DeskId
+desk_ahead_in place bytes = if nat_lt place (place_in bytes) then desk_numbered (slice_index bytes 12) else None
+
+-- of which desks a vote for a later place was heard since the board came to its position, after a vote of this desk for one
+abbrev pub later_after : Later → Option DeskId → Result What BoardRefusal → Later
+later_after later desk (Ok (What.Heard Heard.Agreed)) = neither
+later_after later desk (Ok (What.Heard Heard.Differ)) = neither
+later_after later desk (Ok (What.Heard Heard.Ahead)) = with_desk later desk
+later_after later desk answer = later
+
 abbrev pub memory_given : BoardState → Memory → List ℕ → Result What BoardRefusal → Memory
 memory_given k memory bytes answer =
     memory_of (telling_after memory.telling answer) (rounds_after k memory.rounds bytes answer)
-
-abbrev pub memory_parted : Memory → Memory
-memory_parted memory = record memory { telling = telling_parted memory.telling }
+    (later_after memory.later (desk_ahead_in k.reader.position.place bytes) answer)
 
 abbrev pub memory_unopened : Memory → Memory
 memory_unopened memory = record memory { telling = telling_unopened memory.telling }
+
+-- it is told that this keeps the board from going on
+abbrev pub memory_troubled : Memory → ℕ → Why → Memory
+memory_troubled memory place why = record memory { telling = with_trouble memory.telling place why }
 
 -- a board in a turn: how many turns are over, how many entries its book had as this one began, how many datagrams were
 -- taken in it, what it remembers, what it saw of its clock, all notices the oldest first, and what it has handed to be shown,
@@ -110,24 +138,30 @@ begun k turns memory ticking notices seen = record {
   seen = seen;
 }
 
+-- By what it has heard no votes come for this position: it is a later round of its place, to which the votes of the one before
+-- led, and yet both desks vote for later places. So they voted alike in an earlier round, which this board heard otherwise.
+abbrev pub IsApart : Position → Later → Type 0
+IsApart at later = (0 < at.round) × (later.a ≡ true) × (later.b ≡ true)
+
 -- In a turn a board takes eight datagrams at most. It is given those that don't show, by the rounds that it has heard, that a
--- desk's file lacks lines.
+-- desk's file lacks lines; and none once it has stopped. That the desks told it different lines is told where it is so, unless
+-- something was told that keeps it from going on; when, it sees by its clock.
 abbrev pub MayCall : ℕ → BoardTurn → BoardCall → Type 0
 MayCall game k (Given bytes answer) =
-    (k.taken < MOST_TAKEN) × ((v : Vote) → Says game bytes (Message.Vote v) → parts k.memory.rounds v ≡ false)
+    (k.taken < MOST_TAKEN) × (is_stopped k.memory.telling ≡ false)
+    × ((v : Vote) → Says game bytes (Message.Vote v) → parts k.memory.rounds v ≡ false)
 MayCall game k (Parted bytes) =
-    (k.taken < MOST_TAKEN) × (v : Vote) × Says game bytes (Message.Vote v) × (parts k.memory.rounds v ≡ true)
+    (k.taken < MOST_TAKEN) × (is_stopped k.memory.telling ≡ false)
+    × (v : Vote) × Says game bytes (Message.Vote v) × (parts k.memory.rounds v ≡ true)
+MayCall game k (PassedBy bytes) = (k.taken < MOST_TAKEN) × (is_stopped k.memory.telling ≡ true)
 MayCall game k Unopened = k.taken < MOST_TAKEN
+MayCall game k ToldApart =
+    IsApart k.board.reader.position k.memory.later × (is_some k.memory.telling.trouble ≡ false)
 MayCall game k call = Unit {0}
 
--- these, unless both desks' votes were refused, or a desk's file lacks lines: what the book shows may be wrong then
-abbrev pub unless_stopped : {T : Type 0} → Bool → List T → List T
-unless_stopped true these = []
-unless_stopped false these = these
-
--- at the end of a turn the book is handed to be shown
+-- at the end of a turn the book is handed to be shown, and what keeps the board from going on
 abbrev pub handed : Sheet → ℕ → BoardTurn → BoardCall → BoardState → List Sight
-handed sheet innings k TurnEnded l = unless_stopped k.memory.telling.is_stopped (sight_of sheet innings l.book ∷ [])
+handed sheet innings k TurnEnded l = sight_of sheet innings l.book k.memory.telling.trouble ∷ []
 handed sheet innings k call l = []
 
 abbrev pub after_call : Sheet → ℕ → BoardTurn → BoardCall → BoardState → BoardTurn
@@ -142,8 +176,15 @@ after_call sheet innings k (Parted bytes) l =
     record k {
       board = l;
       taken = k.taken + 1;
-      memory = memory_parted k.memory;
-      notices = notices_parted k.memory.telling k.notices (place_in bytes);
+      memory = memory_troubled k.memory (place_in bytes) Why.Anew;
+      notices = k.notices ++ Notice.Parted (place_in bytes) ∷ [];
+    }
+after_call sheet innings k (PassedBy bytes) l = record k { board = l; taken = k.taken + 1 }
+after_call sheet innings k ToldApart l =
+    record k {
+      board = l;
+      memory = memory_troubled k.memory k.board.reader.position.place Why.Apart;
+      notices = k.notices ++ Notice.Apart k.board.reader.position.place ∷ [];
     }
 after_call sheet innings k Unopened l =
     record k {
@@ -165,6 +206,7 @@ TurnStep sheet game innings k call out l =
 abbrev pub given : BoardCall → List Passed
 given (Given bytes answer) = Came bytes ∷ []
 given (Parted bytes) = Came bytes ∷ []
+given (PassedBy bytes) = Came bytes ∷ []
 given call = []
 
 -- the text, where the book isn't as long as it was
@@ -175,8 +217,7 @@ grown false text = text
 -- at the end of a turn the six lines of the book, where it has grown in the turn
 abbrev pub shown : Sheet → ℕ → BoardTurn → BoardCall → BoardTurn → List ℕ
 shown sheet innings k TurnEnded l =
-    unless_stopped k.memory.telling.is_stopped
-    (grown (nat_eq (length k.board.book) k.had) (board_text sheet innings (history_of k.board.book)))
+    grown (nat_eq (length k.board.book) k.had) (board_text sheet innings (history_of k.board.book))
 shown sheet innings k call l = []
 
 -- all that a board says goes to all
@@ -218,7 +259,7 @@ module _ {B : Type 0} {g : _} (content : B → List Entry) (innings_of : B → �
   -- A board's process from the beginning of a turn, at which it remembers this, to that of another one. Unless a write
   -- failed, all turns between them are over, and the six lines were printed at the end of each in which the book has
   -- grown. What it told of what it can't take are just the notices that were handed on, and what it handed to be shown is
-  -- just its book at the end of each turn, but once both desks' votes were refused or a desk's file was seen to lack lines.
+  -- just its book at the end of each turn, and what keeps it from going on.
   pub record BoardRuns
       {E : Type 0} (sheet : Sheet) (old new : Board B g) (before after : Logs) (from to : ℕ) (memory : Memory)
       (ticking : Ticking) (noted notes : List Notice) (seen sees : List Sight) (result : Result (Unit {0}) E) : Type 0 where
@@ -230,9 +271,9 @@ module _ {B : Type 0} {g : _} (content : B → List Entry) (innings_of : B → �
         (known_where result before) (known_where result after)
     pub whole : OnOk result (last ≡ at_turn content new to last.memory last.ticking notes sees)
 
-  -- a board's book, as it is handed to be shown
-  abbrev pub sight_at : Sheet → Board B g → Sight
-  sight_at sheet k = sight_of sheet (innings_of (book_of k)) (content (book_of k))
+  -- a board's book, as it is handed to be shown, and this, if it keeps the board from going on
+  abbrev pub sight_at : Sheet → Board B g → Option Trouble → Sight
+  sight_at sheet k trouble = sight_of sheet (innings_of (book_of k)) (content (book_of k)) trouble
 
   -- A board's process from its beginning on, with this board: its six lines are printed and its book is handed to be shown,
   -- at a reading of its clock, and then it runs for so many turns. Where one of these failed, it ends, and of the text
@@ -241,6 +282,6 @@ module _ {B : Type 0} {g : _} (content : B → List Entry) (innings_of : B → �
       {E : Type 0} (sheet : Sheet) (old new : Board B g) (before after : Logs) (turns : ℕ) (noted notes : List Notice)
       (seen sees : List Sight) (result : Result (Unit {0}) E) : Type 0 where
     pub first : List Sight
-    pub shows_first : (first ≡ sight_at sheet old ∷ []) ⊎ ((first ≡ []) × IsErr result)
+    pub shows_first : (first ≡ sight_at sheet old None ∷ []) ⊎ ((first ≡ []) × IsErr result)
     pub runs : BoardRuns sheet old new
         (with_told before (board_text sheet (innings_of (book_of old)) (history_of (content (book_of old))))) after 0 turns unheard unticked noted notes (seen ++ first) sees result

@@ -18,19 +18,20 @@ use Rattle.desk.specs.Desk.{SameOwner, book_of, disk_of, game_of, last_entry, st
 use Rattle.desk.specs.Takes.{Takes}
 use Rattle.links.specs.declared.aside.Aside.{Aside}
 use Rattle.live.specs.declared.ends.DeskEnd.{DeskEnd}
-use Rattle.station_texts.specs.declared.{reminder.Reminder.Reminder, said.Said.Said, warned.Warned.Warned}
+use Rattle.station_texts.specs.declared.{doubt.Evidence.Evidence, reminder.Reminder.Reminder, said.Said.Said, warned.Warned.Warned}
 use Rattle.live.specs.declared.ends.DeskEnd.TheVariants.{NoMoreLines, Device, Write}
 use Rattle.station_texts.specs.declared.reminder.Reminder.TheVariants.{HasWritten, IsHeard, IsMissed}
 use Rattle.station_texts.specs.Asides.{aside_text}
-use Rattle.live.specs.Ends.{Course, end_of, further, known_in}
-use Rattle.live.specs.LostLines.{end_here, shows_loss}
+use Rattle.station_texts.specs.Doubts.{holds_up}
+use Rattle.live.specs.Ends.{Course, end_at, end_of, further, known_in}
+use Rattle.live.specs.LostLines.{evidence}
 use Rattle.links.specs.Passed.{Passed, Came, sends}
 use Rattle.links.specs.declared.link.Receivers.{Receivers}
 use Rattle.links.specs.declared.link.Receivers.TheVariants.{ToAll, ToOne}
 use Rattle.live.specs.Runs.{Goes, Kind, Logs, with_told}
 use Rattle.station_texts.specs.Saying.{Types}
 use Rattle.live.specs.Ticks.{Beat, Look, MayBeat, Other, Reading, Tick, Ticking, TurnEnd, after_beat, unticked}
-use Rattle.station_texts.specs.Texts.{came_text, greeting, reminder_text, said_text, unopened_text, unwarned, warned_after, warned_reminded, warned_unopened}
+use Rattle.station_texts.specs.Texts.{came_text, greeting, reminder_text, said_text, unopened_text, unwarned, warned_after, warned_reminded, warned_said, warned_unopened}
 use Rattle.links.specs.Typing.{Input, Line, End}
 
 -- a call of a desk: its scorer's line, the end of its scorer's lines, bytes that it is given, bytes that don't open, of
@@ -61,7 +62,7 @@ DeskStep s view game innings k call out l = (l ≡ k) × (out ≡ [])
 abbrev pub course_after : {Disk : Type 0} → DeskState Disk → DeskCall → Course
 course_after k (Typed line said) = end_of said
 course_after k TypingEnded = Err NoMoreLines
-course_after k (Given bytes what) = end_here k.seat bytes what
+course_after k (Given bytes what) = end_at what
 course_after k call = further
 
 -- what a disk's failures are told by: how many there were, and whether there is room for the longest file
@@ -83,12 +84,13 @@ pub record DeskProcess (Disk : Type 0) : Type 0 where
   pub ticking : Ticking
   pub course : Course
 
--- bytes that came at a desk show that the other desk's file lacks lines
-abbrev pub loss_in : {Disk : Type 0} → DeskState Disk → List ℕ → What → Bool
-loss_in k bytes what = shows_loss k.seat k.votes bytes what
+-- what bytes that came at a desk show of both desks' files
+abbrev pub shown_by : {Disk : Type 0} → DeskState Disk → List ℕ → What → Evidence
+shown_by k bytes what = evidence k.seat k.votes bytes what
 
 abbrev pub warned_at : {Disk : Type 0} → DeskState Disk → Warned → DeskCall → Warned
-warned_at k warned (Given bytes what) = warned_after warned (loss_in k bytes what) what
+warned_at k warned (Typed line said) = warned_said warned said
+warned_at k warned (Given bytes what) = warned_after warned (shown_by k bytes what) what
 warned_at k warned Unopened = warned_unopened warned
 warned_at k warned (Reminded reminder) = warned_reminded warned reminder
 warned_at k warned call = warned
@@ -124,7 +126,15 @@ MayRemind k HasWritten =
 MayRemind k IsMissed = k.warned.of_silence ≡ false
 MayRemind k IsHeard = k.warned.of_silence ≡ true
 
+-- A desk that doubts its file casts no vote.
+abbrev pub MaySay : Bool → Said → Type 0
+MaySay doubts Said.Withheld = doubts ≡ true
+MaySay doubts (Said.Penned e settled) = doubts ≡ false
+MaySay doubts (Said.Refused e why) = doubts ≡ false
+MaySay doubts said = Unit {0}
+
 abbrev pub MayCall : {Disk : Type 0} → DeskProcess Disk → DeskCall → Type 0
+MayCall k (Typed line said) = MaySay (holds_up k.warned.doubt) said
 MayCall k (Reminded reminder) = MayRemind k reminder
 MayCall k call = Unit {0}
 
@@ -166,10 +176,10 @@ entry_in bytes = entry_coded (body_in bytes)
 -- what the scorer is told of a call
 abbrev pub told_of : {Disk : Type 0} → Sheet → ℕ → DeskProcess Disk → DeskCall → DeskProcess Disk → List ℕ
 told_of sheet innings k (Typed line said) l =
-    said_text sheet innings k.desk.seat.position (own_line k.desk) k.desk.seat.theirs k.warned.of_silence l.desk.book said
+    said_text sheet innings k.desk.seat.position (own_line k.desk) k.desk.seat.theirs k.warned l.desk.book said
 told_of sheet innings k (Given bytes what) l =
     came_text sheet innings k.desk.seat.position.place (own_line k.desk) (entry_in bytes) l.desk.book k.warned
-    (loss_in k.desk bytes what) what
+    (shown_by k.desk bytes what) what
 told_of sheet innings k Unopened l = unopened_text k.warned
 told_of sheet innings k (Reminded reminder) l = reminder_text k.desk.seat.position.place reminder
 told_of sheet innings k (ToldAside aside) l = aside_text sheet.columns aside

@@ -1,6 +1,6 @@
 -- What a scorer can't see: what the other scorer wrote at a position, before the own vote of that position is stored. And
 -- what is seen once both votes are stored and differ: both entries.
-use Rattle.std.specs.Prelude.{◌≡◌, ◌≢◌, ◌⊎◌, ◌∷◌, true, ℕ, List, [], Option, Some, None}
+use Rattle.std.specs.Prelude.{◌≡◌, ◌≢◌, ◌⊎◌, ◌∷◌, ℕ, List, [], Option, Some, None}
 use Rattle.notation.specs.declared.entry.Entry.{Entry}
 use Rattle.corrections.specs.declared.refusal.Refusal.{Refusal as BookRefusal}
 use Rattle.agree_core.specs.declared.{messages.Message.Message, messages.Vote.Vote, seat.Heard.Heard, seat.Settled.Settled}
@@ -13,8 +13,8 @@ use Rattle.wire.specs.Layout.{Says}
 use Rattle.wire.specs.declared.what.What.{What}
 use Rattle.cards.specs.Sheet.{Sheet}
 use Rattle.screen.specs.declared.word.Word.{Word}
-use Rattle.station_texts.specs.declared.{reminder.Reminder.Reminder, said.Said.Said}
-use Rattle.live.specs.Desks.{DeskCall, DeskProcess, Given, MayRemind, Typed, loss_in, own_line, told_of}
+use Rattle.station_texts.specs.declared.{doubt.Evidence.Evidence, reminder.Reminder.Reminder, said.Said.Said}
+use Rattle.live.specs.Desks.{DeskCall, DeskProcess, Given, MayRemind, Typed, own_line, shown_by, told_of}
 use Rattle.live.specs.DeskSights.{desk_sight}
 use Rattle.station_texts.specs.Texts.{at_place, both_lines}
 
@@ -38,9 +38,8 @@ AsksWhere call = (line : List ℕ) × (call ≡ Typed line (Said.Asks Word.Where
 
 -- Of the other desk's vote of a position its scorer is told that it came, and nothing that depends on its entry, until the
 -- own one is stored: until that is cast, the other's is answered with `Noted` whatever it says, and nothing is told then; a
--- text depends on bytes that came by their answer alone, and by whether they show that the other's file lacks lines, which
--- only asks and votes for earlier positions do, unless the answer is `Differ`, which is given only where the own vote was
--- cast before; and it depends on no vote that is noted, unless a vote is penned that differs from it, which is stored
+-- text depends on bytes that came by their answer alone, and by what they show of both desks' files, which only asks and votes
+-- for other positions do, unless the answer is `Differ`, which is given only where the own vote was cast before; and it depends on no vote that is noted, unless a vote is penned that differs from it, which is stored
 -- then; where the scorer asks where the desk stands, it depends on whether a vote is noted, and not on which, and so does
 -- it whether he may be reminded; and what is seen of the desk beside its rows depends on no vote that is noted. So two
 -- runs that differ in that entry alone print the same until then.
@@ -50,10 +49,10 @@ pub record HidesTheOther {Disk : Type 0} (view : FileView Disk) : Type 0 where
   pub silent : (sheet : Sheet) (innings : ℕ) (k l : DeskProcess Disk) (bytes : List ℕ)
       → told_of sheet innings k (Given bytes (What.Heard Heard.Noted)) l ≡ []
   pub bytes : (sheet : Sheet) (innings : ℕ) (k l : DeskProcess Disk) (one other : List ℕ) (what : What)
-      → what ≢ What.Heard Heard.Differ → loss_in k.desk one what ≡ loss_in k.desk other what
+      → what ≢ What.Heard Heard.Differ → shown_by k.desk one what ≡ shown_by k.desk other what
       → told_of sheet innings k (Given one what) l ≡ told_of sheet innings k (Given other what) l
-  pub loss : (k : DeskState Disk) (bytes : List ℕ) (what : What) → loss_in k bytes what ≡ true
-      → (what ≡ What.Asked) ⊎ (what ≡ What.Heard Heard.Old)
+  pub evidence : (k : DeskState Disk) (bytes : List ℕ) (what : What) → shown_by k bytes what ≢ Evidence.Nothing
+      → (what ≡ What.Asked) ⊎ ((what ≡ What.Heard Heard.Old) ⊎ (what ≡ What.Heard Heard.Ahead))
   pub cast : (s t : SeatState) (v : Vote) → Hears s v Heard.Differ t → s.mine ≢ None
   pub noted : (sheet : Sheet) (innings : ℕ) (k l : DeskProcess Disk) (call : DeskCall) (e f : Option Entry)
       → (IsPennedDiffering call → ⊥) → (AsksWhere call → ⊥)

@@ -1,43 +1,53 @@
 -- What bytes that came show of lines that one of both desks' files lacks.
-use Rattle.std.specs.Prelude.{ℕ, Bool, false, if◌then◌else◌, List, Err}
-use Rattle.agree_core.specs.declared.{position.Position.Position, seat.Heard.Heard}
+use Rattle.std.specs.Prelude.{ℕ, Bool, true, false, ◌&&◌, if◌then◌else◌, List, Option, Some, slice_index}
+use Rattle.agree_core.specs.declared.{messages.Asker.Asker, messages.DeskId.DeskId, position.Position.Position, seat.Heard.Heard}
+use Rattle.agree_core.specs.declared.messages.DeskId.TheVariants.{A, B}
 use Rattle.agree_core.specs.Ballots.{Ballot}
-use Rattle.agree_core.specs.LostLines.{is_another, is_in_reach, is_passed_over}
+use Rattle.agree_core.specs.LostLines.{is_another, is_at, is_in_reach, is_passed_over}
 use Rattle.agree_core.specs.Seats.{SeatState}
+use Rattle.live.specs.declared.lost_lines.Bearing.{Bearing}
+use Rattle.station_texts.specs.declared.doubt.Evidence.{Evidence}
+use Rattle.station_texts.specs.declared.doubt.Evidence.TheVariants.{Nothing, OtherLacks, Ahead, Level}
 use Rattle.wire.specs.declared.what.What.{What}
 use Rattle.wire.specs.Layout.{body_in}
-use Rattle.wire.specs.inner.Fields.{place_in, round_in}
-use Rattle.live.specs.declared.ends.DeskEnd.TheVariants.{LacksLines}
-use Rattle.live.specs.Ends.{Course, end_at, further}
+use Rattle.wire.specs.inner.Fields.{asker_numbered, place_in, round_in}
 
 -- the position of the message that bytes say
 abbrev pub position_in : List ℕ → Position
 position_in bytes = record { place = place_in bytes; round = round_in bytes }
 
--- how the process goes on after a vote for a later position, which the other desk can have come to or not
-abbrev pub end_ahead : Bool → Course
-end_ahead reach = if reach then further else Err LacksLines
+-- who asks, where they say an ask
+abbrev pub asker_in : List ℕ → Option Asker
+asker_in bytes = asker_numbered (slice_index bytes 12)
 
--- after the answer to bytes that came
-abbrev pub end_given : Bool → What → Course
-end_given reach (What.Heard Heard.Ahead) = end_ahead reach
-end_given reach what = end_at what
+-- that is the other desk of this one
+abbrev pub is_other : DeskId → Option Asker → Bool
+is_other A (Some Asker.B) = true
+is_other B (Some Asker.A) = true
+is_other d asker = false
 
--- of a desk with this seat: where the other's vote is for a position that it can't have come to by what this desk has
--- voted, this desk's file lacks lines, and its process ends
-abbrev pub end_here : SeatState → List ℕ → What → Course
-end_here s bytes what = end_given (is_in_reach s (position_in bytes)) what
+-- An ask shows that the other's file lacks lines, where this desk has passed its position over, and that the other desk isn't
+-- ahead, where it asks for the one at which this desk stands. That somebody asks for a later one shows nothing: a window asks
+-- for places ahead.
+abbrev pub asked : Bearing → Evidence
+asked b = if b.passed_over then OtherLacks else (if b.is_level then Level else Nothing)
 
--- ---- of the other desk's file
+-- A vote shows that the other's file lacks lines where it is another one, and that this desk's does where it isn't in reach; by
+-- the answer to it.
+abbrev pub evidence_of : Bearing → What → Evidence
+evidence_of b (What.Heard Heard.Old) = if b.another then OtherLacks else Nothing
+evidence_of b (What.Heard Heard.Ahead) = if b.in_reach then Nothing else Ahead
+evidence_of b What.Asked = asked b
+evidence_of b what = Nothing
 
--- a vote for an earlier position shows it where it is another one, and an ask where its position was passed over
-abbrev pub loss_of : Bool → Bool → What → Bool
-loss_of another passed (What.Heard Heard.Old) = another
-loss_of another passed What.Asked = passed
-loss_of another passed what = false
+-- what bytes tell that come at a desk with this seat and these votes
+abbrev pub bearing_of : SeatState → List Ballot → List ℕ → Bearing
+bearing_of s votes bytes = record {
+  another = is_another s votes (position_in bytes) (body_in bytes);
+  passed_over = is_passed_over s votes (position_in bytes);
+  in_reach = is_in_reach s (position_in bytes);
+  is_level = is_at (position_in bytes) s.position && is_other s.desk (asker_in bytes);
+}
 
--- What came shows that the other desk's file lacks lines: its vote for an earlier position is another than the one by which
--- this desk went on; or somebody asks for a position that this desk passed over, to which no votes of this desk lead.
-abbrev pub shows_loss : SeatState → List Ballot → List ℕ → What → Bool
-shows_loss s votes bytes what =
-    loss_of (is_another s votes (position_in bytes) (body_in bytes)) (is_passed_over s votes (position_in bytes)) what
+abbrev pub evidence : SeatState → List Ballot → List ℕ → What → Evidence
+evidence s votes bytes what = evidence_of (bearing_of s votes bytes) what

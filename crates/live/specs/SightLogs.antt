@@ -8,5 +8,5 @@ use Rattle.live.specs.declared.sight_log.SightLog as handed
 module _ {B : Type 0} (content : B → List Entry) (innings_of : B → ℕ) where
   abbrev pub sights_of : SightLog B → List Sight
   sights_of handed.Empty = []
-  sights_of (handed.Handed' marker before sheet book) =
-      sights_of before ++ sight_of sheet.value (innings_of book.value) (content book.value) ∷ []
+  sights_of (handed.Handed' marker before sheet book trouble) =
+      sights_of before ++ sight_of sheet.value (innings_of book.value) (content book.value) trouble.value ∷ []

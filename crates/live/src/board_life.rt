@@ -1,6 +1,6 @@
 //! A board's process, from its beginning to its end.
 
-ghost use Rattle.std.specs.Prelude.{◌≡◌, ◌⊎◌, ◌∷◌, ◌++◌, [], IsErr, OnErr, OnOk, true};
+ghost use Rattle.std.specs.Prelude.{◌≡◌, ◌⊎◌, ◌∷◌, ◌++◌, [], IsErr, None, OnErr, OnOk, true};
 ghost use Rattle.corrections.specs.CleanList.{history_of};
 ghost use Rattle.cards.specs.Board.{board as board_text};
 ghost use Rattle.streams.specs.Watched.{Prints, has_failed, stream_of};
@@ -28,13 +28,13 @@ fn begin<B: BookOf, W: Sink, S: Shows<B>>(
 ) -> Result<(), WriteFailed>
     ensures text { OnOk result (Prints W.contents out.old out.new
         (board_text sheet.now (B.innings_a_side (book_of board.now)) (history_of (B.content (book_of board.now))))) }
-    ensures seen { (S.seen state.new ≡ S.seen state.old ++ sight_at B.content B.innings_a_side sheet.now board.now ∷ [])
+    ensures seen { (S.seen state.new ≡ S.seen state.old ++ sight_at B.content B.innings_a_side sheet.now board.now None ∷ [])
         ⊎ ((S.seen state.new ≡ S.seen state.old) × IsErr result) }
     ensures failed { OnErr result (has_failed out.new ≡ true ⊎ S.failed state.new ≡ true) }
 {
     board_lines(sheet, board.shown(), out)?;
     out.flush()?;
-    state.show(sheet, board.book(), now)
+    state.show(sheet, board.book(), None, now)
 }
 
 /// A board's process: it prints its six lines and hands its book over to be shown at once, and then takes so many turns,

@@ -1,16 +1,17 @@
 //! A board's process.
 
-ghost use Rattle.std.specs.Prelude.{◌≡◌, ◌<◌, ◌+◌, ℕ, true, false, if◌then◌else◌, Option, Some, None, Ok, List, [], ◌∷◌, ◌++◌, ◌⊎◌, IsSome, OnErr, OnOk, length, nat_eq};
+ghost use Rattle.std.specs.Prelude.{◌≡◌, ◌<◌, ◌+◌, ℕ, true, false, if◌then◌else◌, Option, Some, None, Ok, List, [], ◌∷◌, ◌++◌, ◌⊎◌, IsSome, OnErr, OnOk, is_some, length, nat_eq};
 ghost use Rattle.std.specs.Result.{ForOk};
 ghost use Rattle.corrections.specs.CleanList.{history_of};
 ghost use Rattle.cards.specs.Board.{board as board_text};
 ghost use Rattle.cards.specs.Sheet.{Sheet};
 ghost use Rattle.streams.specs.Watched.{Prints, TellsFailure, has_failed, stream_of};
-ghost use Rattle.board.specs.Board.{book_of, game_of};
+ghost use Rattle.board.specs.Board.{book_of, game_of, state_of};
+ghost use Rattle.board.specs.declared.trouble.Why.{Why};
 ghost use Rattle.board.specs.Rounds.{parts, with_round};
 ghost use Rattle.live.specs.Boards as laws;
-ghost use Rattle.live.specs.Boards.{BoardGoes, BoardRuns, Memory, at_turn, grown, in_turn, memory_of, unheard};
-ghost use Rattle.station_texts.specs.Notices.{notices_parted, notices_unopened, telling_parted, telling_unopened};
+ghost use Rattle.live.specs.Boards.{BoardGoes, BoardRuns, IsApart, Memory, at_turn, grown, in_turn, memory_of, unheard};
+ghost use Rattle.station_texts.specs.Notices.{is_stopped, notices_unopened, telling_unopened, with_trouble};
 ghost use Rattle.live.specs.Paces.{ticking_of};
 ghost use Rattle.live.specs.Runs.{Logs, untyped};
 ghost use Rattle.live.specs.Sights.{Sight};
@@ -22,8 +23,10 @@ ghost use Rattle.station_texts.specs.declared.notices.Notice.{Notice};
 ghost use Rattle.wire.specs.Layout.{IsMessage};
 ghost use Rattle.wire.specs.Reading.{Reads};
 
+use crate::awaited::Awaited;
 use crate::board_calls::tick;
 use crate::hearing::promises_more;
+use crate::later::{Later, desk_later};
 use crate::pace::Pace;
 use crate::shows::Shows;
 use crate::watch::Watch;
@@ -42,6 +45,8 @@ use wire::{What, WireFault};
 struct Between {
     pace: Pace,
     telling: Telling,
+    later: Later,
+    awaited: Awaited,
 }
 
 /// Looks at the clock, and has a board say what it says unasked, where that is due. It answers how long the next datagram
@@ -107,8 +112,8 @@ fn remember(witness: &mut Witness, round: Option<Round>, answer: Result<What, Bo
     }
 }
 
-/// A board takes what came at its position, as it was read, and tells what it can't take. A round that it has heard whole is
-/// remembered.
+/// A board takes what came at its position, as it was read, and tells what it can't take. It remembers a round that it has heard
+/// whole, and which desks are ahead.
 fn give<B: BookOf, N: Notices>(
     board: &mut Board<B>,
     read: &Result<Message, WireFault>,
@@ -117,39 +122,68 @@ fn give<B: BookOf, N: Notices>(
     now: u64,
 )
     requires message { ForOk read.now IsMessage }
+    requires goes_on { is_stopped between.old.telling ≡ false }
     requires whole { (v : AVote) → read.now ≡ Ok (Message.Vote v) → parts watch.old.witness v ≡ false }
     ensures goes { (bytes : List ℕ) (sheet : Sheet) (logs : Logs) (seen : List Sight) (turns had taken : ℕ) →
         Reads (game_of board.old) bytes read.now → taken < MOST_TAKEN →
         BoardGoes B.content B.innings_a_side sheet board.old board.new
-        (in_turn B.content board.old turns had taken (memory_of between.old.telling watch.old.witness) (ticking_of between.old.pace) (N.told watch.old.notices) seen)
-        (in_turn B.content board.new turns had (taken + 1) (memory_of between.new.telling watch.new.witness) (ticking_of between.new.pace) (N.told watch.new.notices) seen)
+        (in_turn B.content board.old turns had taken (memory_of between.old.telling watch.old.witness between.old.later) (ticking_of between.old.pace) (N.told watch.old.notices) seen)
+        (in_turn B.content board.new turns had (taken + 1) (memory_of between.new.telling watch.new.witness between.new.later) (ticking_of between.new.pace) (N.told watch.new.notices) seen)
         logs (record logs { passed = logs.passed ++ Came bytes ∷ [] }) }
     ensures ticking { ticking_of between.new.pace ≡ ticking_of between.old.pace }
 {
     let at = board.position();
     let round = board.round_with(entry_in(read));
+    let desk = desk_later(read, at.place);
     let answer = board.take(*read);
     let Watch { notices, witness } = watch;
     remember(witness, round, answer);
     let telling = between.telling;
     telling.tell(answer, notices);
     between.telling = telling.after(answer);
+    between.later = between.later.after(desk, answer);
+    between.awaited.note(answer, now);
     let may_come = answer.is_ok_and(promises_more);
     between.pace.note(board.position() != at, may_come, now);
 }
 
 /// Tells that a desk's file lacks lines, as a vote for this place shows. The board isn't given that vote.
 fn part<N: Notices>(watch: &mut Watch<N>, between: &mut Between, place: u32)
-    ensures telling { between.new.telling ≡ telling_parted between.old.telling }
-    ensures told { N.told watch.new.notices ≡ notices_parted between.old.telling (N.told watch.old.notices) place }
+    ensures telling { between.new.telling ≡ with_trouble between.old.telling place Why.Anew }
+    ensures told { N.told watch.new.notices ≡ N.told watch.old.notices ++ Notice.Parted place ∷ [] }
     ensures witness { watch.new.witness ≡ watch.old.witness }
+    ensures later { between.new.later ≡ between.old.later }
     ensures pace { between.new.pace ≡ between.old.pace }
 {
     let Watch { notices, .. } = watch;
     between.telling = between.telling.part(place, notices);
 }
 
-/// A board hears what came, as it was read: it is given it, unless it shows that a desk's file lacks lines.
+/// A board that goes on hears what came, as it was read: it is given it, unless it shows that a desk's file lacks lines.
+fn hear_on<B: BookOf, N: Notices>(
+    board: &mut Board<B>,
+    read: &Result<Message, WireFault>,
+    watch: &mut Watch<N>,
+    between: &mut Between,
+    now: u64,
+)
+    requires message { ForOk read.now IsMessage }
+    requires goes_on { is_stopped between.old.telling ≡ false }
+    ensures goes { (bytes : List ℕ) (sheet : Sheet) (logs : Logs) (seen : List Sight) (turns had taken : ℕ) →
+        Reads (game_of board.old) bytes read.now → taken < MOST_TAKEN →
+        BoardGoes B.content B.innings_a_side sheet board.old board.new
+        (in_turn B.content board.old turns had taken (memory_of between.old.telling watch.old.witness between.old.later) (ticking_of between.old.pace) (N.told watch.old.notices) seen)
+        (in_turn B.content board.new turns had (taken + 1) (memory_of between.new.telling watch.new.witness between.new.later) (ticking_of between.new.pace) (N.told watch.new.notices) seen)
+        logs (record logs { passed = logs.passed ++ Came bytes ∷ [] }) }
+    ensures ticking { ticking_of between.new.pace ≡ ticking_of between.old.pace }
+{
+    match parting(&watch.witness, read) {
+        Some(place) => part(watch, between, place),
+        None => give(board, read, watch, between, now),
+    }
+}
+
+/// A board hears what came, as it was read. Once it has stopped it is passed by.
 fn hear<B: BookOf, N: Notices>(
     board: &mut Board<B>,
     read: &Result<Message, WireFault>,
@@ -161,15 +195,15 @@ fn hear<B: BookOf, N: Notices>(
     ensures goes { (bytes : List ℕ) (sheet : Sheet) (logs : Logs) (seen : List Sight) (turns had taken : ℕ) →
         Reads (game_of board.old) bytes read.now → taken < MOST_TAKEN →
         BoardGoes B.content B.innings_a_side sheet board.old board.new
-        (in_turn B.content board.old turns had taken (memory_of between.old.telling watch.old.witness) (ticking_of between.old.pace) (N.told watch.old.notices) seen)
-        (in_turn B.content board.new turns had (taken + 1) (memory_of between.new.telling watch.new.witness) (ticking_of between.new.pace) (N.told watch.new.notices) seen)
+        (in_turn B.content board.old turns had taken (memory_of between.old.telling watch.old.witness between.old.later) (ticking_of between.old.pace) (N.told watch.old.notices) seen)
+        (in_turn B.content board.new turns had (taken + 1) (memory_of between.new.telling watch.new.witness between.new.later) (ticking_of between.new.pace) (N.told watch.new.notices) seen)
         logs (record logs { passed = logs.passed ++ Came bytes ∷ [] }) }
     ensures ticking { ticking_of between.new.pace ≡ ticking_of between.old.pace }
 {
-    match parting(&watch.witness, read) {
-        Some(place) => part(watch, between, place),
-        None => give(board, read, watch, between, now),
+    if between.telling.is_stopped() {
+        return;
     }
+    hear_on(board, read, watch, between, now);
 }
 
 /// Tells that bytes came that don't open, unless it was told. Nothing else changes: what is said unasked, and when.
@@ -177,6 +211,7 @@ fn pass_over<N: Notices>(watch: &mut Watch<N>, between: &mut Between)
     ensures telling { between.new.telling ≡ telling_unopened between.old.telling }
     ensures told { N.told watch.new.notices ≡ notices_unopened between.old.telling (N.told watch.old.notices) }
     ensures witness { watch.new.witness ≡ watch.old.witness }
+    ensures later { between.new.later ≡ between.old.later }
     ensures pace { between.new.pace ≡ between.old.pace }
 {
     let Watch { notices, .. } = watch;
@@ -195,14 +230,14 @@ fn take_next<B: BookOf, L: Link, C: Clock, N: Notices>(
     ensures taken { result ≡ true →
         (sheet : Sheet) (shown : Option (List ℕ)) (seen : List Sight) (turns had taken : ℕ) → taken < MOST_TAKEN →
         BoardGoes B.content B.innings_a_side sheet board.old board.new
-        (in_turn B.content board.old turns had taken (memory_of between.old.telling watch.old.witness) (ticking_of between.old.pace) (N.told watch.old.notices) seen)
-        (in_turn B.content board.new turns had (taken + 1) (memory_of between.new.telling watch.new.witness) (ticking_of between.new.pace) (N.told watch.new.notices) seen)
+        (in_turn B.content board.old turns had taken (memory_of between.old.telling watch.old.witness between.old.later) (ticking_of between.old.pace) (N.told watch.old.notices) seen)
+        (in_turn B.content board.new turns had (taken + 1) (memory_of between.new.telling watch.new.witness between.new.later) (ticking_of between.new.pace) (N.told watch.new.notices) seen)
         (untyped (L.log link.old) (C.readings clock.old) shown) (untyped (L.log link.new) (C.readings clock.new) shown) }
     ensures none { result ≡ false →
         (sheet : Sheet) (shown : Option (List ℕ)) (seen : List Sight) (turns had taken : ℕ) →
         BoardGoes B.content B.innings_a_side sheet board.old board.new
-        (in_turn B.content board.old turns had taken (memory_of between.old.telling watch.old.witness) (ticking_of between.old.pace) (N.told watch.old.notices) seen)
-        (in_turn B.content board.new turns had taken (memory_of between.new.telling watch.new.witness) (ticking_of between.new.pace) (N.told watch.new.notices) seen)
+        (in_turn B.content board.old turns had taken (memory_of between.old.telling watch.old.witness between.old.later) (ticking_of between.old.pace) (N.told watch.old.notices) seen)
+        (in_turn B.content board.new turns had taken (memory_of between.new.telling watch.new.witness between.new.later) (ticking_of between.new.pace) (N.told watch.new.notices) seen)
         (untyped (L.log link.old) (C.readings clock.old) shown) (untyped (L.log link.new) (C.readings clock.new) shown) }
     ensures looked { IsSome (ticking_of between.new.pace).looked }
 {
@@ -232,8 +267,8 @@ fn take_all<B: BookOf, L: Link, C: Clock, N: Notices>(
 )
     ensures goes { (sheet : Sheet) (shown : Option (List ℕ)) (seen : List Sight) (turns had : ℕ) → (taken : ℕ) ×
         BoardGoes B.content B.innings_a_side sheet board.old board.new
-        (in_turn B.content board.old turns had 0 (memory_of between.old.telling watch.old.witness) (ticking_of between.old.pace) (N.told watch.old.notices) seen)
-        (in_turn B.content board.new turns had taken (memory_of between.new.telling watch.new.witness) (ticking_of between.new.pace) (N.told watch.new.notices) seen)
+        (in_turn B.content board.old turns had 0 (memory_of between.old.telling watch.old.witness between.old.later) (ticking_of between.old.pace) (N.told watch.old.notices) seen)
+        (in_turn B.content board.new turns had taken (memory_of between.new.telling watch.new.witness between.new.later) (ticking_of between.new.pace) (N.told watch.new.notices) seen)
         (untyped (L.log link.old) (C.readings clock.old) shown) (untyped (L.log link.new) (C.readings clock.new) shown) }
     ensures looked { IsSome (ticking_of between.new.pace).looked }
 {
@@ -241,6 +276,51 @@ fn take_all<B: BookOf, L: Link, C: Clock, N: Notices>(
     for taken in 0..MOST_TAKEN {
         if !take_next(board, link, clock, watch, between) {
             break;
+        }
+    }
+}
+
+/// Whether a board has heard that the desks told it different lines, and hasn't told so.
+fn is_apart<B: BookOf>(board: &Board<B>, between: &Between) -> bool
+    ensures apart { result ≡ true → IsApart (state_of B.content board.now).reader.position between.now.later }
+    ensures untold { result ≡ true → is_some between.now.telling.trouble ≡ false }
+{
+    let is_later_round = board.position().round > 0;
+    let later = between.later;
+    is_later_round && later.a && later.b && between.telling.trouble.is_none()
+}
+
+/// Tells that the desks told this board different lines, for its place.
+fn tell_apart<N: Notices>(watch: &mut Watch<N>, between: &mut Between, place: u32)
+    ensures telling { between.new.telling ≡ with_trouble between.old.telling place Why.Apart }
+    ensures told { N.told watch.new.notices ≡ N.told watch.old.notices ++ Notice.Apart place ∷ [] }
+    ensures witness { watch.new.witness ≡ watch.old.witness }
+    ensures later { between.new.later ≡ between.old.later }
+    ensures pace { between.new.pace ≡ between.old.pace }
+{
+    let Watch { notices, .. } = watch;
+    between.telling = between.telling.split(place, notices);
+}
+
+/// At the end of a turn, at this time, tells that the desks told this board different lines, where that is due.
+fn look_apart<B: BookOf, N: Notices>(
+    board: &Board<B>,
+    watch: &mut Watch<N>,
+    between: &mut Between,
+    now: u64,
+)
+    ensures goes { (sheet : Sheet) (logs : Logs) (seen : List Sight) (turns had taken : ℕ) →
+        BoardGoes B.content B.innings_a_side sheet board.now board.now
+        (in_turn B.content board.now turns had taken (memory_of between.old.telling watch.old.witness between.old.later) (ticking_of between.old.pace) (N.told watch.old.notices) seen)
+        (in_turn B.content board.now turns had taken (memory_of between.new.telling watch.new.witness between.new.later) (ticking_of between.new.pace) (N.told watch.new.notices) seen)
+        logs logs }
+    ensures pace { between.new.pace ≡ between.old.pace }
+{
+    between.awaited.pass(now);
+    if is_apart(board, between) {
+        if between.awaited.is_over(now) {
+            let place = board.position().place;
+            tell_apart(watch, between, place);
         }
     }
 }
@@ -264,8 +344,8 @@ fn print_news<B: BookOf, W: Sink>(
     out.flush()
 }
 
-/// A board's turn: it looks at the clock and says what is due, takes what came, prints its six lines where its book has
-/// grown, and hands its book over to be shown; neither of these once it has refused both desks' votes.
+/// A board's turn: it looks at the clock and says what is due, takes what came, tells where the desks told it different lines,
+/// prints its six lines where its book has grown, and hands its book over to be shown, and what keeps it from going on.
 fn turn<B: BookOf, L: Link, C: Clock, N: Notices, W: Sink, S: Shows<B>>(
     board: &mut Board<B>,
     sheet: &MatchSheet,
@@ -279,24 +359,24 @@ fn turn<B: BookOf, L: Link, C: Clock, N: Notices, W: Sink, S: Shows<B>>(
     ensures runs { (turns : ℕ) → (runs : BoardRuns B.content B.innings_a_side sheet.now board.old board.new
         (untyped (L.log link.old) (C.readings clock.old) (W.contents (stream_of out.old)))
         (untyped (L.log link.new) (C.readings clock.new) (W.contents (stream_of out.new))) turns (turns + 1)
-        (memory_of between.old.telling watch.old.witness) (ticking_of between.old.pace) (N.told watch.old.notices) (N.told watch.new.notices)
+        (memory_of between.old.telling watch.old.witness between.old.later) (ticking_of between.old.pace) (N.told watch.old.notices) (N.told watch.new.notices)
         (S.seen state.old) (S.seen state.new) result)
         × OnOk result (runs.last ≡ at_turn B.content board.new (turns + 1)
-        (memory_of between.new.telling watch.new.witness) (ticking_of between.new.pace) (N.told watch.new.notices) (S.seen state.new)) }
+        (memory_of between.new.telling watch.new.witness between.new.later) (ticking_of between.new.pace) (N.told watch.new.notices) (S.seen state.new)) }
     ensures failed { OnErr result (has_failed out.new ≡ true ⊎ S.failed state.new ≡ true) }
 {
     let before = board.book().len();
     take_all(board, link, clock, watch, between);
+    let now = clock.millis();
+    look_apart(board, watch, between, now);
     between.pace.end_turn();
-    if between.telling.is_stopped {
-        return Ok(());
-    }
     print_news(board, sheet, out, before)?;
-    state.show(sheet, board.book(), clock.millis())
+    state.show(sheet, board.book(), between.telling.trouble, now)
 }
 
 /// A board's process, for so many turns: it asks, takes what its link gives, tells what it can't take, prints its six
-/// lines at the end of each turn in which its book has grown, and hands its book over to be shown at the end of each turn.
+/// lines at the end of each turn in which its book has grown, and hands its book over to be shown at the end of each turn, with
+/// what keeps it from going on.
 /// It is a run of the definitions of a board: its datagrams are just those that passed at the link, its times just those
 /// that its clock showed, its texts just those that were written, its notices just those that were handed on, and what was
 /// shown just what was handed over.
@@ -320,6 +400,8 @@ pub fn run_board<B: BookOf, L: Link, C: Clock, N: Notices, W: Sink, S: Shows<B>>
     let mut between = Between {
         pace: Pace::new(),
         telling: Telling::NOTHING,
+        later: Later::NEITHER,
+        awaited: Awaited::new(),
     };
     for number in 0..turns {
         turn(board, sheet, link, clock, watch, out, state, &mut between)?;

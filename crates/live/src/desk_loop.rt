@@ -1,18 +1,17 @@
 //! A desk's turn: a line of its scorer, and what that comes to; then what comes.
 
-ghost use Rattle.std.specs.Prelude.{◌≡◌, ℕ, true, Err, IfSome, IsSome, OnOk, is_some};
-ghost use Rattle.notation.specs.Written.{IsEntry};
+ghost use Rattle.std.specs.Prelude.{◌≡◌, ℕ, true, Err, IsSome, OnOk, is_some};
 ghost use Rattle.std.specs.Io.KnownBytes.{Appends};
 ghost use Rattle.streams.specs.Watched.{has_failed, stream_of};
-ghost use Rattle.desk.specs.Desk.{last_entry, own_votes, state_of};
+ghost use Rattle.desk.specs.Desk.{state_of};
 ghost use Rattle.live.specs.Desks as desks;
-ghost use Rattle.live.specs.Desks.{Calls, DeskGoes, process_of};
+ghost use Rattle.live.specs.Desks.{Calls, DeskGoes, MaySay, process_of};
 ghost use Rattle.live.specs.Ends as ends;
 ghost use Rattle.live.specs.Ends.{course_of, further, known_at, known_in, turns_after};
 ghost use Rattle.live.specs.Outside.{logs_of};
 ghost use Rattle.live.specs.Paces.{ticking_of};
-ghost use Rattle.live.specs.Ticks.{IsInTime, Ticking};
 ghost use Rattle.station_texts.specs.Asides.{aside_text};
+ghost use Rattle.station_texts.specs.Doubts.{holds_up};
 
 use crate::between::Between;
 use crate::ends::{DeskEnd, told};
@@ -25,12 +24,11 @@ use corrections::BookOf;
 use desk::{Desk, Refusal};
 use entry_log::SlotsOf;
 use links::{Aside, Clock, Keys, LINE_ROOM, Link, Stand, Typed};
-use notation::Entry;
 use station_texts::asides::print_aside;
 use station_texts::both::Both;
+use station_texts::doubt::Doubt;
 use station_texts::said::{Said, entry_said};
 use station_texts::texts::print_said;
-use station_texts::warned::Warned;
 use std::alloc::Global;
 use streams::{Sink, Watched};
 
@@ -48,28 +46,29 @@ fn stand_of<S: SlotsOf, B: BookOf + Drop>(desk: &Desk<S, B>) -> Stand
     }
 }
 
-/// Has a desk that stands so pen the entry that a line says in full, by the desk's book and its sheet, or the one that its
-/// scorer wrote last, and sends its vote to all. Memory is taken for a plan alone.
+/// Has a desk pen the entry that a line says in full, by the desk's book and its sheet, or the one that its scorer wrote last,
+/// and sends its vote to all; not where it doubts its file. Memory is taken for a plan alone.
 fn pen<S: SlotsOf, B: BookOf + Drop, L: Link>(
     alloc: Global,
     desk: &mut Desk<S, B>,
     sheet: &MatchSheet,
     line: &[u8],
-    at: Stand,
-    last: Option<Entry>,
+    doubt: Doubt,
     link: &mut L,
 ) -> Said
-    requires round { at.round ≡ (state_of desk.old).seat.position.round }
-    requires vote { at.has_voted ≡ is_some (state_of desk.old).seat.mine }
-    requires last { last ≡ last_entry (own_votes desk.old) }
-    requires entry { IfSome last IsEntry }
-    ensures { Calls sheet.now desk.old desk.new (desks.Typed line.now result) (L.log link.old) (L.log link.new) }
+    ensures calls { Calls sheet.now desk.old desk.new (desks.Typed line.now result) (L.log link.old) (L.log link.new) }
+    ensures may { MaySay (holds_up doubt) result }
 {
+    let at = stand_of(desk);
+    let last = desk.last_entry();
     let differs = at.round > 0;
     let entry = match entry_said(alloc, line, desk.book(), sheet, last, differs, at.has_voted) {
         Ok(entry) => entry,
         Err(said) => return said,
     };
+    if doubt.holds_up() {
+        return Said::Withheld;
+    }
     match desk.pen(&entry) {
         Ok(penned) => {
             let vote = Message::Vote(penned.vote);
@@ -105,24 +104,25 @@ fn tell_aside<W: Sink>(
     told(print_aside(out, sheet.columns(), aside))
 }
 
-/// Takes a line that was typed, if there is one, and tells the scorer, who was told this of a peer, what it came to.
+/// Takes a line that was typed, if there is one, and tells the scorer what it came to.
 fn take_line<S: SlotsOf, B: BookOf + Drop, L: Link, K: Keys, C: Clock, W: Sink>(
     alloc: Global,
     desk: &mut Desk<S, B>,
     sheet: &MatchSheet,
     outside: &mut Outside<L, K, C, W>,
-    warned: Warned,
+    between: &mut Between,
 ) -> Result<(), DeskEnd>
-    ensures goes { (turns : ℕ) (ticking : Ticking) → IsInTime ticking → DeskGoes sheet.now desk.old desk.new
-        (process_of desk.old warned turns ticking further) (process_of desk.new warned turns ticking (course_of result))
+    ensures goes { (turns : ℕ) → DeskGoes sheet.now desk.old desk.new
+        (process_of desk.old between.old.warned turns (ticking_of between.old.pace) further)
+        (process_of desk.new between.new.warned turns (ticking_of between.new.pace) (course_of result))
         (known_in result (logs_of L.log K.inputs C.readings W.contents outside.old))
         (known_in result (logs_of L.log K.inputs C.readings W.contents outside.new)) }
+    ensures pace { between.new.pace ≡ between.old.pace }
     ensures failed { result ≡ Err DeskEnd.Write → has_failed outside.new.out ≡ true }
 {
     let mut buffer = [0; LINE_ROOM];
     let stand = stand_of(desk);
     let at = desk.position();
-    let last = desk.last_entry();
     let both = Both {
         own: own_line(desk),
         other: desk.noted(),
@@ -134,13 +134,14 @@ fn take_line<S: SlotsOf, B: BookOf + Drop, L: Link, K: Keys, C: Clock, W: Sink>(
         Typed::Aside(aside) => return tell_aside(&mut outside.out, sheet, &aside),
     };
     let line = &buffer[..count];
-    let said = pen(alloc, desk, sheet, line, stand, last, &mut outside.link);
+    let warned = between.warned;
+    let said = pen(alloc, desk, sheet, line, warned.doubt, &mut outside.link);
+    between.warned = warned.after_said(&said);
     if let Err(end) = end_of(&said) {
         return Err(end);
     }
-    let is_silent = warned.of_silence;
     let out = &mut outside.out;
-    told(print_said(out, sheet, at, both, is_silent, &said, desk.book()))
+    told(print_said(out, sheet, at, both, warned, &said, desk.book()))
 }
 
 /// Takes what came in a turn, and tells the scorer what is due of the other desk.
@@ -181,7 +182,7 @@ fn act<S: SlotsOf, B: BookOf + Drop, L: Link, K: Keys, C: Clock, W: Sink>(
 {
     let at = desk.position();
     let votes = desk.votes();
-    take_line(alloc, desk, sheet, outside, between.warned)?;
+    take_line(alloc, desk, sheet, outside, between)?;
     let has_voted = desk.votes() != votes;
     let now = outside.clock.millis();
     between.pace.note(desk.position() != at, has_voted, now);

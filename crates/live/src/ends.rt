@@ -17,8 +17,6 @@ pub enum DeskEnd {
     Device,
     /// A write of what the scorer is told failed.
     Write,
-    /// Its file lacks lines that the other desk has.
-    LacksLines,
 }
 
 /// How the process goes on after the answer to bytes that came.

@@ -14,6 +14,7 @@ ghost use Rattle.live.specs.Desks.{FitsLongest, desk_kind};
 ghost use Rattle.live.specs.Hidden.{HidesTheOther, TellsBoth};
 ghost use Rattle.live.specs.Reminding.{RemindsOnce};
 ghost use Rattle.live.specs.Silences.{IsNeverSilent};
+ghost use Rattle.live.specs.Splits.{SplitsAreTold};
 ghost use Rattle.station_texts.specs.Texts.{TellsWhyFull};
 
 use entry_log::SlotsOf;
@@ -61,4 +62,10 @@ pub fn votes_were_typed<S: SlotsOf>()
 /// no other one.
 pub fn nothing_is_asked_in_vain()
     ensures { (at : APosition) → TellsWhyFull at }
+{}
+
+/// Where a board heard both desks agree on an entry and they agree on another one for its place, whatever their files hold, it
+/// takes not both votes: it tells that what stands there is written anew, and takes nothing more.
+pub fn splits_are_told()
+    ensures { SplitsAreTold }
 {}

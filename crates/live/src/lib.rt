@@ -2,6 +2,7 @@
 //! peers.
 #![tactic(auto)]
 
+mod awaited;
 mod begin;
 mod between;
 pub mod board_calls;
@@ -11,7 +12,9 @@ mod desk_life;
 mod desk_loop;
 mod ends;
 pub mod hearing;
+mod later;
 mod laws;
+pub mod lost_lines;
 mod outside;
 mod pace;
 mod peer;
@@ -26,8 +29,8 @@ pub use board_loop::run_board;
 pub use desk_life::{LifeEnd, keep_desk, run_desk};
 pub use ends::{DeskEnd, end_at};
 pub use laws::{
-    both_lines_are_told, nothing_is_asked_in_vain, reminders_come_once, stations_are_never_silent,
-    the_other_is_hidden,
+    both_lines_are_told, nothing_is_asked_in_vain, reminders_come_once, splits_are_told,
+    stations_are_never_silent, the_other_is_hidden,
 };
 pub use outside::Outside;
 pub use shows::Shows;

@@ -2,6 +2,7 @@
 
 ghost use Rattle.std.specs.Prelude.{◌≡◌, ◌∷◌, ◌++◌, [], ℕ, Bool, List, OnErr, true};
 
+use board::Trouble;
 use cards::MatchSheet;
 use corrections::BookOf;
 use streams::WriteFailed;
@@ -20,10 +21,18 @@ pub trait Shows<B: BookOf> {
     /// Whether it has failed to show a book.
     ghost failed: { Self → Bool };
 
-    /// Shows this book, at this time in milliseconds since some moment, where that is due.
-    fn show(&mut self, sheet: &MatchSheet, book: &B, now: u64) -> Result<(), WriteFailed>
+    /// Shows this book, and what keeps its board from going on, at this time in milliseconds since some moment, where that is
+    /// due.
+    fn show(
+        &mut self,
+        sheet: &MatchSheet,
+        book: &B,
+        trouble: Option<Trouble>,
+        now: u64,
+    ) -> Result<(), WriteFailed>
         ensures seen { seen self.new ≡
-            seen self.old ++ sight_of sheet.now (B.innings_a_side book.now) (B.content book.now) ∷ [] }
-        ensures goes_on { goes_on self.old (sight_of sheet.now (B.innings_a_side book.now) (B.content book.now)) now self.new }
+            seen self.old ++ sight_of sheet.now (B.innings_a_side book.now) (B.content book.now) trouble ∷ [] }
+        ensures goes_on { goes_on self.old
+            (sight_of sheet.now (B.innings_a_side book.now) (B.content book.now) trouble) now self.new }
         ensures failed { OnErr result (failed self.new ≡ true) };
 }

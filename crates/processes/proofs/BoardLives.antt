@@ -5,6 +5,7 @@ use Rattle.cards.specs.Sheet.{Sheet}
 use Rattle.agree_core.specs.declared.messages.Message.{Message}
 use Rattle.agree_core.specs.Boards.{BoardState, fresh_board}
 use Rattle.wire.specs.Layout.{IsMessage}
+use Rattle.live.specs.Boards as boards
 use Rattle.live.specs.Boards.{BoardCall, BoardStep, BoardTurn, handed, shown}
 use Rattle.live.specs.Sights.{Sight}
 use Rattle.live.specs.Runs as own
@@ -32,13 +33,14 @@ module _ (Disk : Type 0) (game innings : ℕ) where
   abbrev pub BoardLocal : Option BoardState → List (Happening Disk) → Type 0
   BoardLocal = Local next_board MayBoard
 
-  -- what a board prints is the six lines of its book, or nothing; and what it hands over is that book, or nothing
+  -- what a board prints is the six lines of its book, or nothing; and what it hands over is that book
   prints : (sheet : Sheet) (k l : BoardTurn) (call : BoardCall) (out : List Message) → BoardStep game innings k.board call out l.board
       → Prints sheet innings call l.board (shown sheet innings k call l)
   prints sheet k l call out h = grind arith
 
   hands : (sheet : Sheet) (k : BoardTurn) (l : BoardState) (call : BoardCall) → Hands sheet innings call l (handed sheet innings k call l)
-  hands sheet k l call = grind arith
+  hands sheet k l boards.TurnEnded = (k.memory.telling.trouble, refl)
+  hands sheet k l call = refl
 
   calls : (n : ℕ) (s : Sheet) (t : BoardTurn) (first : List Sight) (ms : List (own.Moment BoardTurn BoardCall)) → HandsBook s innings t.board.book first
       → BoardRuns game innings s t ms

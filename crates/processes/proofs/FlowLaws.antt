@@ -27,11 +27,11 @@ use Rattle.progress.specs.Progress.{AllAreEntries}
 use Rattle.processes.specs.Happenings.{Flow, Happening, after}
 use Rattle.processes.specs.Headline.{AtEachTime, PrintsItsBook, ProcessHeadline, TypesBallot, WasTyped}
 use Rattle.processes.specs.Laws.{FlowsAreRuns, FlowsHaveHeadline}
-use Rattle.processes.specs.LostLines.{LacksNoLines, ShowsNoLoss}
+use Rattle.processes.specs.LostLines.{ShowsNoLoss}
 use Rattle.processes.specs.PublicScores.{ShowsAgreed}
 use Rattle.processes.specs.SecondVotes.{AtEachHappening, TakesSecond}
 use Rattle.processes.proofs.Flowing.{Flows, at_some, fine, runs, stands}
-use Rattle.processes.proofs.LostLines.{lacks, shows_none}
+use Rattle.processes.proofs.LostLines.{shows_none}
 use Rattle.processes.proofs.Parting.{no_vote_parts}
 use Rattle.processes.proofs.PublicScores.{prints, shows}
 use Rattle.processes.proofs.SecondVotes.{takes_second}
@@ -110,8 +110,6 @@ module _ {Disk : Type 0} (seen : Disk → List ℕ) (images : Disk → Images) (
               (both (g ∷ gs) flow) (λ one two. scored one two (g ∷ gs) flow)) hs f;
           takes_second = each (TakesSecond game) (takes_second s game innings refl version boards w begins) hs f;
           none_waits = each_time NoneKeepsBoth (λ gs flow. none_keeps_both s (after w gs) (fine_at gs flow)) hs f;
-          lacks_no_lines = each LacksNoLines
-              (λ gs g flow. lacks s game innings (after w gs) (stands s game innings refl version boards w begins gs flow.0) (fine_at gs flow.0) g flow.1) hs f;
           shows_no_loss = each (ShowsNoLoss game)
               (λ gs g flow. shows_none s game innings (after w gs) (stands s game innings refl version boards w begins gs flow.0) (fine_at gs flow.0) (entries gs flow.0) g flow.1) hs f;
           no_vote_parts = no_vote_parts s game innings refl version boards w begins hs f (entries hs f);

@@ -13,8 +13,9 @@ use Rattle.headline.specs.declared.{event.Station.Station, version.FileVersion.F
 use Rattle.headline.specs.Configurations.{Configuration, board_at}
 use Rattle.headline.specs.Headline.{AllHaveScores, ByBoth}
 use Rattle.headline.proofs.Heeding.{board_put}
+use Rattle.live.specs.Boards as boards
 use Rattle.live.specs.Boards.{BoardCall}
-use Rattle.live.specs.Sights.{Sight}
+use Rattle.live.specs.Sights.{Sight, sight_of}
 use Rattle.processes.specs.Happenings.{BoardCalled, BoardGreeted, DeskCalled, DeskGreeted, Happening, Happens, after_one}
 use Rattle.processes.specs.Headline.{PrintsItsBook}
 use Rattle.processes.specs.Printing.{Hands, HandsBook, Prints}
@@ -40,7 +41,9 @@ module _ {Disk : Type 0} (innings : ℕ) (v : Configuration Disk) where
 
   called : (s : Sheet) (call : BoardCall) (l : BoardState) (text : List ℕ) (seen : List Sight) → Prints s innings call l text → Hands s innings call l seen
       → IsOfBoth innings v l.book → ShowsOfBoth innings v s text seen
-  called s call l text seen p h by = grind (arith, prints_it, hands_it, All-nil)
+  called s boards.TurnEnded l text seen p h by =
+      (prints_it s l.book by text p, rw h.1 (All-cons (IsSightOfBoth innings v s) (sight_of s innings l.book h.0) [] (refl, refl, by) (All-nil (IsSightOfBoth innings v s))))
+  called s call l text seen p h by = (inl p, rw h (All-nil (IsSightOfBoth innings v s)))
 
 module _ {Disk : Type 0} (view : DeskId → FileVersion → FileView Disk) (game innings : ℕ) where
   pub prints : (v : Configuration Disk) (what : Happening Disk) → Happens view game innings v what → PrintsItsBook innings v what

@@ -52,7 +52,7 @@ module _ (Disk : Type 0) (game innings : ℕ) where
   MayHear s what = Unit {0}
 
   drops : (k : BoardTurn) (call : BoardCall) → MayCall game k call → MayDrop k.memory.rounds call
-  drops k (boards.Parted bytes) m = (m.1, m.2, m.3)
+  drops k (boards.Parted bytes) m = (m.2, m.3, m.4)
   drops k call m = tt
 
   rounds_on : (sheet : Sheet) (k : BoardTurn) (call : BoardCall) (l : BoardState)

@@ -119,7 +119,7 @@ module _ (s : Sheet) where
   a_pens = (says, (((refl, refl), ((omega arith, omega arith), omega arith), taken 1), ((refl, refl), refl, refl, refl, holds A disk_with (the_vote ∷ []) (one_read A)), refl))
 
   a_runs : RunsFrom s (view A) no_faults 7 1 (new_desk A) calls_of_a
-  a_runs = ((λ n. n), 0, (tt, one_out a_says (is_message A), (refl, a_pens, blameless, refl, tt, tt)))
+  a_runs = ((λ n. n), 0, (tt, one_out a_says (is_message A), (refl, a_pens, blameless, refl, refl, tt)))
 
   abbrev LivesAsA : List (Stage (List ℕ)) → Type 0
   LivesAsA = IsLife (λ version. file_view (toy version) (λ disk. disk) only A 7) (λ disk. disk) no_faults A 7 1 (node (start New 1 (new_desk A) (new_desk B)) A)
@@ -156,7 +156,7 @@ module _ (s : Sheet) where
     (
       ((tt, none_out, (refl, b_notes, blameless, refl, tt, tt)), none_out, (refl, (refl, refl), blameless, refl, (refl, refl, refl), tt)),
       one_out b_says (is_message B),
-      (refl, b_pens, blameless, refl, tt, tt),
+      (refl, b_pens, blameless, refl, refl, tt),
     ),
   )
 
@@ -170,7 +170,7 @@ module _ (s : Sheet) where
   -- ---- the board
 
   abbrev at_first : List Sight
-  at_first = sight_of s 1 [] ∷ []
+  at_first = sight_of s 1 [] None ∷ []
 
   abbrev next : List (own.Moment boards.BoardTurn boards.BoardCall) → boards.BoardCall → List Message → BoardState → List (own.Moment boards.BoardTurn boards.BoardCall)
   next = then (boards.after_call s 1) (fresh_turn [] at_first)
@@ -191,9 +191,9 @@ module _ (s : Sheet) where
 
   board_hears : BoardRuns 7 1 s (fresh_turn [] at_first) heard
   board_hears = (
-    (board_asks_it, none_out, ((omega arith, λ v says. refl), ((a_says, (is_message A, refl), ((refl, refl, refl, refl), (λ e. cc), refl)), refl), refl, omega arith)),
+    (board_asks_it, none_out, ((omega arith, refl, λ v says. refl), ((a_says, (is_message A, refl), ((refl, refl, refl, refl), (λ e. cc), refl)), refl), refl, omega arith)),
     none_out,
-    ((omega arith, λ v says. refl), ((b_says, (is_message B, refl), ((refl, refl, refl, refl), (λ e. taken 1), refl)), refl), refl, omega arith),
+    ((omega arith, refl, λ v says. refl), ((b_says, (is_message B, refl), ((refl, refl, refl, refl), (λ e. taken 1), refl)), refl), refl, omega arith),
   )
 
   board_runs : BoardRuns 7 1 s (fresh_turn [] at_first) calls_of_board

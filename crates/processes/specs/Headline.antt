@@ -15,7 +15,7 @@ use Rattle.headline.specs.Kept.{NoneKeepsBoth}
 use Rattle.live.specs.Desks as desks
 use Rattle.station_texts.specs.Saying.{SaysEntry}
 use Rattle.processes.specs.Happenings.{BoardCalled, BoardGreeted, DeskCalled, DeskGreeted, Happening, after}
-use Rattle.processes.specs.LostLines.{LacksNoLines, ShowsNoLoss}
+use Rattle.processes.specs.LostLines.{ShowsNoLoss}
 use Rattle.processes.specs.Parting.{NoVoteParts}
 use Rattle.processes.specs.Printing.{Greets, Hands, Prints, Tells, greeting_of}
 use Rattle.processes.specs.PublicScores.{ShowsAgreed}
@@ -46,7 +46,7 @@ WasTyped w (h ∷ hs) d b = TypesBallot (after w hs) h d b ⊎ WasTyped w hs d b
 
 -- What a process printed of what happened is of the book that it shows then: how its desk stands; what its scorer is told
 -- of the call, by the desk before it and after it; the six lines of the board's book, or nothing. What it hands over to be
--- shown is that book, or nothing.
+-- shown is that book.
 abbrev pub PrintsItsBook : {Disk : Type 0} → ℕ → Configuration Disk → Happening Disk → Type 0
 PrintsItsBook innings w (DeskGreeted d s text) =
     (k : DeskState _) × ((node w d).process ≡ Running k) × (text ≡ greeting_of s innings k)
@@ -83,9 +83,7 @@ pub record ProcessHeadline {Disk : Type 0} (game innings : ℕ) (w : Configurati
   pub takes_second : AtEachHappening w hs (TakesSecond game)
   -- and no process keeps both votes of its position
   pub none_waits : AtEachTime w hs NoneKeepsBoth
-  -- no desk's process ends as one whose file lacks lines
-  pub lacks_no_lines : AtEachHappening w hs LacksNoLines
-  -- and by no message that a station handed out is it shown that the other's file lacks some
+  -- by no message that a station handed out is a desk shown that its own file lacks lines, or the other's
   pub shows_no_loss : AtEachHappening w hs (ShowsNoLoss game)
   -- nor is any vote that a station handed out against a round that a board has heard
   pub no_vote_parts : NoVoteParts w hs

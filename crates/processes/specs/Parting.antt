@@ -1,13 +1,16 @@
 -- No board sees that a desk's file lacks lines, while both desks' files are kept.
-use Rattle.std.specs.Prelude.{◌≡◌, ℕ, false, nat_eq, if◌then◌else◌, List, [], ◌∷◌, Option, Some, slice_get}
+use Rattle.std.specs.Prelude.{◌≡◌, ℕ, Bool, true, false, nat_eq, if◌then◌else◌, List, [], ◌∷◌, All, Option, Some, None, slice_get}
 use Rattle.agree_core.specs.declared.messages.{Message.Message, Vote.Vote}
 use Rattle.agree_core.specs.Boards.{BoardState}
 use Rattle.board.specs.Rounds.{parts}
+use Rattle.board.specs.declared.trouble.{Trouble.Trouble, Why.Why}
+use Rattle.board.specs.declared.trouble.Why.TheVariants.{Anew}
 use Rattle.board.specs.declared.witness.Round.{Round}
 use Rattle.headline.specs.Configurations.{Configuration, board_at}
 use Rattle.live.specs.Boards as boards
 use Rattle.live.specs.Boards.{BoardCall, rounds_after}
-use Rattle.processes.specs.Happenings.{BoardBegun, BoardCalled, Happening, after}
+use Rattle.live.specs.Sights.{Sight}
+use Rattle.processes.specs.Happenings.{BoardBegun, BoardCalled, BoardGreeted, Happening, after}
 
 -- the rounds that a board has heard whole, the oldest first, after a call
 abbrev pub rounds_called : Option BoardState → BoardCall → List Round → List Round
@@ -35,3 +38,25 @@ IsParted what = ⊥
 abbrev pub NoneIsParted : {Disk : Type 0} → List (Happening Disk) → Type 0
 NoneIsParted [] = Unit {0}
 NoneIsParted (h ∷ hs) = NoneIsParted hs × (IsParted h → ⊥)
+
+-- it tells that a desk's file lacks lines
+abbrev pub is_anew : Why → Bool
+is_anew Anew = true
+is_anew why = false
+
+abbrev pub tells_anew : Option Trouble → Bool
+tells_anew None = false
+tells_anew (Some trouble) = is_anew trouble.why
+
+abbrev pub TellsNothing : Sight → Type 0
+TellsNothing sight = tells_anew sight.trouble ≡ false
+
+-- what a board hands over to be shown doesn't tell so
+abbrev pub TellsNone : {Disk : Type 0} → Happening Disk → Type 0
+TellsNone (BoardGreeted n s text seen) = All TellsNothing seen
+TellsNone (BoardCalled n s call out l text seen) = All TellsNothing seen
+TellsNone what = Unit {0}
+
+abbrev pub NoneTells : {Disk : Type 0} → List (Happening Disk) → Type 0
+NoneTells [] = Unit {0}
+NoneTells (h ∷ hs) = NoneTells hs × TellsNone h

@@ -1,12 +1,13 @@
 -- What processes print and hand over to be shown, each with the book that it shows then. The text of a call is printed once the call is done: where
 -- the process is killed amid the printing, or a write fails, a first part of the last text was.
-use Rattle.std.specs.Prelude.{◌≡◌, ◌⊎◌, ℕ, List, [], ◌∷◌}
+use Rattle.std.specs.Prelude.{◌≡◌, ◌⊎◌, ℕ, List, [], ◌∷◌, Option, None}
 use Rattle.notation.specs.declared.entry.Entry.{Entry}
 use Rattle.corrections.specs.CleanList.{history_of}
 use Rattle.cards.specs.Sheet.{Sheet}
 use Rattle.cards.specs.Board.{board as board_text}
 use Rattle.agree_core.specs.Boards.{BoardState}
 use Rattle.agree_core.specs.Desks.{DeskState}
+use Rattle.board.specs.declared.trouble.Trouble.{Trouble}
 use Rattle.live.specs.Boards as boards
 use Rattle.live.specs.Boards.{BoardCall}
 use Rattle.live.specs.Desks.{DeskCall, DeskProcess, MayCall, after_call, own_line, told_of}
@@ -29,13 +30,13 @@ abbrev pub Prints : Sheet → ℕ → BoardCall → BoardState → List ℕ → 
 Prints s innings boards.TurnEnded l text = (text ≡ board_text s innings (history_of l.book)) ⊎ (text ≡ [])
 Prints s innings call l text = text ≡ []
 
--- what is handed over to be shown of a board, as its text and as its state: this book, by this sheet, or nothing
+-- what is handed over to be shown of a board as it begins, as its text and as its state: this book, by this sheet, or nothing
 abbrev pub HandsBook : Sheet → ℕ → List Entry → List Sight → Type 0
-HandsBook s innings book seen = (seen ≡ sight_of s innings book ∷ []) ⊎ (seen ≡ [])
+HandsBook s innings book seen = (seen ≡ sight_of s innings book None ∷ []) ⊎ (seen ≡ [])
 
--- so at the end of a turn; and at any other call nothing
+-- at the end of each turn its book, and what keeps it from going on, if anything does; and at any other call nothing
 abbrev pub Hands : Sheet → ℕ → BoardCall → BoardState → List Sight → Type 0
-Hands s innings boards.TurnEnded l seen = HandsBook s innings l.book seen
+Hands s innings boards.TurnEnded l seen = (trouble : Option Trouble) × (seen ≡ sight_of s innings l.book trouble ∷ [])
 Hands s innings call l seen = seen ≡ []
 
 -- what a board prints and hands over as its process begins: the six lines of its book, and that book

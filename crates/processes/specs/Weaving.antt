@@ -14,7 +14,7 @@ use Rattle.processes.specs.Lives.{BeginsFirst, BoardProcess, IsBoardLife, IsLife
 use Rattle.processes.specs.Files.{NoneShowNone}
 use Rattle.processes.specs.Headline.{ProcessHeadline}
 use Rattle.processes.specs.Laws.{IsFlow}
-use Rattle.processes.specs.Parting.{NoneIsParted}
+use Rattle.processes.specs.Parting.{NoneIsParted, NoneTells}
 use Rattle.processes.specs.Sealing.{BoardAuthentic, DeskAuthentic}
 
 -- it happens at this desk; at this board
@@ -104,3 +104,11 @@ module _ {Disk : Type 0} (seen : Disk → List ℕ) (images : Disk → Images) (
       (a b : DeskState Disk) (hs : List (Happening Disk)) → NoneShowNone contents game
       → BothBegin (contents version) game innings a b
       → IsWoven seal contents game innings (start version boards a b) hs → NoneIsParted hs
+
+  -- nor tells by what it hands over to be shown that one does
+  abbrev pub WovenLivesTellNone : Type 0
+  WovenLivesTellNone =
+      (seal : List ℕ) (contents : FileVersion → FileContents) (game innings : ℕ) (version : FileVersion) (boards : ℕ)
+      (a b : DeskState Disk) (hs : List (Happening Disk)) → NoneShowNone contents game
+      → BothBegin (contents version) game innings a b
+      → IsWoven seal contents game innings (start version boards a b) hs → NoneTells hs

@@ -2,7 +2,7 @@
 -- that the other has written, and pens `void` too; a board shows its empty book, looks at its clock, asks, is given both
 -- votes, and shows the book. A disk is its bytes, all of them synced: one for the header, and one for the desk's vote. The
 -- texts were written by hand.
-use Rattle.std.specs.Prelude.{ℕ, List, [], ◌∷◌, Ok, Err, codes, false}
+use Rattle.std.specs.Prelude.{ℕ, List, [], ◌∷◌, None, Ok, Err, codes, false}
 use Rattle.notation.specs.declared.entry.Entry.TheVariants.{Write}
 use Rattle.notation.specs.declared.entry.Plain.TheVariants.{Void}
 use Rattle.entry_log.specs.Disk.{Faults, Never, only}
@@ -107,12 +107,12 @@ lived s =
     ∷ DeskBegun A (Opened a_again)
     ∷ DeskBegun A (NotOpened OpenRefusal.DeviceFailed disk_with)
     ∷ DeskEnded A disk_with
-    ∷ BoardCalled 1 s boards.TurnEnded [] board_agreed no_play (sight_of s 1 (Write Void ∷ []) ∷ [])
+    ∷ BoardCalled 1 s boards.TurnEnded [] board_agreed no_play (sight_of s 1 (Write Void ∷ []) None ∷ [])
     ∷ BoardCalled 1 s (boards.Given b_bytes (Ok (Heard hearing.Heard.Agreed))) [] board_agreed [] []
     ∷ BoardCalled 1 s (boards.Given a_bytes (Ok (Heard hearing.Heard.Noted))) [] board_noted [] []
     ∷ BoardCalled 1 s boards.Ticked (board_asks ∷ []) fresh_board [] []
     ∷ BoardCalled 1 s (boards.Looked 0) [] fresh_board [] []
-    ∷ BoardGreeted 1 s no_play (sight_of s 1 [] ∷ [])
+    ∷ BoardGreeted 1 s no_play (sight_of s 1 [] None ∷ [])
     ∷ BoardBegun 1
     ∷ DeskCalled B s (desks.Typed (codes "void") (Penned (Write Void) Settled.Agreed)) (b_says ∷ []) b_penned
     (codes "0 agreed: void\nNo play\n")

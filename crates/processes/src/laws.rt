@@ -4,7 +4,7 @@ ghost use Rattle.processes.specs.Files.{EmptyFilesShowNone};
 ghost use Rattle.processes.specs.Laws.{BoardStepsInRun, DeskStepsInRun, FlowsAreRuns, FlowsHaveHeadline};
 ghost use Rattle.processes.specs.Progress.{ProcessesGoOn};
 ghost use Rattle.processes.specs.Stations.{BeginningIsStage, BoardLifeIsProcess, DeskLifeIsLife, DeskRunIsStage};
-ghost use Rattle.processes.specs.Weaving.{WovenLivesFlow, WovenLivesHaveHeadline, WovenLivesPartNone};
+ghost use Rattle.processes.specs.Weaving.{WovenLivesFlow, WovenLivesHaveHeadline, WovenLivesPartNone, WovenLivesTellNone};
 ghost use Rattle.processes.specs.Worked.{LivedIsWoven};
 
 use board::Board;
@@ -34,11 +34,12 @@ pub fn every_flow_goes_on<D: Disk>()
 
 /// The lives of two desks and some boards that take sealed datagrams alone, each process from its beginning to its end,
 /// put into one order, are such moments, where what opened at a station was sealed by one of them before. So the headline holds
-/// of them, and no board drops a vote as one by which a desk's file lacks lines.
+/// of them, and no board drops a vote as one by which a desk's file lacks lines, nor tells so.
 pub fn woven_lives_are_a_flow<D: Disk>()
     ensures flow { WovenLivesFlow D.seen D.images D.faults }
     ensures headline { WovenLivesHaveHeadline D.seen D.images D.faults }
     ensures whole { WovenLivesPartNone D.seen D.images D.faults }
+    ensures tells { WovenLivesTellNone D.seen D.images D.faults }
 {}
 
 /// What `live::begin_desk` ensures of its answer is a beginning in a desk's life.

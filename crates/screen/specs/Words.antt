@@ -62,11 +62,15 @@ single t =
     else None
 
 -- two tokens
+abbrev pub going : Token → Option Word
+going t = if bytes_eq t (codes "on") then Some Word.GoOn else None
+
 abbrev pub pair : Token → Token → Option Word
 pair t u =
     if bytes_eq t (codes "list") then option_map Word.Entries (found_number 1 8192 u)
     else if bytes_eq t (codes "card") then option_map Word.CardsOf (found_number 1 4 u)
     else if bytes_eq t (codes "over") then option_map Word.Over (found_number 1 8191 u)
+    else if bytes_eq t (codes "go") then going u
     else if bytes_eq t (codes "help") then option_map Word.More (topic_of u)
     else None
 

@@ -19,7 +19,7 @@ const MOST_LISTED: u16 = 8192;
 /// The last place of a book.
 const LAST_PLACE: u16 = 8191;
 
-/// What a scorer asks to see. It changes nothing.
+/// What a scorer asks for beside entries. None is written.
 #[derive(Clone, Copy)]
 pub enum Word {
     /// An empty line: where the match and the desk stand.
@@ -46,6 +46,8 @@ pub enum Word {
     Waiting,
     /// `plan` with corrections behind it: lines by which the book comes to have them.
     Plan,
+    /// `go on`: a desk that was held up goes on with its file as it is.
+    GoOn,
     /// `help`: the forms of all lines.
     Forms,
     /// `help` with a word: what this word does.
@@ -153,6 +155,16 @@ fn more(token: &str) -> Option<Word>
     Some(Word::More(topic_of(token)?))
 }
 
+/// What `go` with this token asks for.
+fn going(token: &str) -> Option<Word>
+    ensures { result ≡ words.going token.now }
+{
+    match token {
+        "on" => Some(Word::GoOn),
+        _ => None,
+    }
+}
+
 /// What two tokens ask for.
 fn pair(token: &str, next: &str) -> Option<Word>
     ensures { result ≡ words.pair token.now next.now }
@@ -161,6 +173,7 @@ fn pair(token: &str, next: &str) -> Option<Word>
         "list" => listed(next),
         "card" => carded(next),
         "over" => numbered(next),
+        "go" => going(next),
         "help" => more(next),
         _ => None,
     }

@@ -20,7 +20,7 @@ use Rattle.shorthand.specs.Full.{entry_in_full, in_full}
 use Rattle.shorthand.specs.Lines.{Reason, reason_of}
 use Rattle.plan_words.specs.Planning.{IsPlanned}
 use Rattle.station_texts.specs.declared.said.Said.{Said}
-use Rattle.station_texts.specs.declared.said.Said.TheVariants.{Quit, Asks, Plan, Unclear, SayAgain, NoneDiffers, Waiting, Refused, Penned}
+use Rattle.station_texts.specs.declared.said.Said.TheVariants.{Quit, Asks, Plan, Unclear, SayAgain, NoneDiffers, Waiting, Refused, Withheld, Penned}
 
 -- a line of a round: behind `again ` in every round but the first
 abbrev pub says_again : Bool → List ℕ → List ℕ
@@ -95,6 +95,7 @@ ComesTo s book votes differs is_cast line (SayAgain text) =
 ComesTo s book votes differs is_cast line NoneDiffers = IsAgainInVain votes differs line
 ComesTo s book votes differs is_cast line Waiting =
     (differs ≡ true) × (is_cast ≡ true) × IsNotAgain line × ((e : Entry) × MeansEntry s book line e)
+ComesTo s book votes differs is_cast line Withheld = ⊥
 ComesTo s book votes differs is_cast line (Refused e why) = ⊥
 ComesTo s book votes differs is_cast line (Penned e settled) = ⊥
 
@@ -107,5 +108,7 @@ Types s view rules k line (Penned e settled) l out =
     SaysEntry s k.book k.votes k.seat.position.round line e × Pens view rules k e (desks.Penned settled) l out
 Types s view rules k line (Refused e why) l out =
     SaysEntry s k.book k.votes k.seat.position.round line e × Pens view rules k e (pen_answer (Err why)) l out
+Types s view rules k line Withheld l out =
+    ((e : Entry) × SaysEntry s k.book k.votes k.seat.position.round line e) × (l ≡ k) × (out ≡ [])
 Types s view rules k line said l out =
     ComesTo s k.book k.votes (nat_lt 0 k.seat.position.round) (is_some k.seat.mine) line said × (l ≡ k) × (out ≡ [])

@@ -31,7 +31,8 @@ use Rattle.score_rows.specs.Limited.{bowlers}
 use Rattle.screen.specs.Help.{help, help_on}
 use Rattle.screen.specs.Sentences.{of_desk}
 use Rattle.screen.specs.declared.word.Word.{Word}
-use Rattle.station_texts.specs.declared.{reminder.Reminder.Reminder, said.Said.Said, warned.Warned.Warned}
+use Rattle.station_texts.specs.declared.{doubt.Doubt.Doubt, doubt.Evidence.Evidence, reminder.Reminder.Reminder, said.Said.Said, warned.Warned.Warned}
+use Rattle.station_texts.specs.Doubts.{doubt_after, doubt_text, doubted_text, dismissed, going_text, holds_up}
 use Rattle.station_texts.specs.Laters.{later_numbers, later_words}
 use Rattle.station_texts.specs.Planning.{planned_text}
 use Rattle.station_texts.specs.Questions.{explained, numbered, unclear_text, who_may}
@@ -167,42 +168,50 @@ other_text place waited = if waited then writing place else []
 abbrev pub silence_text : Bool → List ℕ
 silence_text silent = if silent then silence else []
 
-abbrev pub standing : Sheet → ℕ → List Entry → Position → Option Entry → Bool → Bool → List ℕ
-standing sheet innings book at own waited silent =
-    greeting sheet innings book at own ++ other_text at.place waited ++ silence_text silent
+-- and whether the desk doubts its file
+abbrev pub standing : Sheet → ℕ → List Entry → Position → Option Entry → Bool → Warned → List ℕ
+standing sheet innings book at own waited warned =
+    greeting sheet innings book at own ++ other_text at.place waited ++ silence_text warned.of_silence
+    ++ doubted_text warned.doubt
+
+-- a desk that doubts its file casts no vote
+abbrev pub withheld : ℕ → List ℕ
+withheld place = at_place place (codes "isn't written: this file lacks lines; put the right file back, or say go on")
 
 -- what is shown of a word, where a desk stands so; of `plan` what `Planning` has
-abbrev pub word_text : Sheet → ℕ → Position → Option Entry → Bool → Bool → List Entry → Word → List ℕ
-word_text sheet innings at own waited silent book Word.Where = standing sheet innings book at own waited silent
-word_text sheet innings at own waited silent book (Word.Entries most) = listing most book
-word_text sheet innings at own waited silent book (Word.Range first last) = range first last book
-word_text sheet innings at own waited silent book (Word.Over number) = over_last sheet book number
-word_text sheet innings at own waited silent book (Word.OverOf number side which) = over_by_side sheet book number side which
-word_text sheet innings at own waited silent book Word.Total = over_check sheet (history_of book)
-word_text sheet innings at own waited silent book Word.Cards = both_cards sheet (history_of book)
-word_text sheet innings at own waited silent book (Word.CardsOf number) = cards_number sheet (history_of book) number
-word_text sheet innings at own waited silent book Word.Sides = both_sides sheet
-word_text sheet innings at own waited silent book Word.Bowlers = bowlers sheet (history_of book)
-word_text sheet innings at own waited silent book Word.Waiting = who_waits sheet (history_of book)
-word_text sheet innings at own waited silent book Word.Plan = []
-word_text sheet innings at own waited silent book Word.Forms = help
-word_text sheet innings at own waited silent book (Word.More topic) = help_on topic
+abbrev pub word_text : Sheet → ℕ → Position → Option Entry → Bool → Warned → List Entry → Word → List ℕ
+word_text sheet innings at own waited warned book Word.Where = standing sheet innings book at own waited warned
+word_text sheet innings at own waited warned book (Word.Entries most) = listing most book
+word_text sheet innings at own waited warned book (Word.Range first last) = range first last book
+word_text sheet innings at own waited warned book (Word.Over number) = over_last sheet book number
+word_text sheet innings at own waited warned book (Word.OverOf number side which) = over_by_side sheet book number side which
+word_text sheet innings at own waited warned book Word.Total = over_check sheet (history_of book)
+word_text sheet innings at own waited warned book Word.Cards = both_cards sheet (history_of book)
+word_text sheet innings at own waited warned book (Word.CardsOf number) = cards_number sheet (history_of book) number
+word_text sheet innings at own waited warned book Word.Sides = both_sides sheet
+word_text sheet innings at own waited warned book Word.Bowlers = bowlers sheet (history_of book)
+word_text sheet innings at own waited warned book Word.Waiting = who_waits sheet (history_of book)
+word_text sheet innings at own waited warned book Word.Plan = []
+word_text sheet innings at own waited warned book Word.GoOn = going_text (holds_up warned.doubt)
+word_text sheet innings at own waited warned book Word.Forms = help
+word_text sheet innings at own waited warned book (Word.More topic) = help_on topic
 
--- of a line at this position, with the desk's own vote there and the other desk's before it, where the scorer was told
--- that the other desk isn't heard or not, and with the book after it
-abbrev pub said_text : Sheet → ℕ → Position → Option Entry → Option Entry → Bool → List Entry → Said → List ℕ
-said_text sheet innings at own other silent book Said.Quit = []
-said_text sheet innings at own other silent book (Said.Asks word) =
-    word_text sheet innings at own (is_waited_for own other) silent book word
-said_text sheet innings at own other silent book (Said.Plan planned) = planned_text sheet book planned
-said_text sheet innings at own other silent book (Said.Unclear unclear) =
+-- of a line at this position, with the desk's own vote there and the other desk's before it, what the scorer was told of a peer
+-- before, and with the book after it
+abbrev pub said_text : Sheet → ℕ → Position → Option Entry → Option Entry → Warned → List Entry → Said → List ℕ
+said_text sheet innings at own other warned book Said.Quit = []
+said_text sheet innings at own other warned book (Said.Asks word) =
+    word_text sheet innings at own (is_waited_for own other) warned book word
+said_text sheet innings at own other warned book (Said.Plan planned) = planned_text sheet book planned
+said_text sheet innings at own other warned book (Said.Unclear unclear) =
     unclear_text sheet unclear ++ who_may sheet (history_of book) unclear
-said_text sheet innings at own other silent book (Said.SayAgain line) = again_text at line (why_full at)
-said_text sheet innings at own other silent book Said.NoneDiffers =
+said_text sheet innings at own other warned book (Said.SayAgain line) = again_text at line (why_full at)
+said_text sheet innings at own other warned book Said.NoneDiffers =
     at_place at.place (codes "doesn't differ: leave out again")
-said_text sheet innings at own other silent book Said.Waiting = refused_text Refusal.Waiting
-said_text sheet innings at own other silent book (Said.Refused e why) = refused_entry book e why
-said_text sheet innings at own other silent book (Said.Penned e settled) =
+said_text sheet innings at own other warned book Said.Waiting = refused_text Refusal.Waiting
+said_text sheet innings at own other warned book (Said.Refused e why) = refused_entry book e why
+said_text sheet innings at own other warned book Said.Withheld = withheld at.place
+said_text sheet innings at own other warned book (Said.Penned e settled) =
     settled_text sheet innings at.place other book e settled
 
 -- of a peer, unless it was told
@@ -225,27 +234,30 @@ unopened_text warned = warning warned.of_seal unopened_line
 abbrev pub loss_line : List ℕ
 loss_line = codes "the other desk's file lacks lines that this one has: have the right file put back\n"
 
-abbrev pub loss_text : Warned → Bool → List ℕ
-loss_text warned loss = if loss then warning warned.of_lines loss_line else []
+-- and that this desk's does, or doesn't after all
+abbrev pub shown_text : Warned → Evidence → List ℕ
+shown_text warned Evidence.OtherLacks = warning warned.of_lines loss_line
+shown_text warned evidence = doubt_text warned.doubt evidence
 
--- of a vote that came at this place, with the desk's own vote there before it, the entry that came, the book after it, and
--- whether it shows that the other desk's file lacks lines
-abbrev pub heard_text : Sheet → ℕ → ℕ → Option Entry → Option Entry → List Entry → Warned → Bool → Heard → List ℕ
-heard_text sheet innings place own other book warned loss Heard.Noted = []
-heard_text sheet innings place own other book warned loss Heard.Agreed = agreed sheet innings place book
-heard_text sheet innings place own other book warned loss Heard.Differ = differs_text place own other
-heard_text sheet innings place own other book warned loss Heard.Mine = warning warned.of_desk (codes "peer: the same desk\n")
-heard_text sheet innings place own other book warned loss Heard.TwoVotes = warning warned.of_votes (codes "peer: two votes\n")
-heard_text sheet innings place own other book warned loss Heard.Old = loss_text warned loss
-heard_text sheet innings place own other book warned loss heard = []
+-- of a vote that came at this place, with the desk's own vote there before it, the entry that came, the book after it, and what
+-- it shows of both desks' files
+abbrev pub heard_text : Sheet → ℕ → ℕ → Option Entry → Option Entry → List Entry → Warned → Evidence → Heard → List ℕ
+heard_text sheet innings place own other book warned evidence Heard.Noted = []
+heard_text sheet innings place own other book warned evidence Heard.Agreed = agreed sheet innings place book
+heard_text sheet innings place own other book warned evidence Heard.Differ = differs_text place own other
+heard_text sheet innings place own other book warned evidence Heard.Mine = warning warned.of_desk (codes "peer: the same desk\n")
+heard_text sheet innings place own other book warned evidence Heard.TwoVotes = warning warned.of_votes (codes "peer: two votes\n")
+heard_text sheet innings place own other book warned evidence Heard.Old = shown_text warned evidence
+heard_text sheet innings place own other book warned evidence Heard.Ahead = shown_text warned evidence
+heard_text sheet innings place own other book warned evidence heard = []
 
 -- of what came at this place, likewise
-abbrev pub came_text : Sheet → ℕ → ℕ → Option Entry → Option Entry → List Entry → Warned → Bool → What → List ℕ
-came_text sheet innings place own other book warned loss (What.Bad fault) = warning warned.of_bytes (bad_text fault)
-came_text sheet innings place own other book warned loss (What.Heard heard) =
-    heard_text sheet innings place own other book warned loss heard
-came_text sheet innings place own other book warned loss What.Asked = loss_text warned loss
-came_text sheet innings place own other book warned loss what = []
+abbrev pub came_text : Sheet → ℕ → ℕ → Option Entry → Option Entry → List Entry → Warned → Evidence → What → List ℕ
+came_text sheet innings place own other book warned evidence (What.Bad fault) = warning warned.of_bytes (bad_text fault)
+came_text sheet innings place own other book warned evidence (What.Heard heard) =
+    heard_text sheet innings place own other book warned evidence heard
+came_text sheet innings place own other book warned evidence What.Asked = shown_text warned evidence
+came_text sheet innings place own other book warned evidence what = []
 
 -- nothing was told of a peer
 abbrev pub unwarned : Warned
@@ -257,27 +269,34 @@ unwarned = record {
   of_lines = false;
   of_writing = false;
   of_silence = false;
+  doubt = Doubt.No;
 }
 
 -- what was told of a peer since a vote that is news came, after the answer to what came; anyone's asks are as any
 -- desk's, and a vote is repeated until it is answered, so that they are no sign that all is right; that the other desk
--- isn't heard stands until it is told that it is again
+-- isn't heard stands until it is told that it is again, and what the desk doubts until that is clear
 abbrev pub unwarned_but : Warned → Warned
-unwarned_but warned = record unwarned { of_silence = warned.of_silence }
+unwarned_but warned = record unwarned { of_silence = warned.of_silence; doubt = warned.doubt }
 
-abbrev pub warned_of_loss : Warned → Bool → Warned
-warned_of_loss warned loss = record warned { of_lines = warned.of_lines || loss }
+abbrev pub is_other_lacks : Evidence → Bool
+is_other_lacks Evidence.OtherLacks = true
+is_other_lacks evidence = false
 
-abbrev pub warned_after : Warned → Bool → What → Warned
-warned_after warned loss (What.Bad fault) = record warned { of_bytes = true }
-warned_after warned loss (What.Heard Heard.Mine) = record warned { of_desk = true }
-warned_after warned loss (What.Heard Heard.TwoVotes) = record warned { of_votes = true }
-warned_after warned loss (What.Heard Heard.Noted) = unwarned_but warned
-warned_after warned loss (What.Heard Heard.Agreed) = unwarned_but warned
-warned_after warned loss (What.Heard Heard.Differ) = unwarned_but warned
-warned_after warned loss (What.Heard Heard.Old) = warned_of_loss warned loss
-warned_after warned loss What.Asked = warned_of_loss warned loss
-warned_after warned loss what = warned
+abbrev pub warned_shown : Warned → Evidence → Warned
+warned_shown warned evidence =
+    record warned { of_lines = warned.of_lines || is_other_lacks evidence; doubt = doubt_after warned.doubt evidence }
+
+abbrev pub warned_after : Warned → Evidence → What → Warned
+warned_after warned evidence (What.Bad fault) = record warned { of_bytes = true }
+warned_after warned evidence (What.Heard Heard.Mine) = record warned { of_desk = true }
+warned_after warned evidence (What.Heard Heard.TwoVotes) = record warned { of_votes = true }
+warned_after warned evidence (What.Heard Heard.Noted) = unwarned_but warned
+warned_after warned evidence (What.Heard Heard.Agreed) = unwarned_but warned
+warned_after warned evidence (What.Heard Heard.Differ) = unwarned_but warned
+warned_after warned evidence (What.Heard Heard.Old) = warned_shown warned evidence
+warned_after warned evidence (What.Heard Heard.Ahead) = warned_shown warned evidence
+warned_after warned evidence What.Asked = warned_shown warned evidence
+warned_after warned evidence what = warned
 
 -- once bytes came that don't open
 abbrev pub warned_unopened : Warned → Warned
@@ -288,3 +307,8 @@ abbrev pub warned_reminded : Warned → Reminder → Warned
 warned_reminded warned Reminder.HasWritten = record warned { of_writing = true }
 warned_reminded warned Reminder.IsMissed = record warned { of_silence = true }
 warned_reminded warned Reminder.IsHeard = record warned { of_silence = false }
+
+-- once a line came to this: the scorer may have said that he goes on
+abbrev pub warned_said : Warned → Said → Warned
+warned_said warned (Said.Asks Word.GoOn) = record warned { doubt = dismissed warned.doubt }
+warned_said warned said = warned

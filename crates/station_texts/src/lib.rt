@@ -4,6 +4,7 @@
 mod again;
 pub mod asides;
 pub mod both;
+pub mod doubt;
 pub mod news;
 mod notice_log;
 pub mod notices;

@@ -6,6 +6,7 @@ ghost use Rattle.notation.specs.Written.{IsEntry};
 ghost use Rattle.station_texts.specs.Texts as texts;
 
 use crate::both::Both;
+use crate::doubt::{Evidence, print_doubt};
 use crate::reminder::Reminder;
 use crate::texts::{print_agreed, print_at, print_differs};
 use crate::warned::Warned;
@@ -47,19 +48,23 @@ fn print_bad<W: Sink>(
     writeln!(out, "peer: {code} {fault}")
 }
 
-/// Prints that the other desk's file lacks lines, where what came shows it, unless it was told.
-fn print_loss<W: Sink>(out: &mut Watched<W>, warned: Warned, loss: bool) -> Result<(), WriteFailed>
-    ensures text { OnOk result (Prints W.contents out.old out.new (texts.loss_text warned loss)) }
+/// Prints what a message that came shows of both desks' files; that the other's lacks lines unless it was told.
+fn print_shown<W: Sink>(
+    out: &mut Watched<W>,
+    warned: Warned,
+    evidence: Evidence,
+) -> Result<(), WriteFailed>
+    ensures text { OnOk result (Prints W.contents out.old out.new (texts.shown_text warned evidence)) }
     ensures failed { TellsFailure result out.old out.new }
 {
-    if loss {
-        return print_warning(
+    match evidence {
+        Evidence::OtherLacks => print_warning(
             out,
             warned.of_lines,
             "the other desk's file lacks lines that this one has: have the right file put back\n",
-        );
+        ),
+        evidence => print_doubt(out, warned.doubt, evidence),
     }
-    Ok(())
 }
 
 /// Prints what a vote that came at this place came to, where it is news: of both votes, the desk's own was there before.
@@ -69,14 +74,14 @@ fn print_heard<B: BookOf, W: Sink>(
     place: u32,
     warned: Warned,
     both: Both,
-    loss: bool,
+    evidence: Evidence,
     heard: Heard,
     book: &B,
 ) -> Result<(), WriteFailed>
     requires own { IfSome both.own IsEntry }
     requires other { IfSome both.other IsEntry }
     ensures text { OnOk result (Prints W.contents out.old out.new
-        (texts.heard_text sheet.now (B.innings_a_side book.now) place both.own both.other (B.content book.now) warned loss heard)) }
+        (texts.heard_text sheet.now (B.innings_a_side book.now) place both.own both.other (B.content book.now) warned evidence heard)) }
     ensures failed { TellsFailure result out.old out.new }
 {
     match heard {
@@ -84,9 +89,8 @@ fn print_heard<B: BookOf, W: Sink>(
         Heard::Differ => print_differs(out, place, both),
         Heard::Mine => print_warning(out, warned.of_desk, "peer: the same desk\n"),
         Heard::TwoVotes => print_warning(out, warned.of_votes, "peer: two votes\n"),
-        Heard::Old => print_loss(out, warned, loss),
-        Heard::Noted => Ok(()),
-        Heard::Ahead | Heard::Again => Ok(()),
+        Heard::Old | Heard::Ahead => print_shown(out, warned, evidence),
+        Heard::Noted | Heard::Again => Ok(()),
     }
 }
 
@@ -97,20 +101,20 @@ fn print_news<B: BookOf, W: Sink>(
     place: u32,
     warned: Warned,
     both: Both,
-    loss: bool,
+    evidence: Evidence,
     what: What,
     book: &B,
 ) -> Result<(), WriteFailed>
     requires own { IfSome both.own IsEntry }
     requires other { IfSome both.other IsEntry }
     ensures text { OnOk result (Prints W.contents out.old out.new
-        (texts.came_text sheet.now (B.innings_a_side book.now) place both.own both.other (B.content book.now) warned loss what)) }
+        (texts.came_text sheet.now (B.innings_a_side book.now) place both.own both.other (B.content book.now) warned evidence what)) }
     ensures failed { TellsFailure result out.old out.new }
 {
     match what {
         What::Bad(fault) => print_bad(out, warned.of_bytes, fault),
-        What::Heard(heard) => print_heard(out, sheet, place, warned, both, loss, heard, book),
-        What::Asked => print_loss(out, warned, loss),
+        What::Heard(heard) => print_heard(out, sheet, place, warned, both, evidence, heard, book),
+        What::Asked => print_shown(out, warned, evidence),
         What::Device | What::Failed => Ok(()),
     }
 }
@@ -122,17 +126,17 @@ pub fn print_came<B: BookOf, W: Sink>(
     place: u32,
     warned: Warned,
     both: Both,
-    loss: bool,
+    evidence: Evidence,
     what: What,
     book: &B,
 ) -> Result<(), WriteFailed>
     requires own { IfSome both.own IsEntry }
     requires other { IfSome both.other IsEntry }
     ensures text { OnOk result (Prints W.contents out.old out.new
-        (texts.came_text sheet.now (B.innings_a_side book.now) place both.own both.other (B.content book.now) warned loss what)) }
+        (texts.came_text sheet.now (B.innings_a_side book.now) place both.own both.other (B.content book.now) warned evidence what)) }
     ensures failed { TellsFailure result out.old out.new }
 {
-    print_news(out, sheet, place, warned, both, loss, what, book)?;
+    print_news(out, sheet, place, warned, both, evidence, what, book)?;
     out.flush()
 }
 

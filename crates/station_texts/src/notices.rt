@@ -2,11 +2,13 @@
 
 ghost use Rattle.std.specs.Prelude.{◌≡◌, ◌∷◌, ◌++◌, [], List, OnOk};
 ghost use Rattle.streams.specs.Watched.{Prints, TellsFailure};
+ghost use Rattle.board.specs.Troubles.{left_of};
 ghost use Rattle.station_texts.specs.Notices as texts;
 
+use crate::doubt::Evidence;
 use crate::warned::Warned;
 use agree_core::Heard;
-use board::BoardRefusal;
+use board::{BoardRefusal, Trouble, Why};
 use streams::{Sink, Watched, WriteFailed};
 use wire::{What, WireFault};
 
@@ -24,6 +26,9 @@ pub enum Notice {
     /// A vote for this place that no desk casts whose file has all its lines: the desk voted for another entry at the same
     /// position before, or both had voted alike in an earlier round.
     Parted { place: u32 },
+    /// The desks vote for later places, and not for the round of this place that the board has come to, by votes that weren't
+    /// alike.
+    Apart { place: u32 },
 }
 
 /// Takes what a board tells. Nothing is known of who reads it; what was handed to it is told.
@@ -51,24 +56,23 @@ pub fn print_notice<W: Sink>(out: &mut Watched<W>, notice: Notice) -> Result<(),
         Notice::Unopened => writeln!(out, "peer: another sheet or another key"),
         Notice::TwoVotes => writeln!(out, "peer: two votes"),
         Notice::BadVotes { place } => {
-            writeln!(
-                out,
-                "{place} refused 64 BadVotes: no score is shown from here on"
-            )
+            writeln!(out, "{place} refused 64 BadVotes: no later score is shown")
         }
         Notice::Parted { place } => writeln!(
             out,
-            "{place} is written anew: a desk's file lacks lines that this board has; no score is shown from here on"
+            "{place} is written anew: a desk's file lacks lines that this board has; no later score is shown"
         ),
+        Notice::Apart { place } => {
+            writeln!(out, "{place} the desks told this board different lines")
+        }
     }
 }
 
-/// What a board has told since a vote that it takes came, and whether it has told that it refuses both desks' votes or that a
-/// desk's file lacks lines: from then on it shows no score.
+/// What a board has told since a vote that it takes came, and what it has told that keeps it from going on.
 #[derive(Clone, Copy, Debug)]
 pub struct Telling {
     pub warned: Warned,
-    pub is_stopped: bool,
+    pub trouble: Option<Trouble>,
 }
 
 /// Tells this, unless it was told.
@@ -80,12 +84,49 @@ fn note<N: Notices>(notices: &mut N, is_told: bool, notice: Notice)
     }
 }
 
+/// Whether a board goes on to another position by that answer: both votes of its own were heard.
+pub fn opens(answer: What) -> bool
+    ensures { result ≡ texts.opens answer }
+{
+    matches!(answer, What::Heard(Heard::Agreed | Heard::Differ))
+}
+
 impl Telling {
     /// Nothing was told.
     pub const NOTHING: Telling = Telling {
         warned: Warned::NOTHING,
-        is_stopped: false,
+        trouble: None,
     };
+
+    /// Whether the board takes nothing more.
+    pub fn is_stopped(self) -> bool
+        ensures { result ≡ texts.is_stopped self }
+    {
+        match self.trouble {
+            Some(trouble) => trouble.why.stops(),
+            None => false,
+        }
+    }
+
+    /// What keeps the board from going on once it has come to another position.
+    fn left(self) -> Option<Trouble>
+        ensures { result ≡ left_of self.trouble }
+    {
+        match self.trouble {
+            Some(trouble) if trouble.why.stops() => Some(trouble),
+            _ => None,
+        }
+    }
+
+    /// The same, but for what keeps the board from going on.
+    fn troubled(self, place: u32, why: Why) -> Telling
+        ensures { result ≡ texts.with_trouble self place why }
+    {
+        Telling {
+            trouble: Some(Trouble { place, why }),
+            ..self
+        }
+    }
 
     /// Tells what is news in the answer to bytes that came.
     pub fn tell<N: Notices>(self, answer: Result<What, BoardRefusal>, notices: &mut N)
@@ -98,7 +139,7 @@ impl Telling {
             }
             Ok(_) => {}
             Err(BoardRefusal::BadVotes { place }) => {
-                note(notices, self.is_stopped, Notice::BadVotes { place });
+                note(notices, self.is_stopped(), Notice::BadVotes { place });
             }
         }
     }
@@ -115,17 +156,22 @@ impl Telling {
         }
     }
 
-    /// Tells that a vote for this place came which shows that a desk's file lacks lines, unless it shows no score already,
-    /// and answers what was told then.
+    /// Tells that a vote for this place came which shows that a desk's file lacks lines, and answers what was told then.
     pub fn part<N: Notices>(self, place: u32, notices: &mut N) -> Telling
-        ensures told { N.told notices.new ≡ texts.notices_parted self (N.told notices.old) place }
-        ensures after { result ≡ texts.telling_parted self }
+        ensures told { N.told notices.new ≡ N.told notices.old ++ Notice.Parted place ∷ [] }
+        ensures after { result ≡ texts.with_trouble self place Why.Anew }
     {
-        note(notices, self.is_stopped, Notice::Parted { place });
-        Telling {
-            is_stopped: true,
-            ..self
-        }
+        notices.tell(Notice::Parted { place });
+        self.troubled(place, Why::Anew)
+    }
+
+    /// Tells that the desks vote for later places than this one, and answers what was told then.
+    pub fn split<N: Notices>(self, place: u32, notices: &mut N) -> Telling
+        ensures told { N.told notices.new ≡ N.told notices.old ++ Notice.Apart place ∷ [] }
+        ensures after { result ≡ texts.with_trouble self place Why.Apart }
+    {
+        notices.tell(Notice::Apart { place });
+        self.troubled(place, Why::Apart)
     }
 
     /// What was told after that answer.
@@ -134,13 +180,14 @@ impl Telling {
     {
         match answer {
             Ok(what) => Telling {
-                warned: self.warned.after(false, what),
-                ..self
+                warned: self.warned.after(Evidence::Nothing, what),
+                trouble: if opens(what) {
+                    self.left()
+                } else {
+                    self.trouble
+                },
             },
-            Err(_) => Telling {
-                is_stopped: true,
-                ..self
-            },
+            Err(BoardRefusal::BadVotes { place }) => self.troubled(place, Why::Refused),
         }
     }
 }

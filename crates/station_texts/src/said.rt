@@ -44,6 +44,8 @@ pub enum Said {
     Waiting,
     /// The desk refuses the entry.
     Refused(Entry, Refusal),
+    /// It says an entry, and the desk, which doubts its file, casts no vote.
+    Withheld,
     /// The vote for the entry is cast.
     Penned(Entry, Settled),
 }

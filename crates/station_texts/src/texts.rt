@@ -10,9 +10,11 @@ ghost use Rattle.station_texts.specs.Texts as texts;
 
 use crate::again::print_again;
 use crate::both::Both;
+use crate::doubt::{print_doubted, print_going};
 use crate::plan_text::print_planned;
 use crate::refusals::{print_refused, print_refused_entry};
 use crate::said::Said;
+use crate::warned::Warned;
 use crate::who_bowls::print_question;
 use agree_core::{Position, ROUNDS, Settled};
 use book_rows::{print_listing, print_over_by_side, print_over_last, print_range};
@@ -333,6 +335,18 @@ fn print_silence<W: Sink>(out: &mut Watched<W>, is_silent: bool) -> Result<(), W
     }
 }
 
+/// Prints that a desk that doubts its file writes nothing.
+fn print_withheld<W: Sink>(out: &mut Watched<W>, place: u32) -> Result<(), WriteFailed>
+    ensures text { OnOk result (Prints W.contents out.old out.new (texts.withheld place)) }
+    ensures failed { TellsFailure result out.old out.new }
+{
+    print_at(
+        out,
+        place,
+        "isn't written: this file lacks lines; put the right file back, or say go on",
+    )
+}
+
 /// Prints how the match stands, where the desk does, and what is known of the other desk.
 fn print_standing<B: BookOf, W: Sink>(
     out: &mut Watched<W>,
@@ -340,18 +354,19 @@ fn print_standing<B: BookOf, W: Sink>(
     at: Position,
     own: Option<Entry>,
     is_waited_for: bool,
-    is_silent: bool,
+    warned: Warned,
     book: &B,
 ) -> Result<(), WriteFailed>
     requires { IfSome own IsEntry }
     ensures text { OnOk result (Prints W.contents out.old out.new
-        (texts.standing sheet.now (B.innings_a_side book.now) (B.content book.now) at own is_waited_for is_silent)) }
+        (texts.standing sheet.now (B.innings_a_side book.now) (B.content book.now) at own is_waited_for warned)) }
     ensures failed { TellsFailure result out.old out.new }
 {
     let place = at.place;
     print_greeting(out, sheet, at, own, book)?;
     print_other(out, place, is_waited_for)?;
-    print_silence(out, is_silent)
+    print_silence(out, warned.of_silence)?;
+    print_doubted(out, warned.doubt)
 }
 
 /// Prints what a word asks to see; of `plan` nothing.
@@ -361,17 +376,17 @@ fn print_asked<B: BookOf, W: Sink>(
     at: Position,
     own: Option<Entry>,
     is_waited_for: bool,
-    is_silent: bool,
+    warned: Warned,
     book: &B,
     word: Word,
 ) -> Result<(), WriteFailed>
     requires { IfSome own IsEntry }
     ensures text { OnOk result (Prints W.contents out.old out.new
-        (texts.word_text sheet.now (B.innings_a_side book.now) at own is_waited_for is_silent (B.content book.now) word)) }
+        (texts.word_text sheet.now (B.innings_a_side book.now) at own is_waited_for warned (B.content book.now) word)) }
     ensures failed { TellsFailure result out.old out.new }
 {
     match word {
-        Word::Where => print_standing(out, sheet, at, own, is_waited_for, is_silent, book),
+        Word::Where => print_standing(out, sheet, at, own, is_waited_for, warned, book),
         Word::Entries(most) => print_listing(out, book, most),
         Word::Range(first, last) => print_range(out, book, first, last),
         Word::Over(number) => print_over_last(out, sheet, book, number),
@@ -385,6 +400,7 @@ fn print_asked<B: BookOf, W: Sink>(
         Word::Bowlers => print_bowlers(out, sheet, book),
         Word::Waiting => print_waiting(out, sheet, book),
         Word::Plan => Ok(()),
+        Word::GoOn => print_going(out, warned.doubt),
         Word::Forms => write!(out, "{HELP}"),
         Word::More(topic) => {
             let text = help_on(topic);
@@ -393,14 +409,14 @@ fn print_asked<B: BookOf, W: Sink>(
     }
 }
 
-/// Prints what a line came to, at this position, where the desk had these votes before, and the scorer was told that the other
-/// desk isn't heard, or not.
+/// Prints what a line came to, at this position, where the desk had these votes before, and the scorer was told this of a
+/// peer.
 fn print_answer<B: BookOf, W: Sink>(
     out: &mut Watched<W>,
     sheet: &MatchSheet,
     at: Position,
     both: Both,
-    is_silent: bool,
+    warned: Warned,
     said: &Said,
     book: &B,
 ) -> Result<(), WriteFailed>
@@ -408,7 +424,7 @@ fn print_answer<B: BookOf, W: Sink>(
     requires own { IfSome both.own IsEntry }
     requires other { IfSome both.other IsEntry }
     ensures text { OnOk result (Prints W.contents out.old out.new
-        (texts.said_text sheet.now (B.innings_a_side book.now) at both.own both.other is_silent (B.content book.now) said.now)) }
+        (texts.said_text sheet.now (B.innings_a_side book.now) at both.own both.other warned (B.content book.now) said.now)) }
     ensures failed { TellsFailure result out.old out.new }
 {
     match said {
@@ -419,22 +435,14 @@ fn print_answer<B: BookOf, W: Sink>(
             } else {
                 both.other.is_some()
             };
-            print_asked(
-                out,
-                sheet,
-                at,
-                both.own,
-                is_waited_for,
-                is_silent,
-                book,
-                *word,
-            )
+            print_asked(out, sheet, at, both.own, is_waited_for, warned, book, *word)
         }
         Said::Plan(planned) => print_planned(out, sheet, planned, book),
         Said::Unclear(unclear) => print_question(out, sheet, unclear, book),
         Said::SayAgain(line) => print_again(out, at, line),
         Said::NoneDiffers => print_at(out, at.place, "doesn't differ: leave out again"),
         Said::Waiting => print_refused(out, Refusal::Waiting),
+        Said::Withheld => print_withheld(out, at.place),
         Said::Refused(entry, why) => print_refused_entry(out, book, entry, *why),
         Said::Penned(entry, settled) => {
             print_settled(out, sheet, at.place, both.other, entry, *settled, book)
@@ -443,13 +451,13 @@ fn print_answer<B: BookOf, W: Sink>(
 }
 
 /// Tells the scorer at once what a line came to, at this position, where the desk had these votes before, and the scorer was
-/// told that the other desk isn't heard, or not.
+/// told this of a peer.
 pub fn print_said<B: BookOf, W: Sink>(
     out: &mut Watched<W>,
     sheet: &MatchSheet,
     at: Position,
     both: Both,
-    is_silent: bool,
+    warned: Warned,
     said: &Said,
     book: &B,
 ) -> Result<(), WriteFailed>
@@ -457,9 +465,9 @@ pub fn print_said<B: BookOf, W: Sink>(
     requires own { IfSome both.own IsEntry }
     requires other { IfSome both.other IsEntry }
     ensures text { OnOk result (Prints W.contents out.old out.new
-        (texts.said_text sheet.now (B.innings_a_side book.now) at both.own both.other is_silent (B.content book.now) said.now)) }
+        (texts.said_text sheet.now (B.innings_a_side book.now) at both.own both.other warned (B.content book.now) said.now)) }
     ensures failed { TellsFailure result out.old out.new }
 {
-    print_answer(out, sheet, at, both, is_silent, said, book)?;
+    print_answer(out, sheet, at, both, warned, said, book)?;
     out.flush()
 }

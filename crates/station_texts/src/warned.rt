@@ -3,13 +3,16 @@
 ghost use Rattle.std.specs.Prelude.{◌≡◌};
 ghost use Rattle.station_texts.specs.Texts as texts;
 
+use crate::doubt::{Doubt, Evidence};
 use crate::reminder::Reminder;
+use crate::said::Said;
 use agree_core::Heard;
+use screen::Word;
 use wire::What;
 
 /// What a desk's scorer was told of a peer since a vote that is news came. Anyone's asks are as any desk's, and a desk
 /// that waits repeats its vote twice a second, so that only a vote that is news is a sign that all is right. That the other
-/// desk isn't heard stands until it is heard.
+/// desk isn't heard stands until it is heard, and what the desk doubts until that is clear.
 #[derive(Clone, Copy, Debug)]
 pub struct Warned {
     /// That bytes came that are no message of the match.
@@ -26,6 +29,8 @@ pub struct Warned {
     pub of_writing: bool,
     /// That the other desk isn't heard, and not yet that it is again.
     pub of_silence: bool,
+    /// Whether this desk's file lacks lines.
+    pub doubt: Doubt,
 }
 
 impl Warned {
@@ -38,6 +43,7 @@ impl Warned {
         of_lines: false,
         of_writing: false,
         of_silence: false,
+        doubt: Doubt::No,
     };
 
     /// What was told once bytes came that don't open.
@@ -50,9 +56,20 @@ impl Warned {
         }
     }
 
-    /// What was told after the answer to bytes that came, which show that the other desk's file lacks lines, or don't.
-    pub fn after(self, loss: bool, what: What) -> Warned
-        ensures { result ≡ texts.warned_after self loss what }
+    /// What was told once a message has shown this.
+    fn shown(self, evidence: Evidence) -> Warned
+        ensures { result ≡ texts.warned_shown self evidence }
+    {
+        Warned {
+            of_lines: self.of_lines || matches!(evidence, Evidence::OtherLacks),
+            doubt: self.doubt.after(evidence),
+            ..self
+        }
+    }
+
+    /// What was told after the answer to bytes that came, which show this of both desks' files.
+    pub fn after(self, evidence: Evidence, what: What) -> Warned
+        ensures { result ≡ texts.warned_after self evidence what }
     {
         match what {
             What::Bad(_) => Warned {
@@ -69,14 +86,24 @@ impl Warned {
             },
             What::Heard(Heard::Noted | Heard::Agreed | Heard::Differ) => Warned {
                 of_silence: self.of_silence,
+                doubt: self.doubt,
                 ..Warned::NOTHING
             },
-            What::Heard(Heard::Old) | What::Asked => Warned {
-                of_lines: self.of_lines || loss,
+            What::Heard(Heard::Old | Heard::Ahead) | What::Asked => self.shown(evidence),
+            What::Heard(Heard::Again) | What::Device | What::Failed => self,
+        }
+    }
+
+    /// What was told once a line came to this.
+    pub fn after_said(self, said: &Said) -> Warned
+        ensures { result ≡ texts.warned_said self said.now }
+    {
+        match said {
+            Said::Asks(Word::GoOn) => Warned {
+                doubt: self.doubt.dismissed(),
                 ..self
             },
-            What::Heard(Heard::Ahead | Heard::Again) => self,
-            What::Device | What::Failed => self,
+            _ => self,
         }
     }
 

@@ -91,14 +91,14 @@ fn behind<'a>(rt: &impl Abort, text: &'a [u8], front: &str) -> &'a [u8] {
     }
 }
 
-/// When the board's desks were heard, which a desk doesn't tell.
+/// When the board's desks were heard, which a desk doesn't tell; nor does it tell what keeps a board from going on.
 const HEARD: LastHeard = LastHeard {
     a: Some(7),
     b: None,
 };
 
 /// What ends a board's state then.
-const END: &str = ",\"heard\":{\"a\":7,\"b\":null}}\n";
+const END: &str = ",\"heard\":{\"a\":7,\"b\":null},\"trouble\":null}\n";
 
 /// The text begins so, says this of what comes next, and then has both sides and the board's state.
 fn expect_state(rt: &impl Abort, text: &[u8], begin: &str, next: &str, board: &[u8]) {
@@ -122,7 +122,7 @@ fn follow(rt: &impl Abort, alloc: Global, sheet: &MatchSheet) -> Result<(), Allo
             place: 18,
             round: 2,
         };
-        let board = board_text(alloc, sheet, &book, HEARD)?;
+        let board = board_text(alloc, sheet, &book, HEARD, None)?;
         let text = state_text(alloc, sheet, &book, DeskId::B, at, None, &[])?;
         expect_state(rt, text.as_slice(), BEGIN, next, board.as_slice());
     }
@@ -141,7 +141,7 @@ fn wait(rt: &impl Abort, alloc: Global, sheet: &MatchSheet) -> Result<(), AllocE
     let begin =
         "{\"format\":\"yermudosh desk 1\",\"match\":\"2026\",\"title\":\"A \\\"state\\\"\",\"desk\":\"a\",\"place\":0,\"round\":0,\"pending\":\"innings home\",\"held\":[\"in 1\",\"in \\\"2\\\"\",\"\\\\\"],";
     let next = "\"wants\":\"innings\",\"may_come_in\":[],\"may_bowl\":[],\"over\":[]";
-    let board = board_text(alloc, sheet, &book, HEARD)?;
+    let board = board_text(alloc, sheet, &book, HEARD, None)?;
     expect_state(rt, text.as_slice(), begin, next, board.as_slice());
     Ok(())
 }

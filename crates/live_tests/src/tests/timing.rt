@@ -1,7 +1,7 @@
 //! When stations ask, how long they wait, and that they have handed on by then what they have told.
 
 use super::*;
-use board::{Board, Witness};
+use board::{Board, Trouble, Witness};
 use corrections::BookOf;
 use live::{Shows, SightLog, Watch, run_board};
 use station_texts::{Notice, NoticeLog, Notices};
@@ -40,8 +40,14 @@ impl Shows<Book> for States {
 
     ghost failed = { λ states. false };
 
-    fn show(&mut self, sheet: &MatchSheet, book: &Book, _now: u64) -> Result<(), WriteFailed> {
-        self.log = self.log.handed(sheet, book);
+    fn show(
+        &mut self,
+        sheet: &MatchSheet,
+        book: &Book,
+        trouble: Option<Trouble>,
+        _now: u64,
+    ) -> Result<(), WriteFailed> {
+        self.log = self.log.handed(sheet, book, trouble);
         Ok(())
     }
 }

@@ -10,7 +10,7 @@ use Rattle.live.proofs.board_loop.take_all.Given as goal
 abbrev pub invariant-loop-taken : goal.invariant-loop-taken
 invariant-loop-taken g l =
     ((sheet : Sheet) (told : Option (List ℕ)) (seen : List Sight) (turns had : ℕ) → BoardGoes g.B.BookOf.content g.B.BookOf.innings_a_side sheet l.initial.board l.board
-    (in_turn g.B.BookOf.content l.initial.board turns had 0 (memory_of l.initial.between.telling l.initial.watch.witness) (ticking_of l.initial.between.pace) (g.N.Notices.told l.initial.watch.notices) seen)
-    (in_turn g.B.BookOf.content l.board turns had l.taken (memory_of l.between.telling l.watch.witness) (ticking_of l.between.pace) (g.N.Notices.told l.watch.notices) seen)
+    (in_turn g.B.BookOf.content l.initial.board turns had 0 (memory_of l.initial.between.telling l.initial.watch.witness l.initial.between.later) (ticking_of l.initial.between.pace) (g.N.Notices.told l.initial.watch.notices) seen)
+    (in_turn g.B.BookOf.content l.board turns had l.taken (memory_of l.between.telling l.watch.witness l.between.later) (ticking_of l.between.pace) (g.N.Notices.told l.watch.notices) seen)
     (untyped (g.L.Link.log l.initial.link) (g.C.Clock.readings l.initial.clock) told) (untyped (g.L.Link.log l.link) (g.C.Clock.readings l.clock) told))
     × (0 < l.taken → IsSome (ticking_of l.between.pace).looked)

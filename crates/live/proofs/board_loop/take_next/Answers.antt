@@ -1,4 +1,4 @@
-use Rattle.std.proofs.Common.{ap, ap₂, sym, take}
+use Rattle.std.proofs.Common.{ap, sym, take}
 use Rattle.live.specs.Boards.{memory_of}
 use Rattle.live.specs.Paces.{ticking_of}
 use Rattle.live.specs.Runs.{untyped}
@@ -23,4 +23,4 @@ returns-in-Unopened-clause-taken g c = λ is sheet shown seen turns had taken fe
     let said = c.say-wait in
     let unopened = c.pass_over.ensures in
     then (said.ensures.goes sheet shown seen turns had taken _ _)
-    (passed_over {ticking = ticking_of said.new.pace} said.new.pace.in_time (ap ticking_of unopened.pace) few (ap₂ memory_of unopened.telling unopened.witness) unopened.told c.in-Unopened.ensures)
+    (passed_over {ticking = ticking_of said.new.pace} said.new.pace.in_time (ap ticking_of unopened.pace) few (λ i. memory_of (unopened.telling i) (unopened.witness i) (unopened.later i)) unopened.told c.in-Unopened.ensures)

@@ -1,13 +1,13 @@
-use Rattle.std.proofs.Common.{not, ◌&&◌, ◌∙◌, ap, sym}
-use Rattle.agree_core.specs.LostLines.{is_before}
+use Rattle.std.proofs.Common.{◌∙◌, ap, sym}
 use Rattle.desk.specs.Desk.{state_of}
-use Rattle.live.specs.Desks.{innings_of, loss_in, own_line}
-use Rattle.live.specs.LostLines.{end_given, loss_of}
+use Rattle.live.specs.Desks.{innings_of, own_line, shown_by}
+use Rattle.live.specs.LostLines.{evidence_of}
 use Rattle.live.specs.Paces.{Paced, ticking_of}
+use Rattle.live.specs.declared.lost_lines.Bearing.{Bearing}
 use Rattle.station_texts.specs.Texts.{came_text, warned_after}
 use Rattle.live.proofs.CameLemmas.{came_so}
 use Rattle.live.proofs.DeskLemmas.{hears, hears_last, taken}
-use Rattle.live.proofs.LostLemmas.{ends_so, loses_so, replies_so}
+use Rattle.live.proofs.LostLemmas.{replies_so, shown_so}
 use Rattle.live.proofs.TellingLemmas.{goes_further, tells_same}
 use Rattle.live.proofs.hearing.hear.Goals as goal
 
@@ -23,16 +23,14 @@ returns-in-Err-clause-goes g c = λ bytes logs turns reads came.
     let answer = c.take-received.ensures in
     let calls = taken c.args.sheet.now c.args.desk.now c.take-received.new.self bytes what c.take-received.result.reply _ _
     answer.owner (answer.step bytes reads) answer.blame c.hand_back.ensures in
-    let of = c.position_in-of in
-    let ends = ap (λ reach. end_given reach what) c.is_in_reach-in_reach.ensures
-    ∙ ends_so _ _ _ _ bytes c.args.read.now what calls.out of.result calls.step reads of.ensures in
-    let passed = c.is_passed_over.ensures ∙ ap (λ p. is_before of.result p && not c.is_some.result) c.position-at.ensures in
-    let loses = c.loss_of-loss.ensures ∙ (λ i. loss_of c.is_another-another.result (passed i) what)
-    ∙ loses_so _ _ _ _ bytes c.args.read.now what calls.out of.result c.is_another-another.result c.is_some.result calls.step reads of.ensures
-    c.is_another-another.ensures (λ asked. c.is_some.ensures ∙ replies_so _ _ _ _ bytes what c.take-received.result.reply (answer.step bytes reads) asked) in
+    let told = c.bearing_of-bearing.ensures in
+    let shown = c.evidence-evidence.ensures ∙ ap (λ (b : Bearing). evidence_of b what) c.behind.ensures
+    ∙ shown_so _ _ _ _ bytes c.args.read.now what calls.out c.bearing_of-bearing.result c.is_some.result calls.step reads
+    told.another told.passed_over told.in_reach told.level
+    (λ asked. c.is_some.ensures ∙ replies_so _ _ _ _ bytes what c.take-received.result.reply (answer.step bytes reads) asked) in
     hears_last {ticking = ticking_of c.args.between.now.pace} what c.in-Err.end c.args.between.now.pace.in_time (returns-in-Err-clause-ticking g c) calls came
-    (c.after-between.ensures ∙ ap (λ loss. warned_after c.args.between.now.warned loss what) loses)
-    (sym ends ∙ sym c.end_given.ensures ∙ c.in-Err.is)
+    (c.after-between.ensures ∙ ap (λ evidence. warned_after c.args.between.now.warned evidence what) shown)
+    (sym c.end_at.ensures ∙ c.in-Err.is)
 
 pub returns-clause-goes : goal.returns-clause-goes
 returns-clause-goes g c = λ bytes logs turns reads came.
@@ -43,21 +41,19 @@ returns-clause-goes g c = λ bytes logs turns reads came.
     let calls = taken sheet desk c.take-received.new.self bytes what c.take-received.result.reply _ _
     answer.owner (answer.step bytes reads) answer.blame c.hand_back.ensures in
     let innings = ap g.B.BookOf.innings_a_side c.book.ensures ∙ calls.same.innings_a_side in
-    let of = c.position_in-of in
-    let ends = ap (λ reach. end_given reach what) c.is_in_reach-in_reach.ensures
-    ∙ ends_so _ _ _ _ bytes c.args.read.now what calls.out of.result calls.step reads of.ensures in
-    let passed = c.is_passed_over.ensures ∙ ap (λ p. is_before of.result p && not c.is_some.result) c.position-at.ensures in
-    let loses = c.loss_of-loss.ensures ∙ (λ i. loss_of c.is_another-another.result (passed i) what)
-    ∙ loses_so _ _ _ _ bytes c.args.read.now what calls.out of.result c.is_another-another.result c.is_some.result calls.step reads of.ensures
-    c.is_another-another.ensures (λ asked. c.is_some.ensures ∙ replies_so _ _ _ _ bytes what c.take-received.result.reply (answer.step bytes reads) asked) in
-    let further = sym ends ∙ sym c.end_given.ensures ∙ c.in_default.is in
+    let told = c.bearing_of-bearing.ensures in
+    let shown = c.evidence-evidence.ensures ∙ ap (λ (b : Bearing). evidence_of b what) c.behind.ensures
+    ∙ shown_so _ _ _ _ bytes c.args.read.now what calls.out c.bearing_of-bearing.result c.is_some.result calls.step reads
+    told.another told.passed_over told.in_reach told.level
+    (λ asked. c.is_some.ensures ∙ replies_so _ _ _ _ bytes what c.take-received.result.reply (answer.step bytes reads) asked) in
+    let further = sym c.end_at.ensures ∙ c.in_default.is in
     hears {ticking = ticking_of c.args.between.now.pace} what c.args.between.now.pace.in_time (returns-clause-ticking g c) calls came
-    (c.after-between.ensures ∙ ap (λ loss. warned_after c.args.between.now.warned loss what) loses)
+    (c.after-between.ensures ∙ ap (λ evidence. warned_after c.args.between.now.warned evidence what) shown)
     (goes_further c.print_came.result c.told.result c.told.ensures ∙ sym further)
     (tells_same c.print_came.result c.told.result _ _ c.told.ensures
     ((λ i. came_text sheet (innings i) (c.position-at.ensures i).place (c.own_line.ensures.value i) c.entry_in.result
-    (g.B.BookOf.content (c.book.ensures i)) c.args.between.now.warned (loses i) what)
+    (g.B.BookOf.content (c.book.ensures i)) c.args.between.now.warned (shown i) what)
     ∙ came_so _ _ _ _ bytes c.args.read.now what calls.out c.entry_in.result calls.step reads c.entry_in.ensures.vote sheet (innings_of desk)
     (state_of desk).seat.position.place (own_line (state_of desk)) (state_of c.take-received.new.self).book c.args.between.now.warned
-    (loss_in (state_of desk) bytes what))
+    (shown_by (state_of desk) bytes what))
     c.print_came.ensures.text)

@@ -4,7 +4,7 @@ use Rattle.agree_core.specs.declared.messages.Vote.{Vote}
 use Rattle.agree_core.specs.LostLines.{is_another}
 use Rattle.agree_core.specs.Positions.{position_of}
 use Rattle.desk.specs.Desk.{state_of}
-use Rattle.live.proofs.hearing.is_another.Goals as goal
+use Rattle.live.proofs.lost_lines.is_another.Goals as goal
 
 pub is_another_vote-requires : goal.is_another_vote-requires
 is_another_vote-requires g c = (rw c.in-Ok-Vote.field-0-is at (c.requires c.in-Ok-Vote.field-0 c.in-Ok-Vote.is)).1
