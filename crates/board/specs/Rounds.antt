@@ -1,11 +1,12 @@
 -- The rounds that a board has heard whole, and the votes that no desk casts whose file has all its lines.
-use Rattle.std.specs.Prelude.{◌≡◌, ◌≢◌, ◌<◌, ◌⊎◌, ℕ, Bool, true, ◌==◌, ◌&&◌, ◌||◌, not, nat_lt, if◌then◌else◌, List, [], ◌∷◌, ◌++◌, length, Option, Some, None}
+use Rattle.std.specs.Prelude.{◌≡◌, ◌≢◌, ◌<◌, ◌⊎◌, ℕ, Bool, true, ◌==◌, ◌&&◌, ◌||◌, not, nat_lt, if◌then◌else◌, List, [], ◌∷◌, ◌++◌, find, length, Option, Some, None, option_map}
 use Rattle.std.specs.List.{list_any}
 use Rattle.std.specs.Str.{bytes_eq}
 use Rattle.notation.specs.Code.{code}
 use Rattle.notation.specs.Written.{IsEntry}
 use Rattle.notation.specs.declared.entry.Entry.{Entry}
-use Rattle.agree_core.specs.declared.messages.{DeskId.DeskId, Vote.Vote}
+use Rattle.agree_core.specs.declared.messages.{Asker.Asker, DeskId.DeskId, Message.Message, Vote.Vote}
+use Rattle.agree_core.specs.declared.position.Position.{Position}
 use Rattle.agree_core.specs.declared.messages.DeskId.TheVariants.{A, B}
 use Rattle.agree_core.specs.LostLines.{is_at}
 use Rattle.agree_core.specs.Positions.{position_of}
@@ -51,6 +52,31 @@ whole_round r (Some e) = whole_with r r.a r.b e
 abbrev pub with_round : List Round → Option Round → List Round
 with_round rounds None = rounds
 with_round rounds (Some round) = if nat_lt (length rounds) MOST_ROUNDS then rounds ++ round ∷ [] else rounds
+
+-- ---- a desk's own vote goes back to it
+
+-- its vote in a round
+abbrev pub vote_in : DeskId → Round → Vote
+vote_in d round = record { desk = d; place = round.at.place; round = round.at.round; entry = cast_by d round }
+
+abbrev pub is_of : Position → Round → Bool
+is_of at round = is_at round.at at
+
+-- the desk that asks, where one does
+abbrev pub desk_asking : Asker → Option DeskId
+desk_asking Asker.A = Some A
+desk_asking Asker.B = Some B
+desk_asking Asker.Board = None
+
+abbrev pub recalled_at : List Round → Option DeskId → Position → Option Vote
+recalled_at rounds None at = None
+recalled_at rounds (Some d) at = option_map (vote_in d) (find (is_of at) rounds)
+
+-- A desk that votes against a round that was heard lacks its vote there. And one that asks for the votes of a position at which
+-- it has voted may lack that: it knows by its file.
+abbrev pub recalled : List Round → Message → Option Vote
+recalled rounds (Message.Vote v) = option_map (vote_in v.desk) (find (is_against v) rounds)
+recalled rounds (Message.Ask q) = recalled_at rounds (desk_asking q.from) (record { place = q.place; round = q.round })
 
 -- ---- a split is seen
 

@@ -1,9 +1,11 @@
 //! What a board remembers of the rounds that it has heard, and which votes show by it that a desk's file lacks lines.
 
-ghost use Rattle.std.specs.Prelude.{◌≡◌, ◌<◌, ◌≤◌, ◌∷◌, ◌++◌, IfOk, [], vec_capacity, vec_len};
+ghost use Rattle.std.specs.Prelude.{◌≡◌, ◌<◌, ◌≤◌, ◌∷◌, ◌++◌, IfOk, IfSome, [], find, option_map, vec_capacity, vec_len};
+ghost use Rattle.agree_core.specs.Positions.{InRange, position_of};
 ghost use Rattle.board.specs.Rounds as laws;
+ghost use Rattle.wire.specs.Layout.{is_at};
 
-use agree_core::{DeskId, Position, Vote};
+use agree_core::{Ask, Asker, DeskId, Message, Position, Vote};
 use notation::{Entry, code_of};
 use std::alloc::{AllocError, Global};
 use std::marker::Model;
@@ -58,6 +60,35 @@ impl Round {
     {
         self.is_another(vote) || self.is_later(vote)
     }
+
+    fn is_of(&self, at: Position) -> bool
+        ensures { result ≡ laws.is_of at self.now }
+    {
+        self.at.place == at.place && self.at.round == at.round
+    }
+
+    /// A desk's vote in it.
+    fn vote_of(&self, desk: DeskId) -> Vote
+        ensures { result ≡ laws.vote_in desk self.now }
+    {
+        Vote {
+            desk,
+            place: self.at.place,
+            round: self.at.round,
+            entry: *self.cast_by(desk),
+        }
+    }
+}
+
+/// The desk that asks, where one does.
+fn desk_asking(asker: Asker) -> Option<DeskId>
+    ensures { result ≡ laws.desk_asking asker }
+{
+    match asker {
+        Asker::A => Some(DeskId::A),
+        Asker::B => Some(DeskId::B),
+        Asker::Board => None,
+    }
 }
 
 /// The rounds that a board has heard whole, the oldest first. Its memory is taken at once.
@@ -96,12 +127,47 @@ impl Witness {
         })
     }
 
-    /// Whether a vote shows that a desk's file lacks lines that were heard: it is another one of that desk for a position,
-    /// or in a later round of a place than the one in which both desks voted alike.
-    pub fn parts(&self, vote: &Vote) -> bool
-        ensures { result ≡ laws.parts self.now vote.now }
+    /// A desk's own vote, where another of its votes shows that its file lacks it: that is another one for a position, or in a
+    /// later round of a place than the one in which both desks voted alike.
+    fn recalled_by_vote(&self, vote: &Vote) -> Option<Vote>
+        ensures { result ≡ laws.recalled self.now (Message.Vote vote.now) }
     {
-        self.rounds.iter().any(|round| round.is_against(vote))
+        let round = self.rounds.iter().find(|round| round.is_against(vote))?;
+        Some(round.vote_of(vote.desk))
+    }
+
+    /// A desk's vote for a position, where it was heard.
+    fn vote_at(&self, desk: DeskId, at: Position) -> Option<Vote>
+        ensures { result ≡ option_map (laws.vote_in desk) (find (laws.is_of at) self.now) }
+    {
+        let round = self.rounds.iter().find(|round| round.is_of(at))?;
+        Some(round.vote_of(desk))
+    }
+
+    /// The vote of the desk that asks for the votes of a position, where it was heard.
+    fn recalled_by_ask(&self, ask: &Ask) -> Option<Vote>
+        ensures { result ≡ laws.recalled self.now (Message.Ask ask.now) }
+    {
+        let at = Position {
+            place: ask.place,
+            round: ask.round,
+        };
+        match desk_asking(ask.from) {
+            Some(desk) => self.vote_at(desk, at),
+            None => None,
+        }
+    }
+
+    /// The own vote of the desk that says this, where it goes back to that desk: its file lacks it, as a vote of it shows, or
+    /// may lack it, where it asks.
+    pub fn recalled(&self, message: &Message) -> Option<Vote>
+        ensures vote { result ≡ laws.recalled self.now message.now }
+        ensures range { InRange (is_at message.now) → IfSome result (λ v. InRange (position_of v)) }
+    {
+        match message {
+            Message::Vote(vote) => self.recalled_by_vote(vote),
+            Message::Ask(ask) => self.recalled_by_ask(ask),
+        }
     }
 
     /// Remembers a round, if there is one.

@@ -16,12 +16,11 @@ use Rattle.cards.specs.Board.{board as board_text}
 use Rattle.cards.specs.Sheet.{Sheet}
 use Rattle.board.specs.declared.{refusal.BoardRefusal.BoardRefusal, board.Board.Board, trouble.Why.Why}
 use Rattle.board.specs.Board.{SameMatch, book_of, game_of, state_of}
-use Rattle.board.specs.Rounds.{parts}
 use Rattle.board.specs.Takes.{Takes}
-use Rattle.links.specs.Passed.{Passed, Came, sends}
-use Rattle.links.specs.declared.link.Receivers.TheVariants.{ToAll}
+use Rattle.links.specs.Passed.{Passed, Came, Sent, sends}
+use Rattle.links.specs.declared.link.Receivers.TheVariants.{ToAll, ToOne}
 use Rattle.live.specs.Runs.{Goes, Logs, known_where, with_told}
-use Rattle.live.specs.Boards.{Asks, BoardCall, BoardGoes, BoardLives, BoardRuns, BoardTurn, Given, IsApart, Looked, Memory, Parted, PassedBy, Read, Ticked, ToldApart, TurnEnded, TurnStep, Unopened}
+use Rattle.live.specs.Boards.{Asks, BoardCall, BoardGoes, BoardLives, BoardRuns, BoardTurn, Given, IsApart, Looked, Memory, Parted, PartsNothing, PassedBy, Read, Recalled, Recalls, RecallsNone, Ticked, ToldApart, TurnEnded, TurnStep, Unopened}
 use Rattle.live.specs.Boards.{at_turn, beat_of, board_kind, given, in_turn, memory_given, memory_troubled, memory_unopened, shown, sight_at, unheard}
 use Rattle.live.specs.Sights.{Sight}
 use Rattle.live.specs.Ticks.{IsInTime, Ticking, after_look, reads, unticked}
@@ -68,32 +67,42 @@ module _ {B : Type 0} {g : _} {content : B → List Entry} {innings_of : B → �
     -- it was given bytes
     pub given_to : {l : Board B g} (bytes : List ℕ) (answer : Result What BoardRefusal) {later : Memory} {heard : Ticking} {notes : List Notice}
         → IsInTime ticking → heard ≡ ticking → taken < MOST_TAKEN → is_stopped memory.telling ≡ false
-        → ((v : Vote) → Says (game_of k) bytes (Message.Vote v) → parts memory.rounds v ≡ false) → SameMatch innings_of k l
+        → RecallsNone (game_of k) memory.rounds bytes → SameMatch innings_of k l
         → Takes (book_refusal (innings_of (book_of k))) (game_of k) (state_of content k) bytes answer (state_of content l)
         → later ≡ memory_given (state_of content k) memory bytes answer → notes ≡ notices_after memory.telling noted answer
         → BoardGoes content innings_of sheet k l (in_turn content k turns had taken memory ticking noted seen) (in_turn content l turns had (taken + 1) later heard notes seen)
         a (record a { passed = a.passed ++ Came bytes ∷ [] })
-    given_to {l = l} bytes answer beats stands few running whole same takes tells notices =
+    given_to {l = l} bytes answer beats stands few running kept same takes tells notices =
         called (Given bytes answer) [] same (All-nil IsMessage)
-        ((few, running, whole), (takes, refl), (λ i. in_turn content l turns had (taken + 1) (tells i) (stands i) (notices i) seen), beats) refl refl (rw append-nil) (appends_none a.told)
+        ((few, running, kept), (takes, refl), (λ i. in_turn content l turns had (taken + 1) (tells i) (stands i) (notices i) seen), beats) refl refl (rw append-nil) (appends_none a.told)
 
-    -- bytes came that show that a desk's file lacks lines
-    pub parted : (bytes : List ℕ) (v : Vote) {later : Memory} {passed : Ticking} {notes : List Notice} → IsInTime ticking → passed ≡ ticking → taken < MOST_TAKEN
-        → is_stopped memory.telling ≡ false → Says (game_of k) bytes (Message.Vote v) → parts memory.rounds v ≡ true
+    -- bytes came that show that a desk's file lacks lines, and its own vote went back to it
+    pub parted : (bytes back : List ℕ) (v : Vote) {later : Memory} {passed : Ticking} {notes : List Notice} {after : List Passed} → IsInTime ticking → passed ≡ ticking
+        → taken < MOST_TAKEN → is_stopped memory.telling ≡ false → Says (game_of k) bytes (Message.Vote v) → Recalls (game_of k) memory.rounds (Message.Vote v) back
         → later ≡ memory_troubled memory (place_in bytes) Why.Anew → notes ≡ noted ++ Notice.Parted (place_in bytes) ∷ []
+        → after ≡ a.passed ++ Came bytes ∷ Sent ToOne back ∷ []
         → BoardGoes content innings_of sheet k k (in_turn content k turns had taken memory ticking noted seen) (in_turn content k turns had (taken + 1) later passed notes seen)
-        a (record a { passed = a.passed ++ Came bytes ∷ [] })
-    parted bytes v beats stands few running says against tells notices =
-        called (Parted bytes) [] same_here (All-nil IsMessage)
-        ((few, running, v, says, against), (refl, refl), (λ i. in_turn content k turns had (taken + 1) (tells i) (stands i) (notices i) seen), beats)
-        refl refl (rw append-nil) (appends_none a.told)
+        a (record a { passed = after })
+    parted bytes back v beats stands few running says recalls tells notices passed =
+        called (Parted bytes back) [] same_here (All-nil IsMessage)
+        ((few, running, v, says, recalls), (refl, refl), (λ i. in_turn content k turns had (taken + 1) (tells i) (stands i) (notices i) seen), beats)
+        passed refl (rw append-nil) (appends_none a.told)
+
+    -- or that may show it
+    pub gone_back : (bytes back : List ℕ) (m : Message) {after : List Passed} → IsInTime ticking → taken < MOST_TAKEN → Says (game_of k) bytes m
+        → PartsNothing (is_stopped memory.telling) m → Recalls (game_of k) memory.rounds m back → after ≡ a.passed ++ Came bytes ∷ Sent ToOne back ∷ []
+        → BoardGoes content innings_of sheet k k (in_turn content k turns had taken memory ticking noted seen) (in_turn content k turns had (taken + 1) memory ticking noted seen)
+        a (record a { passed = after })
+    gone_back bytes back m beats few says nothing recalls passed =
+        called (Recalled bytes back) [] same_here (All-nil IsMessage) ((few, m, says, nothing, recalls), (refl, refl), refl, beats)
+        passed refl (rw append-nil) (appends_none a.told)
 
     -- bytes came once it had stopped
-    pub passed_by : (bytes : List ℕ) → IsInTime ticking → taken < MOST_TAKEN → is_stopped memory.telling ≡ true
+    pub passed_by : (bytes : List ℕ) → IsInTime ticking → taken < MOST_TAKEN → is_stopped memory.telling ≡ true → RecallsNone (game_of k) memory.rounds bytes
         → BoardGoes content innings_of sheet k k (in_turn content k turns had taken memory ticking noted seen) (in_turn content k turns had (taken + 1) memory ticking noted seen)
         a (record a { passed = a.passed ++ Came bytes ∷ [] })
-    passed_by bytes beats few over =
-        called (PassedBy bytes) [] same_here (All-nil IsMessage) ((few, over), (refl, refl), refl, beats) refl refl (rw append-nil) (appends_none a.told)
+    passed_by bytes beats few over kept =
+        called (PassedBy bytes) [] same_here (All-nil IsMessage) ((few, over, kept), (refl, refl), refl, beats) refl refl (rw append-nil) (appends_none a.told)
 
     -- it told that the desks told it different lines
     pub told_apart : {later : Memory} {passed : Ticking} {notes : List Notice} → IsInTime ticking → passed ≡ ticking

@@ -26,9 +26,9 @@ use Rattle.wire.specs.Sent.{AreSent}
 use Rattle.wire.specs.declared.{fault.WireFault.WireFault, what.What.What}
 use Rattle.wire.proofs.FaultLemmas.{reads_once}
 use Rattle.wire.proofs.MessageLemmas.{asker_of, code_in, place_of, round_of}
-use Rattle.live.specs.LostLines.{asker_in, evidence, evidence_of, is_other, position_in}
+use Rattle.live.specs.LostLines.{asker_in, evidence, evidence_of, is_other, is_other_last, is_unkept, position_in}
 use Rattle.live.specs.declared.lost_lines.Bearing.{Bearing}
-use Rattle.station_texts.specs.declared.doubt.Evidence.TheVariants.{Nothing, OtherLacks, Ahead, Level}
+use Rattle.station_texts.specs.declared.doubt.Evidence.TheVariants.{Nothing, OtherLacks, Ahead, Unkept, Level}
 
 -- the position that bytes say is that of their message
 pub position_of_message : (game : ℕ) (bytes : List ℕ) (m : Message) → Says game bytes m → position_in bytes ≡ message_at m
@@ -51,6 +51,14 @@ module _ (s : SeatState) (at : Position) (entry : List ℕ) where
       then is_at (if bytes_eq entry (code v.entry) then next_round (position_of v) else next_place (position_of v)) s.position
       else is_before (position_of v) at)
   by_last desk votes v e = grind arith
+
+-- nor is its last one another one than this
+pub none_last : (at : Position) (entry : List ℕ) (desk : DeskId) (votes : List Ballot) → last_vote desk votes ≡ None → is_other_last votes at entry ≡ false
+none_last at entry desk votes e = grind arith
+
+pub other_last : (at : Position) (entry : List ℕ) (desk : DeskId) (votes : List Ballot) (v : Vote) → last_vote desk votes ≡ Some v
+    → is_other_last votes at entry ≡ (is_at (position_of v) at && not (bytes_eq entry (code v.entry)))
+other_last at entry desk votes v e = grind arith
 
 -- a test of two entries is that of their codes
 pub is_coded : (r : Bool) (e f : Entry) → IsEntry e → IsEntry f → IsTrue r ↔ (e ≡ f) → r ≡ bytes_eq (code e) (code f)
@@ -106,20 +114,32 @@ module _ {Disk : Type 0} (view : FileView Disk) (game : ℕ) (k l : DeskState Di
       ∙ sym (λ i. is_another k.seat k.votes (position_of_message game bytes (Message.Vote v) says i) (code_in game bytes v says i))
   another_so_read bytes read h out another (Message.Ask q) says r reads a = absurd r
 
+  unkept_so_read : (bytes : List ℕ) (read : Result Message WireFault) (h : Heard) (out : List Message) (unkept : Bool) (m : Message) → Says game bytes m
+      → Receives view k m (Told h) l out → Reads game bytes read
+      → ((v : Vote) → read ≡ Ok (Message.Vote v) → unkept ≡ is_unkept k.seat k.votes (position_of v) (code v.entry))
+      → unkept ≡ is_unkept k.seat k.votes (position_in bytes) (body_in bytes)
+  unkept_so_read bytes read h out unkept (Message.Vote v) says r reads a =
+      a v (reads_once game bytes read (Ok (Message.Vote v)) reads says)
+      ∙ sym (λ i. is_unkept k.seat k.votes (position_of_message game bytes (Message.Vote v) says i) (code_in game bytes v says i))
+  unkept_so_read bytes read h out unkept (Message.Ask q) says r reads a = absurd r
+
   pub shown_so : (bytes : List ℕ) (read : Result Message WireFault) (what : What) (out : List Message) (b : Bearing) (has_reply : Bool)
       → Takes view game k bytes what l out → Reads game bytes read
       → ((v : Vote) → read ≡ Ok (Message.Vote v) → b.another ≡ is_another k.seat k.votes (position_of v) (code v.entry))
+      → ((v : Vote) → read ≡ Ok (Message.Vote v) → b.unkept ≡ is_unkept k.seat k.votes (position_of v) (code v.entry))
       → ForOk read (λ m. b.passed_over ≡ is_before (message_at m) k.seat.position) → ForOk read (λ m. b.in_reach ≡ is_in_reach k.seat (message_at m))
       → ((q : Ask) → read ≡ Ok (Message.Ask q)
       → b.is_level ≡ (is_at (message_at (Message.Ask q)) k.seat.position && is_other k.seat.desk (Some q.from)))
       → (what ≡ What.Asked → has_reply ≡ is_voted k.votes (position_in bytes))
       → evidence_of (record b { passed_over = b.passed_over && not has_reply }) what ≡ evidence k.seat k.votes bytes what
-  shown_so bytes read (What.Heard Heard.Old) out b has_reply t reads another passed reach level replied =
+  shown_so bytes read (What.Heard Heard.Old) out b has_reply t reads another unkept passed reach level replied =
       ap (λ (x : Bool). if x then OtherLacks else Nothing) (another_so_read bytes read Heard.Old out b.another t.0 t.1 t.2 reads another)
-  shown_so bytes read (What.Heard Heard.Ahead) out b has_reply t reads another passed reach level replied =
+  shown_so bytes read (What.Heard Heard.Mine) out b has_reply t reads another unkept passed reach level replied =
+      ap (λ (x : Bool). if x then Unkept else Nothing) (unkept_so_read bytes read Heard.Mine out b.unkept t.0 t.1 t.2 reads unkept)
+  shown_so bytes read (What.Heard Heard.Ahead) out b has_reply t reads another unkept passed reach level replied =
       ap (λ (x : Bool). if x then Nothing else Ahead) (reach_so bytes read t.0 b.in_reach t.1 reads reach)
-  shown_so bytes read What.Asked out b has_reply (Message.Vote v, says, r) reads another passed reach level replied = absurd r
-  shown_so bytes read What.Asked out b has_reply (Message.Ask q, says, r) reads another passed reach level replied =
+  shown_so bytes read What.Asked out b has_reply (Message.Vote v, says, r) reads another unkept passed reach level replied = absurd r
+  shown_so bytes read What.Asked out b has_reply (Message.Ask q, says, r) reads another unkept passed reach level replied =
       let is : read ≡ Ok (Message.Ask q) = reads_once game bytes read (Ok (Message.Ask q)) reads says in
       let here = position_of_message game bytes (Message.Ask q) says in
       let who : Some q.from ≡ asker_in bytes = sym (asker_of game bytes q says) in
@@ -127,4 +147,4 @@ module _ {Disk : Type 0} (view : FileView Disk) (game : ℕ) (k l : DeskState Di
       let has = replied refl in
       let level_is = level q is ∙ (λ i. is_at (sym here i) k.seat.position && is_other k.seat.desk (who i)) in
       λ i. if over i && not (has i) then OtherLacks else (if level_is i then Level else Nothing)
-  shown_so bytes read what out b has_reply t reads another passed reach level replied = refl
+  shown_so bytes read what out b has_reply t reads another unkept passed reach level replied = refl

@@ -1,5 +1,5 @@
 -- The rounds that a board's process remembers, and which desks it has heard to be ahead.
-use Rattle.std.proofs.Common.{◌≡◌, ◌∙◌, ℕ, Bool, true, false, List, Option, Some, None, Result, Ok, refl, sym, ap, ap₂, nat_lt}
+use Rattle.std.proofs.Common.{arith, append_assoc, ◌≡◌, ◌∙◌, ◌++◌, ◌∷◌, [], ℕ, Bool, true, false, List, Option, Some, None, Result, Ok, refl, sym, ap, ap₂, nat_lt}
 use Rattle.std.specs.Prelude.{if◌then◌else◌}
 use Rattle.notation.specs.declared.entry.Entry.{Entry}
 use Rattle.agree_core.specs.declared.{messages.DeskId.DeskId, messages.Message.Message, messages.Vote.Vote, seat.Heard.Heard}
@@ -12,11 +12,22 @@ use Rattle.wire.specs.declared.{fault.WireFault.WireFault, what.What.What}
 use Rattle.wire.proofs.FaultLemmas.{reads_once}
 use Rattle.wire.proofs.MessageLemmas.{place_of, voter_of}
 use Rattle.board.specs.declared.{refusal.BoardRefusal.BoardRefusal, witness.Round.Round}
-use Rattle.board.specs.Rounds.{parts, whole_round, with_round}
+use Rattle.board.specs.Rounds.{recalled, whole_round, with_round}
 use Rattle.board.specs.Takes.{Takes}
-use Rattle.live.specs.Boards.{desk_ahead, desk_ahead_in, later_after, rounds_after, settles, with_desk}
+use Rattle.links.specs.Passed.{Passed, Came, Sent}
+use Rattle.links.specs.declared.link.Receivers.TheVariants.{ToOne}
+use Rattle.live.specs.Boards.{RecallsNone, desk_ahead, desk_ahead_in, later_after, rounds_after, settles, with_desk}
 use Rattle.live.specs.declared.later.Later.{Later}
 use Rattle.live.proofs.HiddenLemmas.{entry_of_vote}
+
+-- what was read is one message
+pub ok_same : (r : Result Message WireFault) (m n : Message) → r ≡ Ok m → r ≡ Ok n → m ≡ n
+ok_same r m n e f = grind arith
+
+-- bytes came, and others went back
+pub two_passed : (log : List Passed) (bytes back : List ℕ) {after : List Passed} → after ≡ (log ++ Came bytes ∷ []) ++ Sent ToOne back ∷ []
+    → after ≡ log ++ Came bytes ∷ Sent ToOne back ∷ []
+two_passed log bytes back e = grind (arith, e, append_assoc)
 
 module _ {Why : Type 0} (rules : Rules Why) (game : ℕ) (k l : BoardState) (bytes : List ℕ) where
   -- a round is made whole by a vote
@@ -61,7 +72,7 @@ module _ {Why : Type 0} (rules : Rules Why) (game : ℕ) (k l : BoardState) (byt
     later_noted (Ok (What.Heard Heard.Ahead)) place desk later is (Message.Ask q, says, r) = absurd r
     later_noted answer place desk later is takes = refl
 
-  -- what doesn't part, read so, doesn't by its bytes
-  pub unparted : (read : Result Message WireFault) → Reads game bytes read → (rounds : List Round) → ((v : Vote) → read ≡ Ok (Message.Vote v) → parts rounds v ≡ false)
-      → (v : Vote) → Says game bytes (Message.Vote v) → parts rounds v ≡ false
-  unparted read reads rounds h v says = h v (reads_once game bytes read (Ok (Message.Vote v)) reads says)
+  -- where no vote goes back by what was read, none does by its bytes
+  pub unrecalled : (read : Result Message WireFault) → Reads game bytes read → (rounds : List Round) → ((m : Message) → read ≡ Ok m → recalled rounds m ≡ None)
+      → RecallsNone game rounds bytes
+  unrecalled read reads rounds h m says = h m (reads_once game bytes read (Ok m) reads says)

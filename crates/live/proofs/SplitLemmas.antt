@@ -9,6 +9,7 @@ use Rattle.wire.proofs.MessageLemmas.{place_of}
 use Rattle.std.specs.Prelude.{Result}
 use Rattle.board.specs.Rounds.{parts}
 use Rattle.board.specs.declared.refusal.BoardRefusal.{BoardRefusal}
+use Rattle.board.proofs.Recalling.{parts_recalled}
 use Rattle.board.proofs.Splits.{splits_are_seen}
 use Rattle.live.specs.Boards.{BoardTurn, Given, Parted, TurnStep}
 use Rattle.live.specs.Splits.{SplitsAreTold}
@@ -18,10 +19,10 @@ use Rattle.station_texts.specs.declared.notices.Notice.{Notice}
 module _ (sheet : Sheet) (game innings : ℕ) (k l : BoardTurn) (v : Vote) (bytes : List ℕ) (out : List Message) (says : Says game bytes (Message.Vote v))
     (parted : parts k.memory.rounds v ≡ true) where
   not_given : (answer : Result What BoardRefusal) → TurnStep sheet game innings k (Given bytes answer) out l → ⊥
-  not_given answer step = let none = step.0.2 v says in cc (none, parted)
+  not_given answer step = let none = step.0.2 (Message.Vote v) says in let is = parts_recalled v k.memory.rounds in cc (none, parted, is)
 
-  told : TurnStep sheet game innings k (Parted bytes) out l → (l.notices ≡ k.notices ++ Notice.Parted v.place ∷ []) × (is_stopped l.memory.telling ≡ true)
-  told step = (
+  told : (back : List ℕ) → TurnStep sheet game innings k (Parted bytes back) out l → (l.notices ≡ k.notices ++ Notice.Parted v.place ∷ []) × (is_stopped l.memory.telling ≡ true)
+  told back step = (
     ap (λ (t : BoardTurn). t.notices) step.2 ∙ ap (λ (n : ℕ). k.notices ++ Notice.Parted n ∷ []) (place_of game bytes (Message.Vote v) says),
     ap (λ (t : BoardTurn). is_stopped t.memory.telling) step.2,
   )

@@ -6,18 +6,18 @@ use Rattle.corrections.specs.Refusal.{book_refusal}
 use Rattle.agree_core.specs.declared.{messages.DeskId.DeskId, messages.Message.Message, messages.Vote.Vote, position.Position.Position, seat.Heard.Heard}
 use Rattle.agree_core.specs.Boards.{BoardState, BoardTicks}
 use Rattle.vote_store.specs.Record.{entry_coded}
-use Rattle.wire.specs.Layout.{IsMessage, Says, body_in}
+use Rattle.wire.specs.Layout.{IsMessage, Says, body_in, written}
 use Rattle.wire.specs.inner.Fields.{desk_numbered, place_in}
 use Rattle.wire.specs.declared.what.What.{What}
 use Rattle.cards.specs.Sheet.{Sheet}
 use Rattle.cards.specs.Board.{board as board_text}
 use Rattle.board.specs.declared.{refusal.BoardRefusal.BoardRefusal, board.Board.Board, trouble.Trouble.Trouble, trouble.Why.Why, witness.Round.Round}
 use Rattle.board.specs.Board.{SameMatch, book_of, game_of, state_of}
-use Rattle.board.specs.Rounds.{parts, whole_round, with_round}
+use Rattle.board.specs.Rounds.{recalled, whole_round, with_round}
 use Rattle.board.specs.Takes.{Takes}
 use Rattle.station_texts.specs.Notices.{is_stopped, notices_after, notices_unopened, opens, telling_after, telling_unopened, untold, with_trouble}
-use Rattle.links.specs.Passed.{Passed, Came, sends}
-use Rattle.links.specs.declared.link.Receivers.TheVariants.{ToAll}
+use Rattle.links.specs.Passed.{Passed, Came, Sent, sends}
+use Rattle.links.specs.declared.link.Receivers.TheVariants.{ToAll, ToOne}
 use Rattle.live.specs.Runs.{Goes, Kind, Logs, known_where, with_told}
 use Rattle.live.specs.Sights.{Sight, sight_of}
 use Rattle.live.specs.Ticks.{Beat, Look, MayBeat, Other, Reading, Tick, Ticking, TurnEnd, after_beat, unticked}
@@ -25,12 +25,14 @@ use Rattle.links.specs.declared.link.TheConstants.{MOST_TAKEN}
 use Rattle.station_texts.specs.declared.{notices.Notice.Notice, notices.Telling.Telling}
 use Rattle.live.specs.declared.later.Later.{Later}
 
--- a call of a board: it is given bytes; bytes came that show that a desk's file lacks lines, or came once it has stopped, or
--- don't open, of which it is given nothing; it tells that the desks told it different lines; a look at its clock, whether a tick
--- is due, a tick, another reading of its clock, each with what it shows, or the end of a turn
+-- a call of a board: it is given bytes; bytes came that show that a desk's file lacks lines, or by which that may be, and those
+-- of that desk's own vote go back to it; or bytes came once it has stopped, or that don't open, of which it is given nothing; it
+-- tells that the desks told it different lines; a look at its clock, whether a tick is due, a tick, another reading of its clock,
+-- each with what it shows, or the end of a turn
 pub data BoardCall : Type 0 where
   Given : List ℕ → Result What BoardRefusal → BoardCall
-  Parted : List ℕ → BoardCall
+  Parted : List ℕ → List ℕ → BoardCall
+  Recalled : List ℕ → List ℕ → BoardCall
   PassedBy : List ℕ → BoardCall
   Unopened : BoardCall
   ToldApart : BoardCall
@@ -143,17 +145,33 @@ begun k turns memory ticking notices seen = record {
 abbrev pub IsApart : Position → Later → Type 0
 IsApart at later = (0 < at.round) × (later.a ≡ true) × (later.b ≡ true)
 
--- In a turn a board takes eight datagrams at most. It is given those that don't show, by the rounds that it has heard, that a
--- desk's file lacks lines; and none once it has stopped. That the desks told it different lines is told where it is so, unless
--- something was told that keeps it from going on; when, it sees by its clock.
+-- these bytes are of the vote that goes back to the desk that says this
+abbrev pub Recalls : ℕ → List Round → Message → List ℕ → Type 0
+Recalls game rounds m back = (v : Vote) × (recalled rounds m ≡ Some v) × (back ≡ written game (Message.Vote v))
+
+abbrev pub RecallsNone : ℕ → List Round → List ℕ → Type 0
+RecallsNone game rounds bytes = (m : Message) → Says game bytes m → recalled rounds m ≡ None
+
+-- an ask, or any message once the board has stopped, parts nothing
+abbrev pub PartsNothing : Bool → Message → Type 0
+PartsNothing stopped (Message.Vote v) = stopped ≡ true
+PartsNothing stopped (Message.Ask q) = Unit {0}
+
+-- In a turn a board takes eight datagrams at most. It is given those by which, as far as the rounds go that it has heard, no
+-- desk's file lacks lines; and none once it has stopped. To a desk whose file does, or may, its own vote goes back. That the desks
+-- told it different lines is told where it is so, unless something was told that keeps it from going on; when, it sees by its
+-- clock.
 abbrev pub MayCall : ℕ → BoardTurn → BoardCall → Type 0
 MayCall game k (Given bytes answer) =
+    (k.taken < MOST_TAKEN) × (is_stopped k.memory.telling ≡ false) × RecallsNone game k.memory.rounds bytes
+MayCall game k (Parted bytes back) =
     (k.taken < MOST_TAKEN) × (is_stopped k.memory.telling ≡ false)
-    × ((v : Vote) → Says game bytes (Message.Vote v) → parts k.memory.rounds v ≡ false)
-MayCall game k (Parted bytes) =
-    (k.taken < MOST_TAKEN) × (is_stopped k.memory.telling ≡ false)
-    × (v : Vote) × Says game bytes (Message.Vote v) × (parts k.memory.rounds v ≡ true)
-MayCall game k (PassedBy bytes) = (k.taken < MOST_TAKEN) × (is_stopped k.memory.telling ≡ true)
+    × (v : Vote) × Says game bytes (Message.Vote v) × Recalls game k.memory.rounds (Message.Vote v) back
+MayCall game k (Recalled bytes back) =
+    (k.taken < MOST_TAKEN)
+    × (m : Message) × Says game bytes m × PartsNothing (is_stopped k.memory.telling) m × Recalls game k.memory.rounds m back
+MayCall game k (PassedBy bytes) =
+    (k.taken < MOST_TAKEN) × (is_stopped k.memory.telling ≡ true) × RecallsNone game k.memory.rounds bytes
 MayCall game k Unopened = k.taken < MOST_TAKEN
 MayCall game k ToldApart =
     IsApart k.board.reader.position k.memory.later × (is_some k.memory.telling.trouble ≡ false)
@@ -172,13 +190,14 @@ after_call sheet innings k (Given bytes answer) l =
       memory = memory_given k.board k.memory bytes answer;
       notices = notices_after k.memory.telling k.notices answer;
     }
-after_call sheet innings k (Parted bytes) l =
+after_call sheet innings k (Parted bytes back) l =
     record k {
       board = l;
       taken = k.taken + 1;
       memory = memory_troubled k.memory (place_in bytes) Why.Anew;
       notices = k.notices ++ Notice.Parted (place_in bytes) ∷ [];
     }
+after_call sheet innings k (Recalled bytes back) l = record k { board = l; taken = k.taken + 1 }
 after_call sheet innings k (PassedBy bytes) l = record k { board = l; taken = k.taken + 1 }
 after_call sheet innings k ToldApart l =
     record k {
@@ -205,7 +224,8 @@ TurnStep sheet game innings k call out l =
 
 abbrev pub given : BoardCall → List Passed
 given (Given bytes answer) = Came bytes ∷ []
-given (Parted bytes) = Came bytes ∷ []
+given (Parted bytes back) = Came bytes ∷ Sent ToOne back ∷ []
+given (Recalled bytes back) = Came bytes ∷ Sent ToOne back ∷ []
 given (PassedBy bytes) = Came bytes ∷ []
 given call = []
 
@@ -220,7 +240,7 @@ shown sheet innings k TurnEnded l =
     grown (nat_eq (length k.board.book) k.had) (board_text sheet innings (history_of k.board.book))
 shown sheet innings k call l = []
 
--- all that a board says goes to all
+-- all that a board says by itself goes to all
 abbrev pub board_kind : Sheet → ℕ → ℕ → Kind BoardTurn BoardCall
 board_kind sheet game innings = record {
   game = game;

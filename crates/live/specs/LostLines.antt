@@ -1,13 +1,15 @@
 -- What bytes that came show of lines that one of both desks' files lacks.
-use Rattle.std.specs.Prelude.{ℕ, Bool, true, false, ◌&&◌, if◌then◌else◌, List, Option, Some, slice_index}
+use Rattle.std.specs.Prelude.{ℕ, Bool, true, false, ◌&&◌, ◌||◌, not, is_some, if◌then◌else◌, List, [], ◌∷◌, Option, Some, slice_index}
+use Rattle.std.specs.Str.{bytes_eq}
+use Rattle.notation.specs.Code.{code}
 use Rattle.agree_core.specs.declared.{messages.Asker.Asker, messages.DeskId.DeskId, position.Position.Position, seat.Heard.Heard}
 use Rattle.agree_core.specs.declared.messages.DeskId.TheVariants.{A, B}
 use Rattle.agree_core.specs.Ballots.{Ballot}
-use Rattle.agree_core.specs.LostLines.{is_another, is_at, is_in_reach, is_passed_over}
+use Rattle.agree_core.specs.LostLines.{is_another, is_at, is_before, is_in_reach, is_passed_over}
 use Rattle.agree_core.specs.Seats.{SeatState}
 use Rattle.live.specs.declared.lost_lines.Bearing.{Bearing}
 use Rattle.station_texts.specs.declared.doubt.Evidence.{Evidence}
-use Rattle.station_texts.specs.declared.doubt.Evidence.TheVariants.{Nothing, OtherLacks, Ahead, Level}
+use Rattle.station_texts.specs.declared.doubt.Evidence.TheVariants.{Nothing, OtherLacks, Ahead, Unkept, Level}
 use Rattle.wire.specs.declared.what.What.{What}
 use Rattle.wire.specs.Layout.{body_in}
 use Rattle.wire.specs.inner.Fields.{asker_numbered, place_in, round_in}
@@ -32,10 +34,24 @@ is_other d asker = false
 abbrev pub asked : Bearing → Evidence
 asked b = if b.passed_over then OtherLacks else (if b.is_level then Level else Nothing)
 
--- A vote shows that the other's file lacks lines where it is another one, and that this desk's does where it isn't in reach; by
--- the answer to it.
+-- The own vote isn't cast at this position: it is the desk's own, without one, or a later one.
+abbrev pub is_uncast : SeatState → Position → Bool
+is_uncast s at = not (is_before at s.position) && not (is_at at s.position && is_some s.mine)
+
+-- the last vote is for this position, and for another entry than that of this code
+abbrev pub is_other_last : List Ballot → Position → List ℕ → Bool
+is_other_last [] at entry = false
+is_other_last (b ∷ bs) at entry = is_at b.at at && not (bytes_eq entry (code b.entry))
+
+-- A vote of the desk itself, for this position and the entry of this code, isn't among its votes: so its file lacks it.
+abbrev pub is_unkept : SeatState → List Ballot → Position → List ℕ → Bool
+is_unkept s votes at entry = is_uncast s at || is_other_last votes at entry
+
+-- A vote shows that the other's file lacks lines where it is another one, and that this desk's does where it isn't in reach, or
+-- where it is a vote of its own that it hasn't; by the answer to it.
 abbrev pub evidence_of : Bearing → What → Evidence
 evidence_of b (What.Heard Heard.Old) = if b.another then OtherLacks else Nothing
+evidence_of b (What.Heard Heard.Mine) = if b.unkept then Unkept else Nothing
 evidence_of b (What.Heard Heard.Ahead) = if b.in_reach then Nothing else Ahead
 evidence_of b What.Asked = asked b
 evidence_of b what = Nothing
@@ -44,6 +60,7 @@ evidence_of b what = Nothing
 abbrev pub bearing_of : SeatState → List Ballot → List ℕ → Bearing
 bearing_of s votes bytes = record {
   another = is_another s votes (position_in bytes) (body_in bytes);
+  unkept = is_unkept s votes (position_in bytes) (body_in bytes);
   passed_over = is_passed_over s votes (position_in bytes);
   in_reach = is_in_reach s (position_in bytes);
   is_level = is_at (position_in bytes) s.position && is_other s.desk (asker_in bytes);

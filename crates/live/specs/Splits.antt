@@ -14,7 +14,7 @@ use Rattle.station_texts.specs.declared.notices.Notice.{Notice}
 
 -- In whatever turn of a board's process, whoever sent what it was given: where it heard both desks vote alike for an entry at a
 -- place, and they agree another one there, in whatever round, the vote of one of them isn't taken: as it comes, the board tells
--- that what stands there is written anew, and from then on takes nothing more.
+-- that what stands there is written anew, and from then on takes nothing more; and it hands that desk's own vote back to it.
 abbrev pub SplitsAreTold : Type 0
 SplitsAreTold =
     (sheet : Sheet) (game innings place round other : ℕ) (e f : Entry) (k : BoardTurn)
@@ -22,5 +22,5 @@ SplitsAreTold =
     → (d : DeskId) × ((bytes : List ℕ) (out : List Message) (l : BoardTurn)
     → Says game bytes (Message.Vote (record { desk = d; place = place; round = other; entry = f }))
     → ((answer : Result What BoardRefusal) → TurnStep sheet game innings k (Given bytes answer) out l → ⊥)
-    × (TurnStep sheet game innings k (Parted bytes) out l
+    × ((back : List ℕ) → TurnStep sheet game innings k (Parted bytes back) out l
     → (l.notices ≡ k.notices ++ Notice.Parted place ∷ []) × (is_stopped l.memory.telling ≡ true)))

@@ -1,6 +1,6 @@
 //! A board's process.
 
-ghost use Rattle.std.specs.Prelude.{◌≡◌, ◌<◌, ◌+◌, ℕ, true, false, if◌then◌else◌, Option, Some, None, Ok, List, [], ◌∷◌, ◌++◌, ◌⊎◌, IsSome, OnErr, OnOk, is_some, length, nat_eq};
+ghost use Rattle.std.specs.Prelude.{◌≡◌, ◌<◌, ◌+◌, ℕ, true, false, if◌then◌else◌, Option, Some, None, Ok, List, [], ◌∷◌, ◌++◌, ◌⊎◌, IfSome, IsSome, OnErr, OnOk, is_some, length, nat_eq};
 ghost use Rattle.std.specs.Result.{ForOk};
 ghost use Rattle.corrections.specs.CleanList.{history_of};
 ghost use Rattle.cards.specs.Board.{board as board_text};
@@ -8,19 +8,21 @@ ghost use Rattle.cards.specs.Sheet.{Sheet};
 ghost use Rattle.streams.specs.Watched.{Prints, TellsFailure, has_failed, stream_of};
 ghost use Rattle.board.specs.Board.{book_of, game_of, state_of};
 ghost use Rattle.board.specs.declared.trouble.Why.{Why};
-ghost use Rattle.board.specs.Rounds.{parts, with_round};
+ghost use Rattle.agree_core.specs.Positions.{InRange, position_of};
+ghost use Rattle.board.specs.Rounds.{recalled, with_round};
 ghost use Rattle.live.specs.Boards as laws;
-ghost use Rattle.live.specs.Boards.{BoardGoes, BoardRuns, IsApart, Memory, at_turn, grown, in_turn, memory_of, unheard};
+ghost use Rattle.live.specs.Boards.{BoardGoes, BoardRuns, IsApart, Memory, PartsNothing, at_turn, grown, in_turn, memory_of, unheard};
 ghost use Rattle.station_texts.specs.Notices.{is_stopped, notices_unopened, telling_unopened, with_trouble};
 ghost use Rattle.live.specs.Paces.{ticking_of};
 ghost use Rattle.live.specs.Runs.{Logs, untyped};
 ghost use Rattle.live.specs.Sights.{Sight};
 ghost use Rattle.live.specs.Ticks.{unticked};
-ghost use Rattle.links.specs.Passed.{Came};
+ghost use Rattle.links.specs.Passed.{Came, Sent};
+ghost use Rattle.links.specs.declared.link.Receivers.TheVariants.{ToOne};
 ghost use Rattle.links.specs.declared.link.TheConstants.{MOST_TAKEN};
-ghost use Rattle.agree_core.specs.declared.messages.Vote.{Vote as AVote};
+ghost use Rattle.agree_core.specs.declared.messages.{Message.Message as AMessage, Vote.Vote as AVote};
 ghost use Rattle.station_texts.specs.declared.notices.Notice.{Notice};
-ghost use Rattle.wire.specs.Layout.{IsMessage};
+ghost use Rattle.wire.specs.Layout.{IsMessage, written};
 ghost use Rattle.wire.specs.Reading.{Reads};
 
 use crate::awaited::Awaited;
@@ -30,7 +32,7 @@ use crate::later::{Later, desk_later};
 use crate::pace::Pace;
 use crate::shows::Shows;
 use crate::watch::Watch;
-use agree_core::{Heard, Message};
+use agree_core::{Heard, Message, Vote};
 use board::{Board, BoardRefusal, Round, Witness};
 use cards::{MatchSheet, board_lines};
 use corrections::BookOf;
@@ -38,7 +40,7 @@ use links::{Arrival, Clock, Link, MOST_TAKEN, ROOM};
 use notation::Entry;
 use station_texts::notices::{Notices, Telling};
 use streams::{Sink, Watched, WriteFailed};
-use wire::{What, WireFault};
+use wire::{What, WireFault, bytes_of};
 
 /// What a board's process keeps between its calls.
 #[derive(Clone, Copy, Debug)]
@@ -74,16 +76,37 @@ fn say<B: BookOf, L: Link, C: Clock>(
     wait
 }
 
-/// Whether a vote came that shows, by the rounds that were heard, that a desk's file lacks lines; its place.
-fn parting(witness: &Witness, read: &Result<Message, WireFault>) -> Option<u32>
-    ensures parted { (place : ℕ) → result ≡ Some place →
-        (v : AVote) × (read.now ≡ Ok (Message.Vote v)) × (v.place ≡ place) × (parts witness.now v ≡ true) }
-    ensures none { result ≡ None → (v : AVote) → read.now ≡ Ok (Message.Vote v) → parts witness.now v ≡ false }
+/// The own vote of the desk that sent what came, where it goes back to that desk.
+fn recalled(witness: &Witness, read: &Result<Message, WireFault>) -> Option<Vote>
+    requires { ForOk read.now IsMessage }
+    ensures some { (v : AVote) → result ≡ Some v → (m : AMessage) × (read.now ≡ Ok m) × (recalled witness.now m ≡ Some v) }
+    ensures range { IfSome result (λ v. InRange (position_of v)) }
+    ensures none { result ≡ None → (m : AMessage) → read.now ≡ Ok m → recalled witness.now m ≡ None }
 {
     match read {
-        Ok(Message::Vote(vote)) if witness.parts(vote) => Some(vote.place),
+        Ok(message) => witness.recalled(message),
+        Err(_) => None,
+    }
+}
+
+/// The place of the vote that came, where the board goes on: it has heard another one of that desk.
+fn parting(telling: Telling, read: &Result<Message, WireFault>) -> Option<u32>
+    ensures parted { (place : ℕ) → result ≡ Some place →
+        (is_stopped telling ≡ false) × (v : AVote) × (read.now ≡ Ok (Message.Vote v)) × (v.place ≡ place) }
+    ensures none { result ≡ None → (m : AMessage) → read.now ≡ Ok m → PartsNothing (is_stopped telling) m }
+{
+    match read {
+        Ok(Message::Vote(vote)) if !telling.is_stopped() => Some(vote.place),
         _ => None,
     }
+}
+
+/// Hands a desk's own vote back to who sent what came.
+fn hand_back<L: Link>(link: &mut L, game: u64, vote: Vote)
+    requires { InRange (position_of vote) }
+    ensures { L.log link.new ≡ L.log link.old ++ Sent ToOne (written game (Message.Vote vote)) ∷ [] }
+{
+    link.reply(&bytes_of(game, &Message::Vote(vote)));
 }
 
 /// The entry of the vote that came, where it is one.
@@ -123,7 +146,7 @@ fn give<B: BookOf, N: Notices>(
 )
     requires message { ForOk read.now IsMessage }
     requires goes_on { is_stopped between.old.telling ≡ false }
-    requires whole { (v : AVote) → read.now ≡ Ok (Message.Vote v) → parts watch.old.witness v ≡ false }
+    requires kept { (m : AMessage) → read.now ≡ Ok m → recalled watch.old.witness m ≡ None }
     ensures goes { (bytes : List ℕ) (sheet : Sheet) (logs : Logs) (seen : List Sight) (turns had taken : ℕ) →
         Reads (game_of board.old) bytes read.now → taken < MOST_TAKEN →
         BoardGoes B.content B.innings_a_side sheet board.old board.new
@@ -159,7 +182,7 @@ fn part<N: Notices>(watch: &mut Watch<N>, between: &mut Between, place: u32)
     between.telling = between.telling.part(place, notices);
 }
 
-/// A board that goes on hears what came, as it was read: it is given it, unless it shows that a desk's file lacks lines.
+/// A board hears what came, as it was read: it is given it, unless it has stopped.
 fn hear_on<B: BookOf, N: Notices>(
     board: &mut Board<B>,
     read: &Result<Message, WireFault>,
@@ -168,30 +191,7 @@ fn hear_on<B: BookOf, N: Notices>(
     now: u64,
 )
     requires message { ForOk read.now IsMessage }
-    requires goes_on { is_stopped between.old.telling ≡ false }
-    ensures goes { (bytes : List ℕ) (sheet : Sheet) (logs : Logs) (seen : List Sight) (turns had taken : ℕ) →
-        Reads (game_of board.old) bytes read.now → taken < MOST_TAKEN →
-        BoardGoes B.content B.innings_a_side sheet board.old board.new
-        (in_turn B.content board.old turns had taken (memory_of between.old.telling watch.old.witness between.old.later) (ticking_of between.old.pace) (N.told watch.old.notices) seen)
-        (in_turn B.content board.new turns had (taken + 1) (memory_of between.new.telling watch.new.witness between.new.later) (ticking_of between.new.pace) (N.told watch.new.notices) seen)
-        logs (record logs { passed = logs.passed ++ Came bytes ∷ [] }) }
-    ensures ticking { ticking_of between.new.pace ≡ ticking_of between.old.pace }
-{
-    match parting(&watch.witness, read) {
-        Some(place) => part(watch, between, place),
-        None => give(board, read, watch, between, now),
-    }
-}
-
-/// A board hears what came, as it was read. Once it has stopped it is passed by.
-fn hear<B: BookOf, N: Notices>(
-    board: &mut Board<B>,
-    read: &Result<Message, WireFault>,
-    watch: &mut Watch<N>,
-    between: &mut Between,
-    now: u64,
-)
-    requires { ForOk read.now IsMessage }
+    requires kept { (m : AMessage) → read.now ≡ Ok m → recalled watch.old.witness m ≡ None }
     ensures goes { (bytes : List ℕ) (sheet : Sheet) (logs : Logs) (seen : List Sight) (turns had taken : ℕ) →
         Reads (game_of board.old) bytes read.now → taken < MOST_TAKEN →
         BoardGoes B.content B.innings_a_side sheet board.old board.new
@@ -203,7 +203,57 @@ fn hear<B: BookOf, N: Notices>(
     if between.telling.is_stopped() {
         return;
     }
-    hear_on(board, read, watch, between, now);
+    give(board, read, watch, between, now);
+}
+
+/// A desk's file lacks a line, or may lack it, by what came: that desk is handed its own vote back, and where a vote shows it, that
+/// is told. The board isn't given what came.
+fn recall<B: BookOf, L: Link, N: Notices>(
+    board: &Board<B>,
+    read: &Result<Message, WireFault>,
+    own: Vote,
+    link: &mut L,
+    watch: &mut Watch<N>,
+    between: &mut Between,
+)
+    requires own { (m : AMessage) × (read.now ≡ Ok m) × (recalled watch.old.witness m ≡ Some own) }
+    requires range { InRange (position_of own) }
+    ensures goes { (bytes : List ℕ) (sheet : Sheet) (logs : Logs) (seen : List Sight) (turns had taken : ℕ) →
+        Reads (game_of board.now) bytes read.now → taken < MOST_TAKEN → L.log link.old ≡ logs.passed ++ Came bytes ∷ [] →
+        BoardGoes B.content B.innings_a_side sheet board.now board.now
+        (in_turn B.content board.now turns had taken (memory_of between.old.telling watch.old.witness between.old.later) (ticking_of between.old.pace) (N.told watch.old.notices) seen)
+        (in_turn B.content board.now turns had (taken + 1) (memory_of between.new.telling watch.new.witness between.new.later) (ticking_of between.new.pace) (N.told watch.new.notices) seen)
+        logs (record logs { passed = L.log link.new }) }
+    ensures ticking { ticking_of between.new.pace ≡ ticking_of between.old.pace }
+{
+    hand_back(link, board.game(), own);
+    if let Some(place) = parting(between.telling, read) {
+        part(watch, between, place);
+    }
+}
+
+/// A board hears what came, as it was read. It is given it, unless a desk's file lacks a line by it, or may lack it.
+fn hear<B: BookOf, L: Link, N: Notices>(
+    board: &mut Board<B>,
+    read: &Result<Message, WireFault>,
+    link: &mut L,
+    watch: &mut Watch<N>,
+    between: &mut Between,
+    now: u64,
+)
+    requires { ForOk read.now IsMessage }
+    ensures goes { (bytes : List ℕ) (sheet : Sheet) (logs : Logs) (seen : List Sight) (turns had taken : ℕ) →
+        Reads (game_of board.old) bytes read.now → taken < MOST_TAKEN → L.log link.old ≡ logs.passed ++ Came bytes ∷ [] →
+        BoardGoes B.content B.innings_a_side sheet board.old board.new
+        (in_turn B.content board.old turns had taken (memory_of between.old.telling watch.old.witness between.old.later) (ticking_of between.old.pace) (N.told watch.old.notices) seen)
+        (in_turn B.content board.new turns had (taken + 1) (memory_of between.new.telling watch.new.witness between.new.later) (ticking_of between.new.pace) (N.told watch.new.notices) seen)
+        logs (record logs { passed = L.log link.new }) }
+    ensures ticking { ticking_of between.new.pace ≡ ticking_of between.old.pace }
+{
+    match recalled(&watch.witness, read) {
+        Some(own) => recall(board, read, own, link, watch, between),
+        None => hear_on(board, read, watch, between, now),
+    }
 }
 
 /// Tells that bytes came that don't open, unless it was told. Nothing else changes: what is said unasked, and when.
@@ -246,7 +296,7 @@ fn take_next<B: BookOf, L: Link, C: Clock, N: Notices>(
     match link.take_message(board.game(), &mut buffer, wait) {
         Arrival::Datagram(_, read) => {
             let now = clock.millis();
-            hear(board, &read, watch, between, now);
+            hear(board, &read, link, watch, between, now);
             true
         }
         Arrival::Unopened => {

@@ -117,6 +117,48 @@ fn is_another_vote<S: SlotsOf, B: BookOf + Drop>(
     )
 }
 
+/// Whether the own vote isn't cast at a position.
+fn is_uncast<S: SlotsOf, B: BookOf + Drop>(desk: &Desk<S, B>, at: Position) -> bool
+    ensures { result ≡ lost.is_uncast (state_of desk.now).seat at }
+{
+    let own = desk.position();
+    !is_before(at, own) && !(is_at(at, own) && desk.has_voted())
+}
+
+/// Whether a desk's last vote is for this position, and for another entry.
+#[tactic(auto, using(std::proofs::lemmas::Grind::common_steps, crate::proofs::LostLemmas::none_last, crate::proofs::LostLemmas::other_last))]
+fn is_other_last<S: SlotsOf, B: BookOf + Drop>(
+    desk: &Desk<S, B>,
+    at: Position,
+    entry: &Entry,
+) -> bool
+    requires { IsEntry entry.now }
+    ensures { result ≡ lost.is_other_last (state_of desk.now).votes at (code entry.now) }
+{
+    match desk.last_vote() {
+        Some(last) => is_at(last.position(), at) && !is_alike(entry, &last.entry),
+        None => false,
+    }
+}
+
+/// Whether a vote came that this desk, if it is its own, hasn't cast.
+fn is_unkept<S: SlotsOf, B: BookOf + Drop>(
+    desk: &Desk<S, B>,
+    read: Result<Message, WireFault>,
+) -> bool
+    requires { ForOk read IsMessage }
+    ensures { (v : AVote) → read ≡ Ok (Message.Vote v) →
+        result ≡ lost.is_unkept (state_of desk.now).seat (state_of desk.now).votes (position_of v) (code v.entry) }
+{
+    match read {
+        Ok(Message::Vote(vote)) => {
+            let at = vote.position();
+            is_uncast(desk, at) || is_other_last(desk, at, &vote.entry)
+        }
+        Ok(Message::Ask(_)) | Err(_) => false,
+    }
+}
+
 /// Whether a vote came that is another one, as it is for an earlier position.
 fn is_another<S: SlotsOf, B: BookOf + Drop>(
     desk: &Desk<S, B>,
@@ -169,6 +211,8 @@ fn is_level<S: SlotsOf, B: BookOf + Drop>(
 pub struct Bearing {
     /// A vote is another one than that by which this desk went on.
     pub another: bool,
+    /// A vote, if it is this desk's own, isn't among those that it has cast.
+    pub unkept: bool,
     /// This desk has passed the position over without a vote.
     pub passed_over: bool,
     /// The other desk can have come to the position.
@@ -208,6 +252,7 @@ impl Bearing {
         match what {
             What::Heard(Heard::Old) if self.another => Evidence::OtherLacks,
             What::Heard(Heard::Ahead) if !self.in_reach => Evidence::Ahead,
+            What::Heard(Heard::Mine) if self.unkept => Evidence::Unkept,
             What::Asked => self.asked(),
             _ => Evidence::Nothing,
         }
@@ -222,6 +267,8 @@ pub fn bearing_of<S: SlotsOf, B: BookOf + Drop>(
     requires { ForOk read.now IsMessage }
     ensures another { (v : AVote) → read.now ≡ Ok (Message.Vote v) →
         result.another ≡ votes.is_another (state_of desk.now).seat (state_of desk.now).votes (position_of v) (code v.entry) }
+    ensures unkept { (v : AVote) → read.now ≡ Ok (Message.Vote v) →
+        result.unkept ≡ lost.is_unkept (state_of desk.now).seat (state_of desk.now).votes (position_of v) (code v.entry) }
     ensures passed_over { ForOk read.now (λ m. result.passed_over ≡ votes.is_before (is_at m) (state_of desk.now).seat.position) }
     ensures in_reach { ForOk read.now (λ m. result.in_reach ≡ votes.is_in_reach (state_of desk.now).seat (is_at m)) }
     ensures level { (q : AnAsk) → read.now ≡ Ok (Message.Ask q) →
@@ -232,6 +279,7 @@ pub fn bearing_of<S: SlotsOf, B: BookOf + Drop>(
     let own = desk.position();
     Bearing {
         another: is_another(desk, *read),
+        unkept: is_unkept(desk, *read),
         passed_over: is_before(at, own),
         in_reach: is_in_reach(desk, at),
         is_level: is_level(desk, at, asker_in(read)),

@@ -11,21 +11,23 @@ use Rattle.desk.specs.Takes.{Takes}
 use Rattle.wire.specs.declared.what.What.{What}
 use Rattle.wire.specs.Layout.{Says, body_in, is_at as message_at}
 use Rattle.wire.proofs.MessageLemmas.{code_in}
+use Rattle.agree_core.specs.Ballots.{Ballot, In, ballot_of, votes_by}
 use Rattle.headline.specs.Configurations.{Configuration, Running, all_votes, node}
 use Rattle.headline.specs.Setting.{Setting}
-use Rattle.headline.proofs.Given.{given_vote}
+use Rattle.headline.proofs.Given.{given_fine, given_vote}
 use Rattle.headline.proofs.Keeping.{Fine}
 use Rattle.progress.specs.Progress.{AllAreEntries, HoldsAt}
 use Rattle.progress.proofs.CalmSteps.{one_process}
 use Rattle.progress.proofs.Settled.{fine_seat}
 use Rattle.live.specs.Desks as desks
 use Rattle.live.specs.Desks.{shown_by}
-use Rattle.live.specs.LostLines.{bearing_of, position_in}
+use Rattle.live.specs.LostLines.{bearing_of, is_unkept, position_in}
 use Rattle.station_texts.specs.Doubts.{is_loss}
-use Rattle.station_texts.specs.declared.doubt.Evidence.TheVariants.{Nothing, OtherLacks, Ahead, Level}
+use Rattle.station_texts.specs.declared.doubt.Evidence.TheVariants.{Nothing, OtherLacks, Ahead, Unkept, Level}
 use Rattle.live.proofs.LostLemmas.{position_of_message}
 use Rattle.processes.specs.Happenings.{DeskCalled, Happening, Happens, WasSent}
 use Rattle.processes.specs.LostLines.{AskWasHandedOut, ShowsNoLoss}
+use Rattle.processes.proofs.OwnVotes.{kept}
 
 -- whether the other desk stands where this one does, no file lacks lines by it
 level_so : (level : Bool) → is_loss (if level then Level else Nothing) ≡ false
@@ -59,6 +61,17 @@ module _ {Disk : Type 0} (s : Setting Disk Refusal) (game innings : ℕ) where
           let found = came (Message.Vote w) says in
           let reach = holds.in_reach d k found.0 w runs (given_vote v.sent found.0 w found.1) (by_other d k w runs r.1.0) in
           ap (λ (x : Bool). is_loss (if x then Nothing else Ahead)) (ap (is_in_reach k.seat) (here (Message.Vote w) says) ∙ reach)
+      no_loss (What.Heard Heard.Mine) (Message.Ask q, says, r) = absurd r
+      no_loss (What.Heard Heard.Mine) (Message.Vote w, says, r) =
+          let found = came (Message.Vote w) says in
+          let seat = fine_seat s v fine d k runs in
+          let voted : In (ballot_of w) (votes_by (all_votes v) w.desk) = given_fine (all_votes v) v.sent found.0 (Message.Vote w) fine.on_sent found.1 in
+          let has : In (ballot_of w) (votes_by (all_votes v) d) = subst (λ (c : DeskId). In (ballot_of w) (votes_by (all_votes v) c)) (r.1.0 ∙ seat.0.desk) voted in
+          let unkept = ap (λ (p : Position). is_unkept k.seat k.votes p (body_in bytes)) (here (Message.Vote w) says)
+          ∙ ap (is_unkept k.seat k.votes (position_of w)) (code_in game bytes w says)
+          ∙ ap (λ (own : List Ballot). is_unkept k.seat own (position_of w) (code w.entry)) seat.1
+          ∙ kept (votes_by (all_votes v) (other d)) (ballot_of w) d (votes_by (all_votes v) d) k.seat k.book seat.0 has in
+          ap (λ (x : Bool). is_loss (if x then Unkept else Nothing)) unkept
       no_loss What.Asked (Message.Vote w, says, r) = absurd r
       no_loss What.Asked (Message.Ask q, says, r) =
           let found = made q says in

@@ -27,7 +27,7 @@ use Rattle.processes.proofs.WholeLives.{woven_lives_part_none}
 module _ {Disk : Type 0} where
   -- since it began a board has dropped a vote as one by which a desk's file lacks lines
   abbrev next_lack : Bool → Happening Disk → Bool
-  next_lack b (BoardCalled n sheet (boards.Parted bytes) out l text seen) = true
+  next_lack b (BoardCalled n sheet (boards.Parted bytes back) out l text seen) = true
   next_lack b (BoardBegun n) = false
   next_lack b what = b
 
@@ -50,7 +50,7 @@ module _ (Disk : Type 0) (game innings : ℕ) where
 
   goes_on : (n : ℕ) (s : Sheet) (k : BoardTurn) (call : BoardCall) (out : List Message) (l : BoardState) (text : List ℕ) (seen : List Sight) (b : Bool)
       → (b ≡ false → trouble_of k ≡ false) → next_lack {Disk = Disk} b (BoardCalled n s call out l text seen) ≡ false → trouble_of (after_call s innings k call l) ≡ false
-  goes_on n s k (boards.Parted bytes) out l text seen b h e = absurd (cc)
+  goes_on n s k (boards.Parted bytes back) out l text seen b h e = absurd (cc)
   goes_on n s k (boards.Given bytes (Ok what)) out l text seen b h e = left_none (opens what) k.memory.telling.trouble (h e)
   goes_on n s k (boards.Given bytes (Err (BadVotes place))) out l text seen b h e = refl
   goes_on n s k boards.ToldApart out l text seen b h e = refl
@@ -92,7 +92,7 @@ module _ (Disk : Type 0) (game innings : ℕ) where
 
   -- where no board drops such a vote none has since it began
   here_none : (b : Bool) (h : Happening Disk) → b ≡ false → (IsParted h → ⊥) → next_lack b h ≡ false
-  here_none b (BoardCalled n sheet (boards.Parted bytes) out l text seen) e none = absurd (none tt)
+  here_none b (BoardCalled n sheet (boards.Parted bytes back) out l text seen) e none = absurd (none tt)
   here_none b h e none = grind (arith, e)
 
   none_with : (q : Bool) (h : Happening Disk) (hs : List (Happening Disk)) → nexts next_lack false hs ≡ false → (IsParted h → ⊥)

@@ -54,7 +54,7 @@ desk_came seal game sent _ fine h = tt
 
 board_came : (seal : List ℕ) (game : ℕ) (sent : List Message) (call : BoardCall) → All IsMessage sent → BoardAuthentic seal game sent call → BoardCame game sent call
 board_came seal game sent (boards.Given message answer) fine h = was_sent seal game sent message fine h
-board_came seal game sent (boards.Parted message) fine h = was_sent seal game sent message fine h
+board_came seal game sent (boards.Parted message back) fine h = was_sent seal game sent message fine h
 board_came seal game sent _ fine h = tt
 
 -- what a happening makes of a desk, and of a board: nothing, where it is elsewhere

@@ -1,5 +1,6 @@
 -- In woven lives no board drops a vote as one by which a desk's file lacks lines.
 use Rattle.std.proofs.Common.{arith, ◌≡◌, ℕ, true, Option, Some, None, List, [], ◌∷◌, cond, refl, sym, ap, ◌∙◌}
+use Rattle.std.specs.Prelude.{is_some}
 use Rattle.std.specs.List.{filter}
 use Rattle.std.proofs.lemmas.Bool.{eq-eqb}
 use Rattle.entry_log.specs.Disk.{Faults, Images}
@@ -8,6 +9,7 @@ use Rattle.cards.specs.Sheet.{Sheet}
 use Rattle.agree_core.specs.declared.messages.{Message.Message, Vote.Vote}
 use Rattle.agree_core.specs.Boards.{BoardState, fresh_board}
 use Rattle.board.specs.Rounds.{parts}
+use Rattle.board.proofs.Recalling.{parts_recalled}
 use Rattle.board.specs.declared.witness.Round.{Round}
 use Rattle.wire.specs.Layout.{Says}
 use Rattle.headline.specs.Configurations.{Configuration, board_at}
@@ -44,7 +46,7 @@ module _ {Disk : Type 0} where
 module _ (Disk : Type 0) (game innings : ℕ) where
   -- a vote is dropped where it is against one of these
   abbrev MayDrop : List Round → BoardCall → Type 0
-  MayDrop rounds (boards.Parted bytes) = (v : Vote) × Says game bytes (Message.Vote v) × (parts rounds v ≡ true)
+  MayDrop rounds (boards.Parted bytes back) = (v : Vote) × Says game bytes (Message.Vote v) × (parts rounds v ≡ true)
   MayDrop rounds call = Unit {0}
 
   abbrev MayHear : Hearing → Happening Disk → Type 0
@@ -52,7 +54,7 @@ module _ (Disk : Type 0) (game innings : ℕ) where
   MayHear s what = Unit {0}
 
   drops : (k : BoardTurn) (call : BoardCall) → MayCall game k call → MayDrop k.memory.rounds call
-  drops k (boards.Parted bytes) m = (m.2, m.3, m.4)
+  drops k (boards.Parted bytes back) m = (m.2, m.3, sym (parts_recalled m.2 k.memory.rounds) ∙ ap is_some m.4.1)
   drops k call m = tt
 
   rounds_on : (sheet : Sheet) (k : BoardTurn) (call : BoardCall) (l : BoardState)
@@ -135,7 +137,7 @@ module _ {Disk : Type 0} (seen : Disk → List ℕ) (images : Disk → Images) (
       dropped : (gs : List (Happening Disk)) → Flow (λ d version. file_view (contents version) seen images d game) game innings w0 gs → (h : Happening Disk)
           → Happens (λ d version. file_view (contents version) seen images d game) game innings (after w0 gs) h
           → ((n : ℕ) → is_at_board n h ≡ true → MayHear Disk game innings (heard_at Disk game innings w0 n gs) h) → IsParted h → ⊥
-      dropped gs f (BoardCalled n sheet (boards.Parted bytes) out l text shown) m may is =
+      dropped gs f (BoardCalled n sheet (boards.Parted bytes back) out l text shown) m may is =
           let d = may n (eq-eqb n n refl) in
           let found = m.2 (Message.Vote d.0) d.1 in
           let headline = flows_have_headline seen images contents game innings version count w0 gs (flow.0, f) in

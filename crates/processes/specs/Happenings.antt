@@ -81,7 +81,7 @@ DeskCame game sent call = Unit {0}
 
 abbrev pub BoardCame : ℕ → List Message → BoardCall → Type 0
 BoardCame game sent (boards.Given bytes answer) = WasSent game sent bytes
-BoardCame game sent (boards.Parted bytes) = WasSent game sent bytes
+BoardCame game sent (boards.Parted bytes back) = WasSent game sent bytes
 BoardCame game sent call = Unit {0}
 
 -- in a match of this number and innings a side, where this is what a disk shows of each desk's file

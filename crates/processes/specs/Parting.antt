@@ -32,7 +32,7 @@ NoVoteParts w hs =
 
 -- a board's process drops a vote as one by which a desk's file lacks lines
 abbrev pub IsParted : {Disk : Type 0} → Happening Disk → Type 0
-IsParted (BoardCalled n s (boards.Parted bytes) out l text seen) = Unit {0}
+IsParted (BoardCalled n s (boards.Parted bytes back) out l text seen) = Unit {0}
 IsParted what = ⊥
 
 abbrev pub NoneIsParted : {Disk : Type 0} → List (Happening Disk) → Type 0

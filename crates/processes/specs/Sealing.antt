@@ -23,5 +23,5 @@ DeskAuthentic seal game sent call = Unit {0}
 
 abbrev pub BoardAuthentic : List ℕ → ℕ → List Message → BoardCall → Type 0
 BoardAuthentic seal game sent (boards.Given message answer) = IsAuthentic seal game sent message
-BoardAuthentic seal game sent (boards.Parted message) = IsAuthentic seal game sent message
+BoardAuthentic seal game sent (boards.Parted message back) = IsAuthentic seal game sent message
 BoardAuthentic seal game sent call = Unit {0}

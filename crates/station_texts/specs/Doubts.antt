@@ -1,18 +1,22 @@
 -- Whether a desk doubts that its file has all its lines, by votes for positions to which the other desk can't have come by what
--- this one has voted. While it does it casts no vote.
+-- this one has voted, and by votes of its own that its file hasn't. While it does it casts no vote.
 use Rattle.std.specs.Prelude.{ℕ, Bool, true, false, if◌then◌else◌, List, [], codes}
 use Rattle.station_texts.specs.declared.doubt.{Doubt.Doubt, Evidence.Evidence}
-use Rattle.station_texts.specs.declared.doubt.Doubt.TheVariants.{No, Yes, Dismissed}
-use Rattle.station_texts.specs.declared.doubt.Evidence.TheVariants.{Nothing, OtherLacks, Ahead, Level}
+use Rattle.station_texts.specs.declared.doubt.Doubt.TheVariants.{No, Yes, Lost, Dismissed}
+use Rattle.station_texts.specs.declared.doubt.Evidence.TheVariants.{Nothing, OtherLacks, Ahead, Unkept, Level}
 
--- It ends as the other desk stands where this one does: then that one isn't ahead. Or the scorer goes on, and none comes up again.
+-- It ends as the other desk stands where this one does: then that one isn't ahead. Where a vote of its own is lost, it doesn't end
+-- so. Or the scorer goes on, and none comes up again.
 abbrev pub doubt_after : Doubt → Evidence → Doubt
 doubt_after No Ahead = Yes
+doubt_after No Unkept = Lost
+doubt_after Yes Unkept = Lost
 doubt_after Yes Level = No
 doubt_after doubt evidence = doubt
 
 abbrev pub holds_up : Doubt → Bool
 holds_up Yes = true
+holds_up Lost = true
 holds_up doubt = false
 
 abbrev pub dismissed : Doubt → Doubt
@@ -23,6 +27,7 @@ dismissed doubt = Dismissed
 abbrev pub is_loss : Evidence → Bool
 is_loss OtherLacks = true
 is_loss Ahead = true
+is_loss Unkept = true
 is_loss evidence = false
 
 -- ---- what the scorer is told
@@ -30,15 +35,22 @@ is_loss evidence = false
 abbrev pub ahead_line : List ℕ
 ahead_line = codes "this file lacks lines that the other desk has: put the right file back, or say go on\n"
 
+abbrev pub unkept_line : List ℕ
+unkept_line = codes "this file lacks lines that a board has, or two laptops are this desk: put the right file back, or say go on\n"
+
 -- as a desk begins to doubt, and as that ends
 abbrev pub doubt_text : Doubt → Evidence → List ℕ
 doubt_text No Ahead = ahead_line
+doubt_text No Unkept = unkept_line
+doubt_text Yes Unkept = unkept_line
 doubt_text Yes Level = codes "the other desk is where this one is: lines are written again\n"
 doubt_text doubt evidence = []
 
 -- as he asks where the desk stands
 abbrev pub doubted_text : Doubt → List ℕ
-doubted_text doubt = if holds_up doubt then ahead_line else []
+doubted_text Yes = ahead_line
+doubted_text Lost = unkept_line
+doubted_text doubt = []
 
 -- as he goes on
 abbrev pub going_text : Bool → List ℕ

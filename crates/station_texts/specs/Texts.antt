@@ -245,7 +245,7 @@ abbrev pub heard_text : Sheet → ℕ → ℕ → Option Entry → Option Entry 
 heard_text sheet innings place own other book warned evidence Heard.Noted = []
 heard_text sheet innings place own other book warned evidence Heard.Agreed = agreed sheet innings place book
 heard_text sheet innings place own other book warned evidence Heard.Differ = differs_text place own other
-heard_text sheet innings place own other book warned evidence Heard.Mine = warning warned.of_desk (codes "peer: the same desk\n")
+heard_text sheet innings place own other book warned evidence Heard.Mine = shown_text warned evidence
 heard_text sheet innings place own other book warned evidence Heard.TwoVotes = warning warned.of_votes (codes "peer: two votes\n")
 heard_text sheet innings place own other book warned evidence Heard.Old = shown_text warned evidence
 heard_text sheet innings place own other book warned evidence Heard.Ahead = shown_text warned evidence
@@ -264,7 +264,6 @@ abbrev pub unwarned : Warned
 unwarned = record {
   of_bytes = false;
   of_seal = false;
-  of_desk = false;
   of_votes = false;
   of_lines = false;
   of_writing = false;
@@ -288,7 +287,7 @@ warned_shown warned evidence =
 
 abbrev pub warned_after : Warned → Evidence → What → Warned
 warned_after warned evidence (What.Bad fault) = record warned { of_bytes = true }
-warned_after warned evidence (What.Heard Heard.Mine) = record warned { of_desk = true }
+warned_after warned evidence (What.Heard Heard.Mine) = warned_shown warned evidence
 warned_after warned evidence (What.Heard Heard.TwoVotes) = record warned { of_votes = true }
 warned_after warned evidence (What.Heard Heard.Noted) = unwarned_but warned
 warned_after warned evidence (What.Heard Heard.Agreed) = unwarned_but warned

@@ -15,6 +15,8 @@ pub enum Evidence {
     OtherLacks,
     /// The other desk is ahead of this one: by what this desk has voted it can't be there.
     Ahead,
+    /// A vote of this desk came that its file hasn't.
+    Unkept,
     /// The other desk stands where this one does.
     Level,
 }
@@ -26,6 +28,8 @@ pub enum Doubt {
     No,
     /// The other desk was ahead of it: until that one stands where this one does, or its scorer goes on.
     Yes,
+    /// A vote of its own came that its file hasn't: until its scorer goes on.
+    Lost,
     /// Its scorer went on. From then on nothing is made of who is ahead.
     Dismissed,
 }
@@ -37,6 +41,7 @@ impl Doubt {
     {
         match (self, evidence) {
             (Doubt::No, Evidence::Ahead) => Doubt::Yes,
+            (Doubt::No | Doubt::Yes, Evidence::Unkept) => Doubt::Lost,
             (Doubt::Yes, Evidence::Level) => Doubt::No,
             (doubt, _) => doubt,
         }
@@ -46,7 +51,7 @@ impl Doubt {
     pub fn holds_up(self) -> bool
         ensures { result ≡ doubts.holds_up self }
     {
-        matches!(self, Doubt::Yes)
+        matches!(self, Doubt::Yes | Doubt::Lost)
     }
 
     /// What it is once the scorer has said that he goes on.
@@ -60,7 +65,7 @@ impl Doubt {
     }
 }
 
-/// Prints that this desk's file lacks lines.
+/// Prints that this desk's file lacks lines that the other desk has.
 fn print_ahead<W: Sink>(out: &mut Watched<W>) -> Result<(), WriteFailed>
     ensures text { OnOk result (Prints W.contents out.old out.new doubts.ahead_line) }
     ensures failed { TellsFailure result out.old out.new }
@@ -68,6 +73,17 @@ fn print_ahead<W: Sink>(out: &mut Watched<W>) -> Result<(), WriteFailed>
     writeln!(
         out,
         "this file lacks lines that the other desk has: put the right file back, or say go on"
+    )
+}
+
+/// Prints that this desk's file lacks lines that a board has.
+fn print_unkept<W: Sink>(out: &mut Watched<W>) -> Result<(), WriteFailed>
+    ensures text { OnOk result (Prints W.contents out.old out.new doubts.unkept_line) }
+    ensures failed { TellsFailure result out.old out.new }
+{
+    writeln!(
+        out,
+        "this file lacks lines that a board has, or two laptops are this desk: put the right file back, or say go on"
     )
 }
 
@@ -82,6 +98,7 @@ pub fn print_doubt<W: Sink>(
 {
     match (doubt, evidence) {
         (Doubt::No, Evidence::Ahead) => print_ahead(out),
+        (Doubt::No | Doubt::Yes, Evidence::Unkept) => print_unkept(out),
         (Doubt::Yes, Evidence::Level) => writeln!(
             out,
             "the other desk is where this one is: lines are written again"
@@ -95,10 +112,10 @@ pub fn print_doubted<W: Sink>(out: &mut Watched<W>, doubt: Doubt) -> Result<(), 
     ensures text { OnOk result (Prints W.contents out.old out.new (doubts.doubted_text doubt)) }
     ensures failed { TellsFailure result out.old out.new }
 {
-    if doubt.holds_up() {
-        print_ahead(out)
-    } else {
-        Ok(())
+    match doubt {
+        Doubt::Yes => print_ahead(out),
+        Doubt::Lost => print_unkept(out),
+        Doubt::No | Doubt::Dismissed => Ok(()),
     }
 }
 

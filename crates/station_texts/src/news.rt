@@ -87,9 +87,8 @@ fn print_heard<B: BookOf, W: Sink>(
     match heard {
         Heard::Agreed => print_agreed(out, sheet, place, book),
         Heard::Differ => print_differs(out, place, both),
-        Heard::Mine => print_warning(out, warned.of_desk, "peer: the same desk\n"),
         Heard::TwoVotes => print_warning(out, warned.of_votes, "peer: two votes\n"),
-        Heard::Old | Heard::Ahead => print_shown(out, warned, evidence),
+        Heard::Mine | Heard::Old | Heard::Ahead => print_shown(out, warned, evidence),
         Heard::Noted | Heard::Again => Ok(()),
     }
 }

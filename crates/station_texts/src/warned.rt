@@ -19,8 +19,6 @@ pub struct Warned {
     pub of_bytes: bool,
     /// That bytes came that don't open.
     pub of_seal: bool,
-    /// That the peer is the same desk.
-    pub of_desk: bool,
     /// That two votes of the other desk came for one position.
     pub of_votes: bool,
     /// That the other desk's file lacks lines.
@@ -38,7 +36,6 @@ impl Warned {
     pub const NOTHING: Warned = Warned {
         of_bytes: false,
         of_seal: false,
-        of_desk: false,
         of_votes: false,
         of_lines: false,
         of_writing: false,
@@ -76,10 +73,6 @@ impl Warned {
                 of_bytes: true,
                 ..self
             },
-            What::Heard(Heard::Mine) => Warned {
-                of_desk: true,
-                ..self
-            },
             What::Heard(Heard::TwoVotes) => Warned {
                 of_votes: true,
                 ..self
@@ -89,7 +82,9 @@ impl Warned {
                 doubt: self.doubt,
                 ..Warned::NOTHING
             },
-            What::Heard(Heard::Old | Heard::Ahead) | What::Asked => self.shown(evidence),
+            What::Heard(Heard::Mine | Heard::Old | Heard::Ahead) | What::Asked => {
+                self.shown(evidence)
+            }
             What::Heard(Heard::Again) | What::Device | What::Failed => self,
         }
     }

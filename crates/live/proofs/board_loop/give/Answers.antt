@@ -4,7 +4,7 @@ use Rattle.agree_core.specs.declared.position.Position.{Position}
 use Rattle.live.specs.Boards.{desk_ahead_in, later_after, memory_of}
 use Rattle.live.specs.Paces.{Paced}
 use Rattle.live.proofs.BoardLemmas.{given_to}
-use Rattle.live.proofs.RoundLemmas.{later_noted, rounds_noted, unparted}
+use Rattle.live.proofs.RoundLemmas.{later_noted, rounds_noted, unrecalled}
 use Rattle.live.proofs.board_loop.give.Goals as goal
 
 pub returns-clause-goes : goal.returns-clause-goes
@@ -20,5 +20,5 @@ returns-clause-goes g c = λ bytes sheet logs seen turns had taken reads few.
     let ahead = later_noted rules (game_of board) k l bytes c.args.read.now reads answer.result c.position-at.result.place c.desk_later-desk.result before c.desk_later-desk.ensures (answer.ensures.step bytes reads)
     ∙ ap (λ (p : Position). later_after before (desk_ahead_in p.place bytes) answer.result) c.position-at.ensures in
     given_to bytes answer.result c.args.between.now.pace.in_time (ap (λ (p : Paced). p.ticking) c.note-2.ensures) few c.requires.goes_on
-    (unparted rules (game_of board) k l bytes c.args.read.now reads rounds c.requires.whole) answer.ensures.same (answer.ensures.step bytes reads)
+    (unrecalled rules (game_of board) k l bytes c.args.read.now reads rounds c.requires.kept) answer.ensures.same (answer.ensures.step bytes reads)
     (λ i. memory_of (c.after-between.ensures i) ((rw c.round_with-round.ensures at c.remember.ensures ∙ noted) i) ((c.after-between-2.ensures ∙ ahead) i)) c.tell.ensures

@@ -1,8 +1,8 @@
-use Rattle.std.proofs.Common.{ap, sym, take}
+use Rattle.std.proofs.Common.{ap, take}
 use Rattle.live.specs.Boards.{memory_of}
 use Rattle.live.specs.Paces.{ticking_of}
 use Rattle.live.specs.Runs.{untyped}
-use Rattle.live.proofs.BoardLemmas.{logged, passed_over, reads_clock, then}
+use Rattle.live.proofs.BoardLemmas.{passed_over, reads_clock, then}
 use Rattle.live.proofs.LostLemmas.{is_message}
 use Rattle.live.proofs.board_loop.take_next.Goals as goal
 
@@ -14,9 +14,8 @@ returns-in-Datagram-clause-taken g c = λ is sheet shown seen turns had taken fe
     let said = c.say-wait in
     then (said.ensures.goes sheet shown seen turns had taken _ _)
     (then (reads_clock {ticking = ticking_of said.new.pace} c.millis-now.result said.new.pace.in_time c.millis-now.ensures)
-    (logged (sym c.in-Datagram.ensures.0.1)
     (c.hear.ensures.goes _ sheet (untyped (g.L.Link.log said.new.link) (g.C.Clock.readings c.millis-now.new.self) shown) seen turns had taken
-    (rw c.game.ensures at c.in-Datagram.ensures.1) few)))
+    (rw c.game.ensures at c.in-Datagram.ensures.1) few c.in-Datagram.ensures.0.1))
 
 pub returns-in-Unopened-clause-taken : goal.returns-in-Unopened-clause-taken
 returns-in-Unopened-clause-taken g c = λ is sheet shown seen turns had taken few.

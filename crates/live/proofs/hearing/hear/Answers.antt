@@ -26,7 +26,7 @@ returns-in-Err-clause-goes g c = λ bytes logs turns reads came.
     let told = c.bearing_of-bearing.ensures in
     let shown = c.evidence-evidence.ensures ∙ ap (λ (b : Bearing). evidence_of b what) c.behind.ensures
     ∙ shown_so _ _ _ _ bytes c.args.read.now what calls.out c.bearing_of-bearing.result c.is_some.result calls.step reads
-    told.another told.passed_over told.in_reach told.level
+    told.another told.unkept told.passed_over told.in_reach told.level
     (λ asked. c.is_some.ensures ∙ replies_so _ _ _ _ bytes what c.take-received.result.reply (answer.step bytes reads) asked) in
     hears_last {ticking = ticking_of c.args.between.now.pace} what c.in-Err.end c.args.between.now.pace.in_time (returns-in-Err-clause-ticking g c) calls came
     (c.after-between.ensures ∙ ap (λ evidence. warned_after c.args.between.now.warned evidence what) shown)
@@ -44,7 +44,7 @@ returns-clause-goes g c = λ bytes logs turns reads came.
     let told = c.bearing_of-bearing.ensures in
     let shown = c.evidence-evidence.ensures ∙ ap (λ (b : Bearing). evidence_of b what) c.behind.ensures
     ∙ shown_so _ _ _ _ bytes c.args.read.now what calls.out c.bearing_of-bearing.result c.is_some.result calls.step reads
-    told.another told.passed_over told.in_reach told.level
+    told.another told.unkept told.passed_over told.in_reach told.level
     (λ asked. c.is_some.ensures ∙ replies_so _ _ _ _ bytes what c.take-received.result.reply (answer.step bytes reads) asked) in
     let further = sym c.end_at.ensures ∙ c.in_default.is in
     hears {ticking = ticking_of c.args.between.now.pace} what c.args.between.now.pace.in_time (returns-clause-ticking g c) calls came
