@@ -1,3 +1,4 @@
 pub mod StandingLemmas
 pub mod DraftLemmas
 pub mod BowlerLemmas
+pub mod PlanLemmas

@@ -1,2 +1,3 @@
 -- What serves private functions and proofs only.
 pub mod Standing
+pub mod Reading

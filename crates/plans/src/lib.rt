@@ -1,4 +1,5 @@
-//! Plans: corrections that a book takes one after another, where the wanted ones are legal only together.
+//! Plans: corrections that a book takes one after another, where the wanted ones are legal only together; and
+//! what is asked behind the word `plan`.
 #![tactic(auto)]
 
 mod bowler;
@@ -6,6 +7,7 @@ mod draft;
 mod laws;
 mod naming;
 mod plan;
+mod planning;
 mod scoring;
 mod search;
 mod standing;
@@ -14,3 +16,4 @@ mod target;
 pub use bowler::over_by;
 pub use laws::no_plan_against_the_laws;
 pub use plan::{Plan, plan_of};
+pub use planning::{Planned, plan_asked};

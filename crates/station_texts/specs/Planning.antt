@@ -6,7 +6,7 @@ use Rattle.cards.specs.Sheet.{Sheet}
 use Rattle.corrections.specs.CleanList.{history_of}
 use Rattle.plans.specs.declared.plan.Plan.{Plan}
 use Rattle.plans.specs.declared.plan.Plan.TheVariants.{Lines, Unnamed, Against, TooLong as LongPlan}
-use Rattle.plan_words.specs.declared.planning.Planned.{Planned}
+use Rattle.plans.specs.declared.planning.Planned.{Planned}
 use Rattle.station_texts.specs.Laters.{later_words}
 use Rattle.station_texts.specs.Questions.{unclear_text, who_may}
 

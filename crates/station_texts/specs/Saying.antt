@@ -18,7 +18,7 @@ use Rattle.screen.specs.Words.{behind_plan, is_end, is_plan, word_of}
 use Rattle.screen.specs.declared.word.Word.{Word}
 use Rattle.shorthand.specs.Full.{entry_in_full, in_full}
 use Rattle.shorthand.specs.Lines.{Reason, reason_of}
-use Rattle.plan_words.specs.Planning.{IsPlanned}
+use Rattle.plans.specs.Planning.{IsPlanned}
 use Rattle.station_texts.specs.declared.said.Said.{Said}
 use Rattle.station_texts.specs.declared.said.Said.TheVariants.{Quit, Asks, Plan, Unclear, SayAgain, NoneDiffers, Waiting, Refused, Withheld, Penned}
 

@@ -3,7 +3,7 @@
 ghost use Rattle.std.specs.Prelude.{◌++◌, codes, All, OnOk};
 ghost use Rattle.notation.specs.Written.{IsEntry, IsPlain, text_of};
 ghost use Rattle.streams.specs.Watched.{Prints, TellsFailure};
-ghost use Rattle.plan_words.specs.Planning.{IsFinePlan, IsFinePlanned};
+ghost use Rattle.plans.specs.Planning.{IsFinePlan, IsFinePlanned};
 ghost use Rattle.station_texts.specs.Laters.{later_words};
 ghost use Rattle.station_texts.specs.Planning as planning;
 
@@ -13,8 +13,7 @@ use cards::MatchSheet;
 use corrections::{BookOf, Placed};
 use match_laws::LawRefusal;
 use notation::{Entry, line_of};
-use plan_words::Planned;
-use plans::Plan;
+use plans::{Plan, Planned};
 use streams::{Sink, Watched, WriteFailed};
 
 /// Prints the line of an entry.

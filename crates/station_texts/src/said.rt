@@ -15,7 +15,7 @@ use cards::MatchSheet;
 use corrections::BookOf;
 use desk::Refusal;
 use notation::Entry;
-use plan_words::{Planned, plan_asked};
+use plans::{Planned, plan_asked};
 use screen::{Word, behind_plan, is_end, word_of};
 use shorthand::{Unclear, entry_in_full, marked_alone};
 use std::alloc::Global;

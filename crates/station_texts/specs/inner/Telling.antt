@@ -2,7 +2,7 @@
 use Rattle.notation.specs.Written.{IsEntry}
 use Rattle.station_texts.specs.declared.said.Said.{Said}
 use Rattle.station_texts.specs.declared.said.Said.TheVariants.{Penned, Plan, Refused}
-use Rattle.plan_words.specs.Planning.{IsFinePlanned}
+use Rattle.plans.specs.Planning.{IsFinePlanned}
 
 -- the entry that was penned or refused, where one was, and those of a plan have their numbers in their ranges
 abbrev pub IsFine : Said → Type 0

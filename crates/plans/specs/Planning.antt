@@ -13,7 +13,7 @@ use Rattle.plans.specs.declared.plan.Plan.{Plan}
 use Rattle.plans.specs.declared.plan.Plan.TheVariants.{Lines, Unnamed, Against, TooLong as LongPlan}
 use Rattle.shorthand.specs.Full.{entry_in_full}
 use Rattle.shorthand.specs.Lines.{Reason, Fault, reason_of}
-use Rattle.plan_words.specs.declared.planning.Planned.{Planned}
+use Rattle.plans.specs.declared.planning.Planned.{Planned}
 
 -- ---- what is asked
 

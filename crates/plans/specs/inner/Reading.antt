@@ -1,7 +1,7 @@
 -- Why it isn't known what is wanted.
 use Rattle.std.specs.Prelude.{◌≡◌, Result, Err}
 use Rattle.shorthand.specs.Lines.{Reason, reason_of}
-use Rattle.plan_words.specs.declared.planning.Unread.{Unread}
+use Rattle.plans.specs.declared.planning.Unread.{Unread}
 
 abbrev pub IsUnread : {X : Type 0} → Result X Reason → Unread → Type 0
 IsUnread read (Unread.Unclear unclear) = read ≡ Err (reason_of unclear)

@@ -2,10 +2,10 @@ use Rattle.std.proofs.Common.{◌≡◌, ◌-◌, List, Ok, MatchResult, Result,
 use Rattle.notation.specs.declared.entry.Entry.{Entry}
 use Rattle.shorthand.specs.Lines.{Reason}
 use Rattle.shorthand.specs.Full.{entry_in_full}
-use Rattle.plan_words.specs.Planning.{parts_of, with_part, with_parts}
-use Rattle.plan_words.specs.inner.Reading.{IsUnread}
-use Rattle.plan_words.proofs.PlanLemmas.{parts_more, parts_one, unread_stays}
-use Rattle.plan_words.proofs.planning.+add_parts.Goals as goal
+use Rattle.plans.specs.Planning.{parts_of, with_part, with_parts}
+use Rattle.plans.specs.inner.Reading.{IsUnread}
+use Rattle.plans.proofs.PlanLemmas.{parts_more, parts_one, unread_stays}
+use Rattle.plans.proofs.planning.+add_parts.Goals as goal
 
 pub returns-in-None-clause-value : goal.returns-in-None-clause-value
 returns-in-None-clause-value g t c =

@@ -6,9 +6,9 @@ use Rattle.notation.specs.declared.entry.Entry.{Entry}
 use Rattle.cards.specs.Sheet.{Sheet}
 use Rattle.plans.specs.declared.plan.Plan.TheVariants.{Lines, Unnamed, Against, TooLong}
 use Rattle.shorthand.specs.Lines.{Reason, reason_of}
-use Rattle.plan_words.specs.Planning.{IsFinePlanned, IsPlanned, has_comma, is_comma, parts_of, unspaced, with_parts}
-use Rattle.plan_words.specs.inner.Reading.{IsUnread}
-use Rattle.plan_words.specs.declared.planning.{Planned.Planned, Unread.Unread}
+use Rattle.plans.specs.Planning.{IsFinePlanned, IsPlanned, has_comma, is_comma, parts_of, unspaced, with_parts}
+use Rattle.plans.specs.inner.Reading.{IsUnread}
+use Rattle.plans.specs.declared.planning.{Planned.Planned, Unread.Unread}
 
 -- the first reason stays
 pub reason_stays : (s : Sheet) (book : List Entry) (why : Reason) (texts : List (List ℕ)) → with_parts s book (Err why) texts ≡ Err why

@@ -1,4 +1,4 @@
-use Rattle.plan_words.proofs.planning.+add_parts.Given as goal
+use Rattle.plans.proofs.planning.+add_parts.Given as goal
 
 -- proposed from what the function passes where it calls itself
 abbrev pub decreases-add_parts : goal.decreases-add_parts

@@ -6,14 +6,15 @@ ghost use Rattle.notation.specs.Written.{IsEntry};
 ghost use Rattle.shorthand.specs.Full.{entry_in_full};
 ghost use Rattle.shorthand.specs.Lines.{reason_of};
 ghost use Rattle.std.specs.List.{after_first, before_first};
-ghost use Rattle.plan_words.specs.Planning as planning;
-ghost use Rattle.plan_words.specs.inner.Reading.{IsUnread};
+ghost use Rattle.plans.specs.Planning as planning;
+ghost use Rattle.plans.specs.inner.Reading.{IsUnread};
 
+use crate::bowler::over_by;
+use crate::plan::{Plan, plan_of};
 use arrayvec::ArrayString;
 use cards::MatchSheet;
 use corrections::BookOf;
 use notation::{Entry, LineFault, Plain, Player, number_in};
-use plans::{Plan, over_by, plan_of};
 use shorthand::{Unclear, entry_in_full};
 use std::alloc::Global;
 

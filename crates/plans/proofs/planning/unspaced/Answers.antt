@@ -1,5 +1,5 @@
 use Rattle.std.proofs.lemmas.Str.Ascii.{trim_ascii_start_is}
-use Rattle.plan_words.proofs.planning.unspaced.Goals as goal
+use Rattle.plans.proofs.planning.unspaced.Goals as goal
 
 pub returns : goal.returns
 returns c = trim_ascii_start_is c.args.text.now _ c.trim_ascii_start.ensures.value

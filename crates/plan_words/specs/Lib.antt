@@ -1,3 +1,0 @@
--- What the public call claims: Planning. inner: for private functions only.
-pub mod Planning
-pub mod inner

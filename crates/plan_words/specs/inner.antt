@@ -1,2 +1,0 @@
--- What serves private functions and proofs only.
-pub mod Reading
