@@ -1,4 +1,4 @@
-//! Tests of votes files, on disks that fail.
+//! Tests of votes files and files of slots, on disks that fail.
 #![tactic(auto)]
 
 #[cfg(test)]
