@@ -8,6 +8,7 @@ mod books;
 mod deliveries;
 mod desk_states;
 mod matches;
+mod searches;
 
 /// Enters lines that the book takes.
 fn enter<B: BookOf>(rt: &impl Abort, book: &mut B, lines: &[&str]) {
