@@ -1,7 +1,7 @@
 -- What a scorer can't see.
-use Rattle.std.proofs.Common.{◌≡◌, ℕ, List, Option, Some, arith, refl, ap, ◌∙◌}
+use Rattle.std.proofs.Common.{◌≡◌, ◌≢◌, ◌⊎◌, ℕ, List, Option, Some, arith, refl, ap, ◌∙◌, inl, inr}
 use Rattle.notation.specs.declared.entry.Entry.{Entry}
-use Rattle.agree_core.specs.declared.{messages.Message.Message, messages.Vote.Vote, position.Position.Position}
+use Rattle.agree_core.specs.declared.{messages.Message.Message, messages.Vote.Vote, position.Position.Position, seat.Heard.Heard}
 use Rattle.agree_core.specs.FileView.{FileView}
 use Rattle.agree_core.specs.Positions.{Before}
 use Rattle.vote_store.specs.Record.{entry_coded}
@@ -10,17 +10,30 @@ use Rattle.wire.specs.Layout.{Says}
 use Rattle.wire.proofs.MessageLemmas.{code_in}
 use Rattle.live.specs.Desks.{entry_in}
 use Rattle.live.specs.Hidden.{HidesTheOther, TellsBoth}
+use Rattle.live.specs.LostLines.{bearing_of, evidence_of}
+use Rattle.live.specs.declared.lost_lines.Bearing.{Bearing}
+use Rattle.station_texts.specs.declared.doubt.Evidence.TheVariants.{Nothing}
+use Rattle.wire.specs.declared.what.What.{What}
 use Rattle.station_texts.specs.Texts.{differs_text}
 
 not_before : (p q : Position) → p ≡ q → Before p q → ⊥
 not_before p q e b = grind arith
+
+-- by which answers anything is shown of both files
+evidence_by : (b : Bearing) (what : What) → evidence_of b what ≢ Nothing
+    → (what ≡ What.Asked) ⊎ ((what ≡ What.Heard Heard.Old) ⊎ ((what ≡ What.Heard Heard.Ahead) ⊎ (what ≡ What.Heard Heard.Mine)))
+evidence_by b What.Asked n = inl refl
+evidence_by b (What.Heard Heard.Old) n = inr (inl refl)
+evidence_by b (What.Heard Heard.Ahead) n = inr (inr (inl refl))
+evidence_by b (What.Heard Heard.Mine) n = inr (inr (inr refl))
+evidence_by b what n = absurd (n refl)
 
 pub hides_the_other : {Disk : Type 0} (view : FileView Disk) → HidesTheOther view
 hides_the_other view = record {
   answer = λ s t v h mine theirs now hears. grind (arith, not_before);
   silent = λ sheet innings k l bytes. refl;
   bytes = λ sheet innings k l one other what n same. grind arith;
-  evidence = λ k bytes what is. grind arith;
+  evidence = λ k bytes what is. evidence_by (bearing_of k.seat k.votes bytes) what is;
   cast = λ s t v h none. cc (none, h.2.1);
   noted = λ sheet innings k l call e f n w. grind arith;
   whether = λ sheet innings k l call e f o p n. grind arith;

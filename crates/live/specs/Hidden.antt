@@ -38,8 +38,8 @@ AsksWhere call = (line : List ℕ) × (call ≡ Typed line (Said.Asks Word.Where
 
 -- Of the other desk's vote of a position its scorer is told that it came, and nothing that depends on its entry, until the
 -- own one is stored: until that is cast, the other's is answered with `Noted` whatever it says, and nothing is told then; a
--- text depends on bytes that came by their answer alone, and by what they show of both desks' files, which only asks and votes
--- for other positions do, unless the answer is `Differ`, which is given only where the own vote was cast before; and it depends on no vote that is noted, unless a vote is penned that differs from it, which is stored
+-- text depends on bytes that came by their answer alone, and by what they show of both desks' files, which only asks, votes
+-- for other positions and votes of its own do, unless the answer is `Differ`, which is given only where the own vote was cast before; and it depends on no vote that is noted, unless a vote is penned that differs from it, which is stored
 -- then; where the scorer asks where the desk stands, it depends on whether a vote is noted, and not on which, and so does
 -- it whether he may be reminded; and what is seen of the desk beside its rows depends on no vote that is noted. So two
 -- runs that differ in that entry alone print the same until then.
@@ -52,7 +52,7 @@ pub record HidesTheOther {Disk : Type 0} (view : FileView Disk) : Type 0 where
       → what ≢ What.Heard Heard.Differ → shown_by k.desk one what ≡ shown_by k.desk other what
       → told_of sheet innings k (Given one what) l ≡ told_of sheet innings k (Given other what) l
   pub evidence : (k : DeskState Disk) (bytes : List ℕ) (what : What) → shown_by k bytes what ≢ Evidence.Nothing
-      → (what ≡ What.Asked) ⊎ ((what ≡ What.Heard Heard.Old) ⊎ (what ≡ What.Heard Heard.Ahead))
+      → (what ≡ What.Asked) ⊎ ((what ≡ What.Heard Heard.Old) ⊎ ((what ≡ What.Heard Heard.Ahead) ⊎ (what ≡ What.Heard Heard.Mine)))
   pub cast : (s t : SeatState) (v : Vote) → Hears s v Heard.Differ t → s.mine ≢ None
   pub noted : (sheet : Sheet) (innings : ℕ) (k l : DeskProcess Disk) (call : DeskCall) (e f : Option Entry)
       → (IsPennedDiffering call → ⊥) → (AsksWhere call → ⊥)

@@ -77,6 +77,7 @@ fn say<B: BookOf, L: Link, C: Clock>(
 }
 
 /// The own vote of the desk that sent what came, where it goes back to that desk.
+#[tactic(auto, using(std::proofs::lemmas::Grind::common_steps, wire::proofs::MessageLemmas::in_range))]
 fn recalled(witness: &Witness, read: &Result<Message, WireFault>) -> Option<Vote>
     requires { ForOk read.now IsMessage }
     ensures some { (v : AVote) → result ≡ Some v → (m : AMessage) × (read.now ≡ Ok m) × (recalled witness.now m ≡ Some v) }
@@ -106,7 +107,8 @@ fn hand_back<L: Link>(link: &mut L, game: u64, vote: Vote)
     requires { InRange (position_of vote) }
     ensures { L.log link.new ≡ L.log link.old ++ Sent ToOne (written game (Message.Vote vote)) ∷ [] }
 {
-    link.reply(&bytes_of(game, &Message::Vote(vote)));
+    let bytes = bytes_of(game, &Message::Vote(vote));
+    link.reply(&bytes);
 }
 
 /// The entry of the vote that came, where it is one.

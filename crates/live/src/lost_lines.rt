@@ -141,7 +141,19 @@ fn is_other_last<S: SlotsOf, B: BookOf + Drop>(
     }
 }
 
-/// Whether a vote came that this desk, if it is its own, hasn't cast.
+/// Whether a vote of this desk, for this position and entry, isn't among its votes.
+fn is_unkept_vote<S: SlotsOf, B: BookOf + Drop>(
+    desk: &Desk<S, B>,
+    at: Position,
+    entry: &Entry,
+) -> bool
+    requires { IsEntry entry.now }
+    ensures { result ≡ lost.is_unkept (state_of desk.now).seat (state_of desk.now).votes at (code entry.now) }
+{
+    is_uncast(desk, at) || is_other_last(desk, at, entry)
+}
+
+/// Whether a vote came that isn't among this desk's votes, if it is its own.
 fn is_unkept<S: SlotsOf, B: BookOf + Drop>(
     desk: &Desk<S, B>,
     read: Result<Message, WireFault>,
@@ -151,10 +163,7 @@ fn is_unkept<S: SlotsOf, B: BookOf + Drop>(
         result ≡ lost.is_unkept (state_of desk.now).seat (state_of desk.now).votes (position_of v) (code v.entry) }
 {
     match read {
-        Ok(Message::Vote(vote)) => {
-            let at = vote.position();
-            is_uncast(desk, at) || is_other_last(desk, at, &vote.entry)
-        }
+        Ok(Message::Vote(vote)) => is_unkept_vote(desk, vote.position(), &vote.entry),
         Ok(Message::Ask(_)) | Err(_) => false,
     }
 }

@@ -11,6 +11,7 @@ use Rattle.desk.specs.Takes.{Takes}
 use Rattle.wire.specs.declared.what.What.{What}
 use Rattle.wire.specs.Layout.{Says, body_in, is_at as message_at}
 use Rattle.wire.proofs.MessageLemmas.{code_in}
+use Rattle.notation.specs.Code.{code}
 use Rattle.agree_core.specs.Ballots.{Ballot, In, ballot_of, votes_by}
 use Rattle.headline.specs.Configurations.{Configuration, Running, all_votes, node}
 use Rattle.headline.specs.Setting.{Setting}

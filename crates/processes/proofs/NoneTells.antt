@@ -1,5 +1,5 @@
 -- In woven lives no board tells that a desk's file lacks lines.
-use Rattle.std.proofs.Common.{arith, ⊎_elim, ◌≡◌, ℕ, Bool, true, false, Option, Some, None, List, [], ◌∷◌, ◌++◌, Result, Ok, Err, refl, sym, ap, ◌∙◌}
+use Rattle.std.proofs.Common.{arith, ⊎_elim, ◌≡◌, ℕ, Bool, true, false, Option, Some, None, List, [], ◌∷◌, Ok, Err, refl, ap, ◌∙◌}
 use Rattle.std.specs.Prelude.{All, if◌then◌else◌}
 use Rattle.std.specs.List.{filter}
 use Rattle.std.proofs.lemmas.Bool.{eq-eqb}
@@ -20,7 +20,7 @@ use Rattle.processes.specs.Happenings.{BoardBegun, BoardCalled, BoardGreeted, Ha
 use Rattle.processes.specs.Lives.{BoardProcess, BoardRuns, IsBoardLife, board_calls, board_happens, first_turn}
 use Rattle.processes.specs.Parting.{IsParted, NoneIsParted, NoneTells, TellsNone, TellsNothing, is_anew, tells_anew}
 use Rattle.processes.specs.Printing.{HandsBook}
-use Rattle.processes.specs.Weaving.{WovenLivesTellNone, is_at_board, start}
+use Rattle.processes.specs.Weaving.{WovenLivesTellNone, is_at_board}
 use Rattle.processes.proofs.Local.{Local, goes-append, local-one, nexts, with_one}
 use Rattle.processes.proofs.WholeLives.{woven_lives_part_none}
 

@@ -1,5 +1,5 @@
 -- A vote that a desk has cast isn't one that its file lacks.
-use Rattle.std.proofs.Common.{arith, ◌≡◌, ℕ, true, false, ◌&&◌, ◌||◌, not, List, [], ◌∷◌, Option, Some, None, refl, sym, ap, ap₂, ◌∙◌, subst, inl, inr}
+use Rattle.std.proofs.Common.{arith, ◌≡◌, Bool, true, false, ⊎_elim, ◌&&◌, ◌||◌, not, List, [], ◌∷◌, Option, Some, None, refl, sym, ap, ap₂, ◌∙◌, subst, inl, inr}
 use Rattle.std.specs.Prelude.{is_some}
 use Rattle.std.specs.Str.{bytes_eq}
 use Rattle.std.proofs.lemmas.Bool.Decides.{nat_tests}
@@ -27,6 +27,9 @@ at_once p q e = grind (arith, nat_tests)
 same_code : (e : Entry) → bytes_eq (code e) (code e) ≡ true
 same_code e = (bytes_eq-Decides (code e) (code e)).1 refl
 
+and_not : (p q : Bool) → q ≡ true → (p && not q) ≡ false
+and_not p q e = grind arith
+
 follows_later : (theirs : List Ballot) (c b : Ballot) (bs : List Ballot) → Follows theirs c (b ∷ bs) → Before b.at c.at
 follows_later theirs c b bs h = grind arith
 
@@ -49,11 +52,28 @@ module _ (theirs : List Ballot) (b : Ballot) where
     cast s book (Some e) is m = by_last m.0 m.1
       where
         by_last : (rest : List Ballot) → own ≡ record { at = s.position; entry = e } ∷ rest → is_uncast s b.at ≡ false
-        by_last rest split = grind (arith, nat_tests, sym is)
+        by_last rest split = ⊎_elim here before (subst (In b) split i)
+          where
+            here : b ≡ record { at = s.position; entry = e } → is_uncast s b.at ≡ false
+            here same =
+                let at : b.at ≡ s.position = ap (λ (b : Ballot). b.at) same in
+                and_not (not (is_before b.at s.position)) (is_at b.at s.position && is_some s.mine)
+                (ap₂ ◌&&◌ (ap (λ (p : Position). is_at p s.position) at ∙ at_self s.position) (ap is_some (sym is)))
+
+            before : In b rest → is_uncast s b.at ≡ false
+            before k =
+                let less = before_so b.at s.position (earlier theirs (record { at = s.position; entry = e }) rest (subst (Justified theirs) split j) b k) in
+                ap (λ x. not x && not (is_at b.at s.position && is_some s.mine)) less
 
     not_other : (votes : List Ballot) → votes ≡ own → is_other_last votes b.at (code b.entry) ≡ false
     not_other [] e = refl
-    not_other (x ∷ xs) e = grind (arith, same_code b.entry, at_once x.at b.at, one_vote theirs (x ∷ xs))
+    not_other (x ∷ xs) e = turn (is_at x.at b.at) refl
+      where
+        turn : (q : Bool) → q ≡ is_at x.at b.at → (q && not (bytes_eq (code b.entry) (code x.entry))) ≡ false
+        turn false is = refl
+        turn true is =
+            let same : x ≡ b = one_vote theirs own j x b (subst (In x) e (inl refl)) i (at_once x.at b.at (sym is)) in
+            ap not (ap (λ (c : Ballot). bytes_eq (code b.entry) (code c.entry)) same ∙ same_code b.entry)
 
   pub kept : (d : DeskId) (own : List Ballot) (s : SeatState) (book : List Entry) → SeatFine d own theirs s book → In b own → is_unkept s own b.at (code b.entry) ≡ false
   kept d own s book fine i = ap₂ ◌||◌ (cast own fine.justified i s book s.mine refl fine.mine) (not_other own fine.justified i own refl)

@@ -1,5 +1,5 @@
 -- The worked life is such as what happens to processes.
-use Rattle.std.proofs.Common.{◌≡◌, ℕ, zero, suc, Some, None, List, [], ◌∷◌, Ok, refl, sym, ap, ◌∙◌, inl, arith}
+use Rattle.std.proofs.Common.{◌≡◌, ℕ, zero, suc, Some, None, Option, List, [], ◌∷◌, Ok, refl, sym, ap, ◌∙◌, inl, arith}
 use Rattle.std.specs.Prelude.{All, codes}
 use Rattle.std.specs.Fmt.{digits}
 use Rattle.std.specs.List.{filter}
@@ -11,7 +11,7 @@ use Rattle.match_laws.specs.Refusals as rules
 use Rattle.corrections.specs.Refusal.{book_refusal}
 use Rattle.entry_log.specs.Blame.{BlamesDisk}
 use Rattle.entry_log.specs.Disk.{IsImage, only}
-use Rattle.agree_core.specs.declared.{messages.DeskId.DeskId, messages.Message.Message, seat.Settled.Settled}
+use Rattle.agree_core.specs.declared.{messages.DeskId.DeskId, messages.Message.Message, position.Position.Position, seat.Settled.Settled}
 use Rattle.agree_core.specs.Ballots.{Ballot, vote_of}
 use Rattle.agree_core.specs.Boards.{BoardState, fresh_board}
 use Rattle.corrections.specs.CleanList.{clean, clean_items_of, history_of}
@@ -19,6 +19,7 @@ use Rattle.match_laws.specs.Figures.{penalty_runs, total}
 use Rattle.match_laws.specs.History.{begun_by}
 use Rattle.match_laws.specs.Result.{is_decided, outcome, side_total, target}
 use Rattle.agree_core.specs.declared.messages.DeskId.TheVariants.{A, B}
+use Rattle.board.specs.Rounds.{desk_asking, recalled, recalled_at}
 use Rattle.agree_core.specs.declared.seat.Heard as hearing
 use Rattle.agree_core.specs.FileView.{FileView, Holds}
 use Rattle.agree_core.specs.Openings.{NotOpened, Opened, OpenRefusal}
@@ -189,11 +190,20 @@ module _ (s : Sheet) where
   board_asks_it : BoardRuns 7 1 s (fresh_turn [] at_first) asked
   board_asks_it = ((tt, none_out, (tt, (refl, refl), refl, tt)), one_out board_asks (omega arith, omega arith), (tt, (inl ((omega arith, omega arith), refl), refl), refl, refl))
 
+  -- it has heard no round whole, so it hands nothing back
+  none_at : (o : Option DeskId) (at : Position) → recalled_at [] o at ≡ None
+  none_at None at = refl
+  none_at (Some d) at = refl
+
+  none_recalled : (m : Message) → recalled [] m ≡ None
+  none_recalled (Message.Vote v) = refl
+  none_recalled (Message.Ask q) = none_at (desk_asking q.from) (record { place = q.place; round = q.round })
+
   board_hears : BoardRuns 7 1 s (fresh_turn [] at_first) heard
   board_hears = (
-    (board_asks_it, none_out, ((omega arith, refl, λ v says. refl), ((a_says, (is_message A, refl), ((refl, refl, refl, refl), (λ e. cc), refl)), refl), refl, omega arith)),
+    (board_asks_it, none_out, ((omega arith, refl, λ m says. none_recalled m), ((a_says, (is_message A, refl), ((refl, refl, refl, refl), (λ e. cc), refl)), refl), refl, omega arith)),
     none_out,
-    ((omega arith, refl, λ v says. refl), ((b_says, (is_message B, refl), ((refl, refl, refl, refl), (λ e. taken 1), refl)), refl), refl, omega arith),
+    ((omega arith, refl, λ m says. none_recalled m), ((b_says, (is_message B, refl), ((refl, refl, refl, refl), (λ e. taken 1), refl)), refl), refl, omega arith),
   )
 
   board_runs : BoardRuns 7 1 s (fresh_turn [] at_first) calls_of_board
