@@ -1,11 +1,11 @@
 """Lives of a desk that serves a page, under shim.c, in which a call for it fails: its scorer's browser, its terminal and the
 other desk are played here. The browser asks again for what it isn't answered, and sends a post again as it was."""
-import errno, hashlib, hmac, os, re, select, time
+import errno, os, re, select, time
 from lives import BOOK, FINGERPRINTS, LONGEST, SHEET, TOOLS, Process, told
 from pages import Viewer, answer_at, free_place, is_at_the_beginning
 from plans import HOWS, Plan, plans
 from record import Wrong, bytes_at
-from tickets import secret_in, ticket_tag
+from tickets import secret_in, signed, ticket_tag
 from trials import Ground, begin, card_agrees, expect, look_at_desk
 
 LINK = re.compile(r"page: http://(\S+)/#([0-9a-f]{32})\n")
@@ -91,9 +91,9 @@ class Browser:
     def post(self, place, line):
         """A post of a line, by the next number."""
         nonce = self.get("/nonce").decode().strip()
-        tag = hmac.new(self.secret, f"{nonce} {place}.0 {line}".encode(), hashlib.sha256).hexdigest()
+        tag, hidden = signed(self.secret, nonce, f"{place}.0", line.encode())
         fields = f"Host: {self.place}\r\nContent-Length: {len(line)}\r\nX-At: {place}.0\r\nX-Nonce: {nonce}\r\nX-Tag: {tag}\r\n"
-        return f"POST /line HTTP/1.1\r\n{fields}\r\n{line}".encode()
+        return f"POST /line HTTP/1.1\r\n{fields}\r\n".encode() + hidden
 
     def type(self, place, line):
         """Types a line. The answer is that it is typed, or where one was lost that its number is used up."""

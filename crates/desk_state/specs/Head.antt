@@ -28,6 +28,9 @@ desk_fields desk at =
     ++ number_field (codes "place") at.place ∷ []
     ++ number_field (codes "round") at.round ∷ []
 
+abbrev pub whose_fields : Sheet → DeskId → Position → List Field
+whose_fields s desk at = match_fields s ++ desk_fields desk at
+
 -- its own vote of this position in full, where it is cast
 abbrev pub pending_field : Option Entry → Field
 pending_field own = (codes "pending", text_or_null (option_map text_of own))
@@ -41,4 +44,4 @@ held_field lines = (codes "held", array_of (lines_values lines))
 
 abbrev pub head_fields : Sheet → DeskId → Position → Option Entry → List ArrayString → List Field
 head_fields s desk at own held =
-    match_fields s ++ desk_fields desk at ++ pending_field own ∷ [] ++ held_field held ∷ []
+    whose_fields s desk at ++ pending_field own ∷ [] ++ held_field held ∷ []

@@ -16,7 +16,7 @@ use Rattle.desk_state.specs.Wants.{wants, wants_text}
 use Rattle.desk_state.specs.Players.{batters, bowlers, numbers_value}
 use Rattle.desk_state.specs.Over.{over_shown, over_field}
 use Rattle.desk_state.specs.Sides.{sides_field}
-use Rattle.desk_state.specs.Head.{head_fields}
+use Rattle.desk_state.specs.Head.{head_fields, whose_fields}
 
 -- what comes next, by the history h
 abbrev pub next_fields : Sheet → ℕ → History → List Field
@@ -39,3 +39,11 @@ state_value s n book desk at own held = object_of (head_fields s desk at own hel
 -- its text, as the library writes it, and a newline
 abbrev pub state_text : Sheet → ℕ → List Entry → DeskId → Position → Option Entry → List ArrayString → List ℕ
 state_text s n book desk at own held = print (json_tokens (state_value s n book desk at own held)) ++ codes "\n"
+
+-- what anybody may read of it: without its own vote, and without the lines that it holds. It is a function of the sheet, the
+-- book, the desk and its position alone
+abbrev pub open_value : Sheet → ℕ → List Entry → DeskId → Position → Json
+open_value s n book desk at = object_of (whose_fields s desk at ++ book_fields s n book)
+
+abbrev pub open_text : Sheet → ℕ → List Entry → DeskId → Position → List ℕ
+open_text s n book desk at = print (json_tokens (open_value s n book desk at)) ++ codes "\n"

@@ -42,6 +42,19 @@ fn put_desk(out: &mut Compact, desk: DeskId, at: Position) -> Result<(), AllocEr
     put_figure(out, "round", at.round)
 }
 
+/// Puts which match and which desk it is, and where it stands.
+pub fn put_whose(
+    out: &mut Compact,
+    sheet: &MatchSheet,
+    desk: DeskId,
+    at: Position,
+) -> Result<(), AllocError>
+    ensures { PutsFields result out.old out.new (laws.whose_fields sheet.now desk at) }
+{
+    put_match(out, sheet)?;
+    put_desk(out, desk, at)
+}
+
 /// Puts its own vote.
 fn put_pending(out: &mut Compact, own: Option<Entry>) -> Result<(), AllocError>
     requires { IfSome own IsEntry }
@@ -84,8 +97,7 @@ pub fn put_head(
     requires { IfSome own IsEntry }
     ensures { PutsFields result out.old out.new (laws.head_fields sheet.now desk at own held.now) }
 {
-    put_match(out, sheet)?;
-    put_desk(out, desk, at)?;
+    put_whose(out, sheet, desk, at)?;
     put_pending(out, own)?;
     put_held(out, held)
 }

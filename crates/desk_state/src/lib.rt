@@ -16,4 +16,4 @@ mod wants;
 mod worked;
 
 pub use laws::{offers_are_taken, the_over_is_shown};
-pub use text::state_text;
+pub use text::{open_text, state_text};

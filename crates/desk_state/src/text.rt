@@ -2,9 +2,9 @@
 
 ghost use Rattle.std.specs.Prelude.{◌≡◌, IfOk, IfSome};
 ghost use Rattle.notation.specs.Written.{IsEntry};
-ghost use Rattle.desk_state.specs.Value.{state_text as text_of};
+ghost use Rattle.desk_state.specs.Value as laws;
 
-use crate::value::put_state;
+use crate::value::{put_open, put_state};
 use agree_core::{DeskId, Position};
 use cards::MatchSheet;
 use corrections::BookOf;
@@ -27,11 +27,29 @@ pub fn state_text<B: BookOf>(
     held: &[HeldLine],
 ) -> Result<Vec<u8>, AllocError>
     requires { IfSome own IsEntry }
-    ensures { IfOk result (λ text. text.items ≡ text_of sheet.now
+    ensures { IfOk result (λ text. text.items ≡ laws.state_text sheet.now
         (B.innings_a_side book.now) (B.content book.now) desk at own held.now) }
 {
     let mut out = Compact::new(alloc);
     put_state(&mut out, alloc, sheet, book, desk, at, own, held)?;
+    let mut text = out.into_inner();
+    text.push(b'\n')?;
+    Ok(text)
+}
+
+/// What anybody may read of it, likewise: it has neither the desk's own vote nor the lines that it holds.
+pub fn open_text<B: BookOf>(
+    alloc: Global,
+    sheet: &MatchSheet,
+    book: &B,
+    desk: DeskId,
+    at: Position,
+) -> Result<Vec<u8>, AllocError>
+    ensures { IfOk result (λ text. text.items ≡ laws.open_text sheet.now
+        (B.innings_a_side book.now) (B.content book.now) desk at) }
+{
+    let mut out = Compact::new(alloc);
+    put_open(&mut out, alloc, sheet, book, desk, at)?;
     let mut text = out.into_inner();
     text.push(b'\n')?;
     Ok(text)

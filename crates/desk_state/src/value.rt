@@ -7,7 +7,7 @@ ghost use Rattle.desk_state.specs.Value as laws;
 
 use crate::board_field::put_board_field;
 use crate::deliveries::over_shown;
-use crate::head::put_head;
+use crate::head::{put_head, put_whose};
 use crate::next::put_next;
 use crate::over::put_over;
 use crate::sides::put_sides;
@@ -53,6 +53,24 @@ pub fn put_state<B: BookOf>(
 {
     begin_object(out)?;
     put_head(out, sheet, desk, at, own, held)?;
+    put_book(out, alloc, sheet, book)?;
+    end_object(out)
+}
+
+/// Puts what anybody may read of the state of a desk with this book, that votes at this position.
+pub fn put_open<B: BookOf>(
+    out: &mut Compact,
+    alloc: Global,
+    sheet: &MatchSheet,
+    book: &B,
+    desk: DeskId,
+    at: Position,
+) -> Result<(), AllocError>
+    ensures { PutsValues result out.old out.new (laws.open_value sheet.now
+        (B.innings_a_side book.now) (B.content book.now) desk at ∷ []) }
+{
+    begin_object(out)?;
+    put_whose(out, sheet, desk, at)?;
     put_book(out, alloc, sheet, book)?;
     end_object(out)
 }

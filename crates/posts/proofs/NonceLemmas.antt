@@ -1,6 +1,6 @@
 -- What is out over many calls.
 use Rattle.std.proofs.lemmas.Grind.{common_steps}
-use Rattle.std.proofs.Common.{◌≡◌, ◌≢◌, ◌∙◌, ◌<◌, ◌+◌, ◌==◌, ◌&&◌, ◌||◌, ℕ, Bool, true, false, List, [], ◌∷◌, ◌++◌, Option, None, Some, Result, Ok, Err, All, AllPairs, length, drop, if◌then◌else◌, nat_lt, arith, refl, sym, ap, subst}
+use Rattle.std.proofs.Common.{◌≡◌, ◌≢◌, ◌∙◌, ◌<◌, ◌≤◌, ◌+◌, ◌==◌, ◌&&◌, ◌||◌, ℕ, Bool, true, false, List, [], ◌∷◌, ◌++◌, Option, None, Some, Result, Ok, Err, All, AllPairs, length, drop, if◌then◌else◌, nat_lt, arith, refl, sym, ap, subst}
 use Rattle.std.proofs.lemmas.Bool.Decides.{nat_tests}
 use Rattle.std.proofs.lemmas.List.Elements.{All-nil, All-cons}
 use Rattle.std.proofs.lemmas.List.Kept.{AllPairs-cons}
@@ -9,9 +9,11 @@ use Rattle.std.proofs.lemmas.Slice.Eq.{bytes_eq-Decides}
 use Rattle.agree_core.specs.declared.position.Position.{Position}
 use Rattle.screen.specs.Words.{is_end}
 use Rattle.posts.specs.Texts.{tag_of}
-use Rattle.posts.specs.Posts.{IsTaken, after_check, checked, is_good_pass, is_out, is_same_place, is_tagged, line_of, out_after, out_after_pass, passed_by, stamped, used_by, verdict, with_given, without}
+use Rattle.posts.specs.Posts.{IsPostOf, IsTaken, after_check, checked, is_good_pass, is_line, is_out, is_same_place, is_tagged, line_in, line_of, line_of_post, out_after, out_after_pass, passed_by, stamped, used_by, verdict, with_given, without}
 use Rattle.posts.specs.Runs.{Call, accepted, accepted_by, let_by}
-use Rattle.posts.specs.Runs.Call.{Give, Judge, Look, Renew}
+use Rattle.posts.specs.Runs.Call.{Give, Hide, Judge, Look, Renew}
+use Rattle.posts.specs.Veils.{desk_seed, stream_key, turned}
+use Rattle.posts.proofs.VeilLemmas.{length-turned, turned-twice}
 use Rattle.posts.specs.declared.{judging.Post.Post, refusal.Refusal.Refusal, stamp.{Pass.Pass, Stamp.Stamp}}
 
 -- ---- what is known of a post whose line is typed
@@ -34,7 +36,7 @@ good secret out (Some t) line s h =
 -- the stamp of a post that is from here and good
 record IsChecked (secret out : List ℕ) (post : Post) (s : Stamp) : Type 0 where
   from_here : post.is_from_here ≡ true
-  is_good : IsGood secret out post.stamp post.line.now s
+  is_good : IsGood secret out post.stamp (line_of_post secret post) s
 
 from_here : (here long : Bool) (r : Result Stamp Refusal) (s : Stamp)
     → ◌≡◌ {A = Result Stamp Refusal} (if here then (if long then Err Refusal.TooLong else r) else Err Refusal.Foreign) (Ok s)
@@ -43,8 +45,9 @@ from_here here long r s h = (grind (arith, h), grind (arith, h))
 
 is_checked : (secret out : List ℕ) (post : Post) (s : Stamp) → checked secret out post ≡ Ok s → IsChecked secret out post s
 is_checked secret out post s h =
-    let both = from_here post.is_from_here (nat_lt 128 (length post.line.now)) (stamped secret out post.stamp post.line.now) s h in
-    record { from_here = both.0; is_good = good secret out post.stamp post.line.now s both.1 }
+    let line = line_of_post secret post in
+    let both = from_here post.is_from_here (nat_lt 128 (length post.hidden.now)) (stamped secret out post.stamp line) s h in
+    record { from_here = both.0; is_good = good secret out post.stamp line s both.1 }
 
 after : (r : Result Stamp Refusal) (line : List ℕ) (at : Position) (waiting : ℕ) (l : List ℕ) → after_check r line at waiting ≡ Ok l
     → (s : Stamp) × (r ≡ Ok s) × (line_of s line at waiting ≡ Ok l)
@@ -53,10 +56,18 @@ after r line at waiting l h = grind (arith, common_steps)
 same_place : (p q : Position) → is_same_place p q ≡ true → p ≡ q
 same_place p q h = grind (arith, common_steps, nat_tests)
 
-placed : (ends same room : Bool) (line l : List ℕ)
-    → ◌≡◌ {A = Result (List ℕ) Refusal} (if ends then Err Refusal.Ends else if same then (if room then Ok line else Err Refusal.Busy) else Err Refusal.Elsewhere) (Ok l)
-    → (ends ≡ false) × (same ≡ true)
-placed ends same room line l h = (grind (arith, h), grind (arith, h))
+-- a line that is typed
+record IsPlaced (is_one ends same : Bool) (line l : List ℕ) : Type 0 where
+  is_it : is_one ≡ true
+  goes_on : ends ≡ false
+  here : same ≡ true
+  whole : line ≡ l
+
+placed : (is_one ends same room : Bool) (line l : List ℕ)
+    → ◌≡◌ {A = Result (List ℕ) Refusal} (if is_one then (if ends then Err Refusal.Ends else if same then (if room then Ok line else Err Refusal.Busy) else Err Refusal.Elsewhere) else Err Refusal.Malformed) (Ok l)
+    → IsPlaced is_one ends same line l
+placed is_one ends same room line l h =
+    record { is_it = grind (arith, h); goes_on = grind (arith, h); here = grind (arith, h); whole = grind (arith, h) }
 
 -- what is let go is out no more
 pub without_lacks : (n : ℕ) (out : List ℕ) → is_out (without n out) n ≡ false
@@ -69,22 +80,68 @@ without_lacks n (x ∷ xs) = by_test (x == n) refl (without_lacks n xs)
     by_test false e rest = ap (λ t. t || is_out (without n xs) n) e ∙ rest
 
 pub taken : (secret out : List ℕ) (post : Post) (at : Position) (waiting : ℕ) (line : List ℕ)
-    → verdict secret out post at waiting ≡ Ok line → IsTaken secret out post at
+    → verdict secret out post at waiting ≡ Ok line → IsTaken secret out post at line
 taken secret out post at waiting line h =
-    let found = after (checked secret out post) post.line.now at waiting line h in
+    let hidden = line_of_post secret post in
+    let found = after (checked secret out post) hidden at waiting line h in
     let s = found.0 in
     let known = is_checked secret out post s found.1 in
-    let place = placed (is_end post.line.now) (is_same_place s.at at) (nat_lt waiting 8) post.line.now line found.2 in
+    let place = placed (is_line hidden) (is_end hidden) (is_same_place s.at at) (nat_lt waiting 8) hidden line found.2 in
+    let by_stamp : hidden ≡ turned secret (desk_seed s.tag) post.hidden.now = ap (λ o. line_in secret o post.hidden.now) known.is_good.is_it in
     record {
       stamp = s;
       has_stamp = known.is_good.is_it;
       is_from_here = known.from_here;
       was_out = known.is_good.was_out;
       is_used = ap (λ r. is_out (used_by r out) s.nonce) found.1 ∙ without_lacks s.nonce out;
-      tag = same_tag secret s post.line.now known.is_good.tagged;
-      place = same_place s.at at place.1;
-      ends_no_desk = place.0;
+      line_is = sym place.whole ∙ by_stamp;
+      tag = same_tag secret s hidden known.is_good.tagged ∙ ap (tag_of secret s.nonce s.at) place.whole;
+      place = same_place s.at at place.here;
+      is_it = ap is_line (sym place.whole) ∙ place.is_it;
+      ends_no_desk = ap is_end (sym place.whole) ∙ place.goes_on;
     }
+
+-- ---- what is typed
+
+all_pass : (one ends same room : Bool) (line : List ℕ) → one ≡ true → ends ≡ false → same ≡ true → room ≡ true
+    → ◌≡◌ {A = Result (List ℕ) Refusal} (if one then (if ends then Err Refusal.Ends else if same then (if room then Ok line else Err Refusal.Busy) else Err Refusal.Elsewhere) else Err Refusal.Malformed) (Ok line)
+all_pass one ends same room line h1 h2 h3 h4 = grind (arith, h1, h2, h3, h4)
+
+all_good : (here long out good : Bool) (s : Stamp) → here ≡ true → long ≡ false → out ≡ true → good ≡ true
+    → ◌≡◌ {A = Result Stamp Refusal} (if here then (if long then Err Refusal.TooLong else if out then (if good then Ok s else Err Refusal.WrongTag) else Err Refusal.NotOut) else Err Refusal.Foreign) (Ok s)
+all_good here long out good s h1 h2 h3 h4 = grind (arith, h1, h2, h3, h4)
+
+not_long : (n : ℕ) → n ≤ 128 → nat_lt 128 n ≡ false
+not_long n h = grind (arith, nat_tests, h)
+
+has_room : (n : ℕ) → n < 8 → nat_lt n 8 ≡ true
+has_room n h = grind (arith, nat_tests, h)
+
+is_here : (p : Position) → is_same_place p p ≡ true
+is_here p = grind (arith, common_steps, nat_tests)
+
+pub typed : (secret out : List ℕ) (post : Post) (at : Position) (nonce waiting : ℕ) (line : List ℕ)
+    → IsPostOf secret nonce at line post → is_out out nonce ≡ true → is_line line ≡ true → is_end line ≡ false
+    → length line ≤ 128 → waiting < 8 → verdict secret out post at waiting ≡ Ok line
+typed secret out post at nonce waiting line is was_out is_one goes_on short few =
+    let s = is.stamp in
+    let opens : turned secret (desk_seed s.tag) post.hidden.now ≡ line =
+    ap (turned secret (desk_seed s.tag)) is.hides ∙ turned-twice (stream_key secret) (desk_seed s.tag) 0 line in
+    let line_is : line_of_post secret post ≡ line = ap (λ o. line_in secret o post.hidden.now) is.has_stamp ∙ opens in
+    let size : length post.hidden.now ≡ length line = ap length is.hides ∙ length-turned (stream_key secret) (desk_seed s.tag) 0 line in
+    let long : nat_lt 128 (length post.hidden.now) ≡ false = not_long _ (omega (arith, size, short)) in
+    let out_too : is_out out s.nonce ≡ true = ap (is_out out) is.number ∙ was_out in
+    let tag_is : s.tag ≡ tag_of secret s.nonce s.at line =
+    is.tag ∙ ap (λ n. tag_of secret n at line) (sym is.number) ∙ ap (λ p. tag_of secret s.nonce p line) (sym is.place) in
+    let tagged : is_tagged secret s line ≡ true = (bytes_eq-Decides s.tag (tag_of secret s.nonce s.at line)).1 tag_is in
+    let stamp_is : stamped secret out post.stamp (line_of_post secret post) ≡ stamped secret out (Some s) line =
+    ap (λ o. stamped secret out o (line_of_post secret post)) is.has_stamp ∙ ap (stamped secret out (Some s)) line_is in
+    let known : checked secret out post ≡ Ok s =
+    ap (λ r. if post.is_from_here then (if nat_lt 128 (length post.hidden.now) then Err Refusal.TooLong else r) else Err Refusal.Foreign) stamp_is
+    ∙ all_good post.is_from_here (nat_lt 128 (length post.hidden.now)) (is_out out s.nonce) (is_tagged secret s line) s is.is_from_here long out_too tagged in
+    let same : is_same_place s.at at ≡ true = ap (λ p. is_same_place p at) is.place ∙ is_here at in
+    ap (λ r. after_check r (line_of_post secret post) at waiting) known ∙ ap (λ l. line_of s l at waiting) line_is
+    ∙ all_pass (is_line line) (is_end line) (is_same_place s.at at) (nat_lt waiting 8) line is_one goes_on same (has_room waiting few)
 
 -- ---- what is out
 
@@ -184,6 +241,7 @@ never secret n (Judge post at waiting ∷ calls) out next below lacks =
     let known = taken secret out post at waiting line typed in
     let was : is_out out n ≡ true = subst (λ x. is_out out x ≡ true) (ap (λ x. x.nonce) (same_stamp post.stamp known.stamp s known.has_stamp has) ∙ sym e) known.was_out in
     absurd (cc (was, lacks))) later)
+never secret n (Hide ∷ calls) out next below lacks = never secret n calls out next below lacks
 never secret n (Renew other ∷ calls) out next below lacks = never other n calls [] next below refl
 never secret n (Look p ∷ calls) out next below lacks =
     let later = never secret n calls (out_after_pass secret out p) next below (not_true _ _ (passed_fewer (is_good_pass secret out p) n p out) lacks) in
@@ -209,6 +267,7 @@ once secret (Judge post at waiting ∷ calls) out next below =
     let same = ap (λ x. x.nonce) (same_stamp post.stamp known.stamp s known.has_stamp has) in
     AllPairs-cons (λ m n. m ≢ n) s.nonce _
     (never secret s.nonce calls (out_after secret out post) next (below s.nonce (rw same at known.was_out)) (rw same at known.is_used)) later)
+once secret (Hide ∷ calls) out next below = once secret calls out next below
 once secret (Renew other ∷ calls) out next below = once other calls [] next (none_below next)
 once secret (Look p ∷ calls) out next below =
     let later = once secret calls (out_after_pass secret out p) next (λ n is. below n (passed_fewer (is_good_pass secret out p) n p out is)) in

@@ -21,7 +21,7 @@ get_or-xored (x ∷ xs) [] i h k = absurd (omega (arith, k))
 get_or-xored (x ∷ xs) (y ∷ ys) zero h k = refl
 get_or-xored (x ∷ xs) (y ∷ ys) (suc i) h k = get_or-xored xs ys i (omega (arith, h)) (omega (arith, k))
 
-xor_twice : (a b : ℕ) → bit_xor (bit_xor a b) b ≡ a
+pub xor_twice : (a b : ℕ) → bit_xor (bit_xor a b) b ≡ a
 xor_twice a b = same_from_bits _ a (λ i.
     let once = bit_at_xor a b i in
     let twice = bit_at_xor (bit_xor a b) b i in

@@ -1,7 +1,9 @@
--- The texts of a post and its tag: Texts, Stamps. What a page knows of posts: Doors. What a post comes to: Posts. What goes on over many of them: Runs. How a page gets its secret: Tickets.
+-- The texts of a post and its tag: Texts, Stamps. What a page knows of posts: Doors. What a post comes to: Posts. What goes on over many of them: Runs. How a page gets its secret: Tickets. How texts are hidden: Veils.
 pub mod Doors
 pub mod Posts
 pub mod Runs
 pub mod Stamps
 pub mod Texts
 pub mod Tickets
+pub mod Veils
+pub mod WorkedVeils

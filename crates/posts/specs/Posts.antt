@@ -4,6 +4,7 @@ use Rattle.std.specs.List.{list_all, list_any}
 use Rattle.agree_core.specs.declared.position.Position.{Position}
 use Rattle.screen.specs.Words.{is_end}
 use Rattle.posts.specs.Texts.{pass_tag, tag_of}
+use Rattle.posts.specs.Veils.{desk_seed, turned}
 use Rattle.posts.specs.declared.{judging.Post.Post, refusal.Refusal.Refusal, stamp.{Pass.Pass, Stamp.Stamp}}
 use Rattle.posts.specs.declared.refusal.Refusal.TheVariants.{Foreign, TooLong, Malformed, NotOut, WrongTag, Ends, Elsewhere, Busy}
 
@@ -40,19 +41,26 @@ is_line text = if list_all is_printable text then nat_lt 0 (length text) else fa
 abbrev pub is_tagged : List ℕ → Stamp → List ℕ → Bool
 is_tagged secret s line = bytes_eq s.tag (tag_of secret s.nonce s.at line)
 
+-- the line that is hidden in a post with such a stamp
+abbrev pub line_in : List ℕ → Option Stamp → List ℕ → List ℕ
+line_in secret None hidden = []
+line_in secret (Some s) hidden = turned secret (desk_seed s.tag) hidden
+
+abbrev pub line_of_post : List ℕ → Post → List ℕ
+line_of_post secret post = line_in secret post.stamp post.hidden.now
+
 -- a post from here with such a stamp, of this line
 abbrev pub stamped : List ℕ → List ℕ → Option Stamp → List ℕ → Result Stamp Refusal
 stamped secret out None line = Err Malformed
 stamped secret out (Some s) line =
-    if is_line line then
-    (if is_out out s.nonce then (if is_tagged secret s line then Ok s else Err WrongTag) else Err NotOut)
-    else Err Malformed
+    if is_out out s.nonce then (if is_tagged secret s line then Ok s else Err WrongTag) else Err NotOut
 
--- whether who made a post had the secret: its stamp, or why not. In the order of these tests
+-- whether who made a post had the secret: its stamp, or why not. In the order of these tests: of a line nothing is told before its
+-- tag is seen to be good
 abbrev pub checked : List ℕ → List ℕ → Post → Result Stamp Refusal
 checked secret out post =
     if post.is_from_here then
-    (if nat_lt 128 (length post.line.now) then Err TooLong else stamped secret out post.stamp post.line.now)
+    (if nat_lt 128 (length post.hidden.now) then Err TooLong else stamped secret out post.stamp (line_of_post secret post))
     else Err Foreign
 
 abbrev pub is_same_place : Position → Position → Bool
@@ -61,9 +69,11 @@ is_same_place p q = p.place == q.place && p.round == q.round
 -- what becomes of the line of who had the secret, where the desk is at this position and so many lines wait. In this order
 abbrev pub line_of : Stamp → List ℕ → Position → ℕ → Result (List ℕ) Refusal
 line_of s line at waiting =
-    if is_end line then Err Ends
+    if is_line line then
+    (if is_end line then Err Ends
     else if is_same_place s.at at then (if nat_lt waiting 8 then Ok line else Err Busy)
-    else Err Elsewhere
+    else Err Elsewhere)
+    else Err Malformed
 
 abbrev pub after_check : Result Stamp Refusal → List ℕ → Position → ℕ → Result (List ℕ) Refusal
 after_check (Err why) line at waiting = Err why
@@ -71,7 +81,7 @@ after_check (Ok s) line at waiting = line_of s line at waiting
 
 -- the line that a post types, or why it types none
 abbrev pub verdict : List ℕ → List ℕ → Post → Position → ℕ → Result (List ℕ) Refusal
-verdict secret out post at waiting = after_check (checked secret out post) post.line.now at waiting
+verdict secret out post at waiting = after_check (checked secret out post) (line_of_post secret post) at waiting
 
 -- the nonces that are out after it: that of who had the secret is used, whatever becomes of the line
 abbrev pub used_by : Result Stamp Refusal → List ℕ → List ℕ
@@ -82,15 +92,27 @@ abbrev pub out_after : List ℕ → List ℕ → Post → List ℕ
 out_after secret out post = used_by (checked secret out post) out
 
 -- what is known of a post whose line is typed
-pub record IsTaken (secret out : List ℕ) (post : Post) (at : Position) : Type 0 where
+pub record IsTaken (secret out : List ℕ) (post : Post) (at : Position) (line : List ℕ) : Type 0 where
   pub stamp : Stamp
   pub has_stamp : post.stamp ≡ Some stamp
   pub is_from_here : post.is_from_here ≡ true
   pub was_out : is_out out stamp.nonce ≡ true
   pub is_used : is_out (out_after secret out post) stamp.nonce ≡ false
-  pub tag : stamp.tag ≡ tag_of secret stamp.nonce stamp.at post.line.now
+  pub line_is : line ≡ turned secret (desk_seed stamp.tag) post.hidden.now
+  pub tag : stamp.tag ≡ tag_of secret stamp.nonce stamp.at line
   pub place : stamp.at ≡ at
-  pub ends_no_desk : is_end post.line.now ≡ false
+  pub is_it : is_line line ≡ true
+  pub ends_no_desk : is_end line ≡ false
+
+-- a post of this line, from here, with this nonce, for this position: its tag is made of them with the secret, and hides the line
+pub record IsPostOf (secret : List ℕ) (nonce : ℕ) (at : Position) (line : List ℕ) (post : Post) : Type 0 where
+  pub stamp : Stamp
+  pub has_stamp : post.stamp ≡ Some stamp
+  pub is_from_here : post.is_from_here ≡ true
+  pub number : stamp.nonce ≡ nonce
+  pub place : stamp.at ≡ at
+  pub tag : stamp.tag ≡ tag_of secret nonce at line
+  pub hides : post.hidden.now ≡ turned secret (desk_seed stamp.tag) line
 
 -- a pass is good: its nonce is out, and its tag is made with the secret, of that nonce
 abbrev pub is_good_pass : List ℕ → List ℕ → Pass → Bool

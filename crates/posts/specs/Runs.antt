@@ -4,11 +4,12 @@ use Rattle.agree_core.specs.declared.position.Position.{Position}
 use Rattle.posts.specs.Posts.{is_good_pass, verdict, out_after, out_after_pass, with_given}
 use Rattle.posts.specs.declared.{judging.Post.Post, refusal.Refusal.Refusal, stamp.{Pass.Pass, Stamp.Stamp}}
 
--- a nonce is given, a post is judged, a pass is looked at, or the secret is another one
+-- a nonce is given, a post is judged, a pass is looked at, a text is hidden, or the secret is another one
 pub data Call : Type 0 where
   Give : Call
   Judge : Post → Position → ℕ → Call
   Look : Pass → Call
+  Hide : Call
   Renew : List ℕ → Call
 
 abbrev pub nonce_in : Option Stamp → List ℕ
@@ -32,4 +33,14 @@ accepted secret out next (Judge post at waiting ∷ calls) =
     accepted_by (verdict secret out post at waiting) post ++ accepted secret (out_after secret out post) next calls
 accepted secret out next (Look p ∷ calls) =
     let_by (is_good_pass secret out p) p ++ accepted secret (out_after_pass secret out p) next calls
+accepted secret out next (Hide ∷ calls) = accepted secret out next calls
 accepted secret out next (Renew other ∷ calls) = accepted other [] next calls
+
+-- the numbers under which texts are hidden, in order, where the next one is this
+abbrev pub numbers : ℕ → List Call → List ℕ
+numbers number [] = []
+numbers number (Hide ∷ calls) = number ∷ numbers (number + 1) calls
+numbers number (Give ∷ calls) = numbers number calls
+numbers number (Judge post at waiting ∷ calls) = numbers number calls
+numbers number (Look p ∷ calls) = numbers number calls
+numbers number (Renew other ∷ calls) = numbers number calls

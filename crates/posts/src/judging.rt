@@ -4,16 +4,20 @@ ghost use Rattle.std.specs.Prelude.{◌≡◌, ◌+◌, ◌<◌, ◌^◌, ◌≤
 ghost use Rattle.std.specs.List.{list_all};
 ghost use Rattle.posts.specs.Posts as posts;
 ghost use Rattle.posts.specs.Tickets as tickets;
+ghost use Rattle.posts.specs.Veils as veils;
+ghost use Rattle.arrayvec.specs.ArrayVec.{array_vec_len};
 
 use crate::nonces::{Nonces, is_out, let_go, put};
 use crate::refusal::Refusal;
 use crate::stamp::{Pass, Stamp};
 use crate::tags::{is_same, pass_tag, tag_of};
 use crate::tickets::Ticket;
+use crate::veil::{Frame, frame_of, open_line};
 use agree_core::Position;
 use arrayvec::ArrayVec;
 use links::LINE_ROOM;
 use screen::is_end;
+use std::alloc::Global;
 use std::marker::Model;
 
 /// How many lines wait at most.
@@ -29,7 +33,15 @@ pub struct Post<'p> {
     pub is_from_here: bool,
     /// What it says of its line, where it says that.
     pub stamp: Option<Stamp>,
-    pub line: &'p [u8],
+    /// Its line, hidden.
+    pub hidden: &'p [u8],
+}
+
+/// A post whose maker had the secret.
+#[derive(Drop)]
+struct Opened {
+    stamp: Stamp,
+    line: PostedLine,
 }
 
 /// Whether each byte of a text is printable ASCII.
@@ -50,13 +62,32 @@ fn is_line(text: &[u8]) -> bool
     }
 }
 
-/// What becomes of the line of who had the secret.
-fn line_of(stamp: &Stamp, line: &[u8], at: Position, waiting: usize) -> Result<PostedLine, Refusal>
-    requires { length line.now ≤ 128 }
-    ensures { MatchResult result (λ posted. posts.line_of stamp.now line.now at waiting ≡ Ok posted.items)
-        (λ why. posts.line_of stamp.now line.now at waiting ≡ Err why) }
+/// The line that is hidden in a post with this stamp.
+fn line_in(secret: &[u8; 16], stamp: &Stamp, hidden: &[u8]) -> PostedLine
+    requires { length hidden.now ≤ 128 }
+    ensures items { result.items ≡ posts.line_in secret.now (Some stamp.now) hidden.now }
+    ensures len { array_vec_len result ≤ 128 }
 {
-    if is_end(line) {
+    let mut line = PostedLine::new();
+    let _fits = line.try_extend_from_slice(hidden);
+    open_line(secret, &stamp.tag, line.as_mut_slice());
+    line
+}
+
+/// What becomes of the line of who had the secret.
+fn line_of(
+    stamp: &Stamp,
+    line: PostedLine,
+    at: Position,
+    waiting: usize,
+) -> Result<PostedLine, Refusal>
+    ensures { MatchResult result (λ posted. posts.line_of stamp.now line.items at waiting ≡ Ok posted.items)
+        (λ why. posts.line_of stamp.now line.items at waiting ≡ Err why) }
+{
+    if !is_line(line.as_slice()) {
+        return Err(Refusal::Malformed);
+    }
+    if is_end(line.as_slice()) {
         return Err(Refusal::Ends);
     }
     if stamp.at.place != at.place || stamp.at.round != at.round {
@@ -65,9 +96,7 @@ fn line_of(stamp: &Stamp, line: &[u8], at: Position, waiting: usize) -> Result<P
     if waiting >= MOST_WAITING {
         return Err(Refusal::Busy);
     }
-    let mut posted = PostedLine::new();
-    let _fits = posted.try_extend_from_slice(line);
-    Ok(posted)
+    Ok(line)
 }
 
 /// Who may type from a page: who has its secret, for which the ticket of its square is given, each time by a nonce that is good
@@ -78,6 +107,8 @@ pub struct Posts {
     ticket: Option<Ticket>,
     out: Nonces,
     next: u64,
+    /// Under which the next text is hidden.
+    number: u64,
 }
 
 impl Model for Posts {
@@ -85,7 +116,7 @@ impl Model for Posts {
 
     ghost Value = { Door };
 
-    ghost view = { λ p. record { secret = p.secret; ticket = p.ticket; out = (p.out).items; next = p.next } };
+    ghost view = { λ p. record { secret = p.secret; ticket = p.ticket; out = (p.out).items; next = p.next; number = p.number } };
 }
 
 impl Posts {
@@ -95,12 +126,14 @@ impl Posts {
         ensures ticket { result.ticket ≡ None }
         ensures out { result.out ≡ [] }
         ensures next { result.next ≡ 1 }
+        ensures number { result.number ≡ 1 }
     {
         Posts {
             secret,
             ticket: None,
             out: ArrayVec::new(),
             next: 1,
+            number: 1,
         }
     }
 
@@ -110,6 +143,7 @@ impl Posts {
         ensures secret { self.new.secret ≡ self.old.secret }
         ensures out { self.new.out ≡ self.old.out }
         ensures next { self.new.next ≡ self.old.next }
+        ensures number { self.new.number ≡ self.old.number }
     {
         self.ticket = Some(Ticket::new(key, now));
     }
@@ -120,6 +154,7 @@ impl Posts {
         ensures ticket { self.new.ticket ≡ None }
         ensures out { self.new.out ≡ [] }
         ensures next { self.new.next ≡ self.old.next }
+        ensures number { self.new.number ≡ self.old.number }
     {
         self.secret = secret;
         self.ticket = None;
@@ -134,6 +169,7 @@ impl Posts {
         ensures secret { self.new.secret ≡ self.old.secret }
         ensures out { self.new.out ≡ self.old.out }
         ensures next { self.new.next ≡ self.old.next }
+        ensures number { self.new.number ≡ self.old.number }
     {
         match self.ticket {
             None => None,
@@ -155,6 +191,7 @@ impl Posts {
         ensures some { self.old.next + 1 < 2 ^ 64 → IsSome result }
         ensures secret { self.new.secret ≡ self.old.secret }
         ensures ticket { self.new.ticket ≡ self.old.ticket }
+        ensures number { self.new.number ≡ self.old.number }
     {
         let nonce = self.next;
         self.next = nonce.checked_add(1)?;
@@ -162,37 +199,60 @@ impl Posts {
         Some(nonce)
     }
 
-    /// The stamp of a post from here.
-    fn stamped(&self, stamp: Stamp, line: &[u8]) -> Result<Stamp, Refusal>
-        requires { length line.now ≤ 128 }
-        ensures { result ≡ posts.stamped self.now.secret self.now.out (Some stamp) line.now }
+    /// Hides a text from all who haven't the secret, under the next number. Where all numbers are used up, or memory is refused,
+    /// nothing changes.
+    pub fn hide(&mut self, alloc: Global, text: &[u8]) -> Option<Frame>
+        ensures hidden { MatchOption result (self.new ≡ self.old)
+            (λ frame. (frame.number ≡ self.old.number) × (self.new.number ≡ self.old.number + 1)
+            × (frame.bytes.items ≡ veils.frame self.old.secret self.old.number text.now)) }
+        ensures secret { self.new.secret ≡ self.old.secret }
+        ensures ticket { self.new.ticket ≡ self.old.ticket }
+        ensures out { self.new.out ≡ self.old.out }
+        ensures next { self.new.next ≡ self.old.next }
     {
-        if !is_line(line) {
-            return Err(Refusal::Malformed);
-        }
+        let number = self.number;
+        let next = number.checked_add(1)?;
+        let bytes = frame_of(alloc, &self.secret, number, text).ok()?;
+        self.number = next;
+        Some(Frame { number, bytes })
+    }
+
+    /// The post from here with this stamp, opened.
+    fn stamped(&self, stamp: Stamp, hidden: &[u8]) -> Result<Opened, Refusal>
+        requires { length hidden.now ≤ 128 }
+        ensures { MatchResult result
+            (λ opened. (posts.stamped self.now.secret self.now.out (Some stamp)
+            (posts.line_in self.now.secret (Some stamp) hidden.now) ≡ Ok opened.stamp)
+            × (opened.line.items ≡ posts.line_in self.now.secret (Some stamp) hidden.now))
+            (λ why. posts.stamped self.now.secret self.now.out (Some stamp)
+            (posts.line_in self.now.secret (Some stamp) hidden.now) ≡ Err why) }
+    {
+        let line = line_in(&self.secret, &stamp, hidden);
         if !is_out(&self.out, stamp.nonce) {
             return Err(Refusal::NotOut);
         }
-        let tag = tag_of(&self.secret, stamp.nonce, stamp.at, line);
+        let tag = tag_of(&self.secret, stamp.nonce, stamp.at, line.as_slice());
         if !is_same(&stamp.tag, &tag) {
             return Err(Refusal::WrongTag);
         }
-        Ok(stamp)
+        Ok(Opened { stamp, line })
     }
 
-    /// The stamp of a post whose maker had the secret.
-    fn checked(&self, post: &Post<'_>) -> Result<Stamp, Refusal>
-        ensures result { result ≡ posts.checked self.now.secret self.now.out post.now }
-        ensures short { OnOk result (length post.now.line.now ≤ 128) }
+    /// The post whose maker had the secret, opened.
+    fn checked(&self, post: &Post<'_>) -> Result<Opened, Refusal>
+        ensures { MatchResult result
+            (λ opened. (posts.checked self.now.secret self.now.out post.now ≡ Ok opened.stamp)
+            × (opened.line.items ≡ posts.line_of_post self.now.secret post.now))
+            (λ why. posts.checked self.now.secret self.now.out post.now ≡ Err why) }
     {
         if !post.is_from_here {
             return Err(Refusal::Foreign);
         }
-        if post.line.len() > LINE_ROOM {
+        if post.hidden.len() > LINE_ROOM {
             return Err(Refusal::TooLong);
         }
         match post.stamp {
-            Some(stamp) => self.stamped(stamp, post.line),
+            Some(stamp) => self.stamped(stamp, post.hidden),
             None => Err(Refusal::Malformed),
         }
     }
@@ -208,16 +268,17 @@ impl Posts {
         ensures verdict { MatchResult result
             (λ line. posts.verdict self.old.secret self.old.out post.now at waiting ≡ Ok line.items)
             (λ why. posts.verdict self.old.secret self.old.out post.now at waiting ≡ Err why) }
-        ensures line { IfOk result (λ line. line.items ≡ post.now.line.now) }
+        ensures line { IfOk result (λ line. line.items ≡ posts.line_of_post self.old.secret post.now) }
         ensures room { OnOk result (waiting < MOST_WAITING) }
         ensures out { self.new.out ≡ posts.out_after self.old.secret self.old.out post.now }
         ensures secret { self.new.secret ≡ self.old.secret }
         ensures ticket { self.new.ticket ≡ self.old.ticket }
         ensures next { self.new.next ≡ self.old.next }
+        ensures number { self.new.number ≡ self.old.number }
     {
-        let stamp = self.checked(post)?;
+        let Opened { stamp, line } = self.checked(post)?;
         let_go(&mut self.out, stamp.nonce);
-        line_of(&stamp, post.line, at, waiting)
+        line_of(&stamp, line, at, waiting)
     }
 
     /// Whether a pass is good: then its nonce is used up.
@@ -227,6 +288,7 @@ impl Posts {
         ensures secret { self.new.secret ≡ self.old.secret }
         ensures ticket { self.new.ticket ≡ self.old.ticket }
         ensures next { self.new.next ≡ self.old.next }
+        ensures number { self.new.number ≡ self.old.number }
     {
         if !is_out(&self.out, pass.nonce) {
             return false;

@@ -1,18 +1,42 @@
 //! What posts can't do. These functions do nothing: each stands for the law that it ensures.
 
-ghost use Rattle.std.specs.Prelude.{◌≡◌, ◌≢◌, ◌≤◌, ℕ, List, [], AllPairs, Ok, Option, Some, length};
+ghost use Rattle.std.specs.Prelude.{◌≡◌, ◌≢◌, ◌<◌, ◌≤◌, ℕ, List, [], AllPairs, None, Ok, Option, Some, false, length, true};
 ghost use Rattle.agree_core.specs.declared.position.Position.{Position};
 ghost use Rattle.posts.specs.declared.judging.Post.{Post};
-ghost use Rattle.posts.specs.Posts.{IsTaken, verdict};
-ghost use Rattle.posts.specs.Runs.{Call, accepted};
+ghost use Rattle.posts.specs.Posts.{IsPostOf, IsTaken, is_line, is_out, verdict};
+ghost use Rattle.posts.specs.Runs.{Call, accepted, numbers};
 ghost use Rattle.posts.specs.Tickets.{Asking, IsHanded, handed, handed_in};
+ghost use Rattle.posts.specs.Veils.{frame_tag, hidden_by, opened};
+ghost use Rattle.posts.specs.WorkedVeils.{WorkedBlock, WorkedKeys};
 ghost use Rattle.posts.specs.declared.tickets.Ticket.{Ticket};
+ghost use Rattle.screen.specs.Words.{is_end};
 
 /// Whose line is typed has made its tag with the secret, of this nonce, this position and this line; its nonce was out, and
 /// is out no more; the line doesn't end the desk.
 pub fn what_is_taken()
     ensures { (secret out line : List ℕ) (post : Post) (at : Position) (waiting : ℕ)
-        → verdict secret out post at waiting ≡ Ok line → IsTaken secret out post at }
+        → verdict secret out post at waiting ≡ Ok line → IsTaken secret out post at line }
+{}
+
+/// A line that is hidden by its own tag is typed, where its nonce is out and it is made for the desk's position.
+pub fn what_is_typed()
+    ensures { (secret out : List ℕ) (post : Post) (at : Position) (nonce waiting : ℕ) (line : List ℕ)
+        → IsPostOf secret nonce at line post → is_out out nonce ≡ true → is_line line ≡ true → is_end line ≡ false
+        → length line ≤ 128 → waiting < 8 → verdict secret out post at waiting ≡ Ok line }
+{}
+
+/// Who has the secret reads what was hidden under a number. What else opens under it has a tag by the secret of the direction,
+/// that number and just these hidden bytes.
+pub fn what_a_page_reads()
+    ensures reads { (secret : List ℕ) (number : ℕ) (text : List ℕ)
+        → opened secret number (frame_tag secret number (hidden_by secret number text)) (hidden_by secret number text) ≡ Some text }
+    ensures else_nothing { (secret : List ℕ) (number : ℕ) (tag hidden : List ℕ)
+        → tag ≢ frame_tag secret number hidden → opened secret number tag hidden ≡ None }
+{}
+
+/// Over any list of calls, whatever the secret is in between, each text is hidden under a greater number than those before.
+pub fn each_number_once()
+    ensures { (number : ℕ) (calls : List Call) → AllPairs (λ m n. m < n) (numbers number calls) }
 {}
 
 /// Over any list of calls, whatever the secret is in between, no nonce is good for two lines, nor for a line and a pass, nor for
@@ -31,4 +55,10 @@ pub fn what_a_ticket_gives()
 /// Of all who ask between two squares, one at most is handed the secret.
 pub fn each_ticket_once()
     ensures { (ticket : Option Ticket) (asking : List Asking) → length (handed_in ticket asking) ≤ 1 }
+{}
+
+/// Both keys of a secret, and a block of a keystream, as Python's `hmac` makes them.
+pub fn worked_frames()
+    ensures keys { WorkedKeys }
+    ensures block { WorkedBlock }
 {}

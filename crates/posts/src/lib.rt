@@ -1,5 +1,5 @@
 //! Who may type from a page: only who has its secret, for which the ticket of its square is given once, at the desk's position, and each such post once. Whose
-//! place there is safe: who has a pass by that secret.
+//! place there is safe: who has a pass by that secret. What hides from all others what a desk and its page say to each other.
 #![tactic(auto)]
 
 mod judging;
@@ -9,10 +9,15 @@ mod refusal;
 mod stamp;
 mod tags;
 mod tickets;
+mod veil;
 
 pub use judging::{MOST_WAITING, Post, PostedLine, Posts};
-pub use laws::{each_nonce_once, each_ticket_once, what_a_ticket_gives, what_is_taken};
+pub use laws::{
+    each_nonce_once, each_number_once, each_ticket_once, what_a_page_reads, what_a_ticket_gives,
+    what_is_taken, what_is_typed, worked_frames,
+};
 pub use nonces::MOST_OUT;
 pub use refusal::Refusal;
 pub use stamp::{Pass, Stamp, place_in, tag_in};
 pub use tickets::{GOOD_FOR, Ticket};
+pub use veil::Frame;

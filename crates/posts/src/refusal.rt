@@ -9,7 +9,7 @@ pub enum Refusal {
     Foreign,
     /// Its line is longer than any that a desk takes.
     TooLong,
-    /// It lacks a position, a nonce or a tag, or has no line.
+    /// It lacks a position, a nonce or a tag, or what it hides is no line.
     Malformed,
     /// Its nonce isn't out: it wasn't given, is used, or is forgotten.
     NotOut,

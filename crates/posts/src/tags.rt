@@ -12,8 +12,8 @@ use seal::hmac;
 /// How many bytes a tag has.
 const TAG: usize = 32;
 
-/// What a tag is made of: a nonce of 20 digits at most, a position of 21 and a line of 128, with two blanks.
-type Tagged = ArrayVec<u8, 171>;
+/// What a tag or a block of a keystream is made of; the longest is a nonce of 20 digits at most, a position of 21 and a line of 128, with two blanks.
+pub type Tagged = ArrayVec<u8, 171>;
 
 /// Whether these are the same bytes. It takes the same time wherever they differ.
 pub fn is_same(tag: &[u8; 32], other: &[u8; 32]) -> bool
@@ -27,7 +27,7 @@ pub fn is_same(tag: &[u8; 32], other: &[u8; 32]) -> bool
 }
 
 /// Adds bytes for which there is room.
-fn put(text: &mut Tagged, bytes: &[u8])
+pub fn put(text: &mut Tagged, bytes: &[u8])
     requires { array_vec_len text.old + length bytes.now ≤ 171 }
     ensures items { text.new.items ≡ text.old.items ++ bytes.now }
     ensures len { array_vec_len text.new ≡ array_vec_len text.old + length bytes.now }

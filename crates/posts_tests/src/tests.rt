@@ -30,6 +30,29 @@ const HIDDEN: [u8; 16] = [
     0xc0, 0x71, 0xac, 0x82, 0x80, 0xc1, 0xd6, 0xca, 0x3f, 0xba, 0xe6, 0x42, 0xf4, 0xbc, 0x02, 0xd0,
 ];
 
+/// The lines of these posts, each hidden by its tag.
+const HIDDEN_FOUR: [u8; 1] = [0x77];
+
+const HIDDEN_ONE: [u8; 1] = [0x8d];
+
+const HIDDEN_LONGEST: [u8; 128] = [
+    0x52, 0x42, 0x9d, 0x2d, 0x2a, 0x5d, 0x0a, 0x53, 0xda, 0x60, 0x79, 0x2f, 0x7b, 0x00, 0xc5, 0x4d,
+    0x61, 0x25, 0xeb, 0x43, 0x73, 0x9d, 0xe1, 0xa0, 0x1e, 0xe5, 0x6e, 0x90, 0x56, 0x91, 0xb1, 0x84,
+    0x34, 0xd6, 0xfe, 0xec, 0x04, 0x64, 0xdf, 0x89, 0x72, 0x3b, 0x4d, 0x85, 0xdc, 0x7f, 0x7c, 0x1e,
+    0x05, 0x60, 0x5f, 0x37, 0x18, 0x56, 0x9a, 0x75, 0x49, 0xa1, 0x9b, 0x1e, 0x95, 0x26, 0x36, 0x2f,
+    0x37, 0xec, 0x64, 0xb4, 0xc0, 0xdf, 0xb2, 0xf0, 0xca, 0xa6, 0x8a, 0xe6, 0xe4, 0xec, 0xb5, 0x5f,
+    0xd9, 0x53, 0x2b, 0x32, 0xbf, 0x03, 0x08, 0xc0, 0xda, 0x78, 0x05, 0x99, 0x3b, 0x6e, 0x13, 0x72,
+    0x65, 0xee, 0x04, 0x08, 0x6b, 0x37, 0xeb, 0x96, 0x12, 0x94, 0x1b, 0x36, 0x1c, 0xb5, 0x33, 0xaf,
+    0x76, 0xc9, 0x51, 0x56, 0x6e, 0xb3, 0xec, 0xcf, 0x21, 0x12, 0xe7, 0x5b, 0x90, 0xbd, 0x99, 0x9e,
+];
+
+/// `4` and the end of a line, hidden under the number 7: the tag, and two bytes.
+const FRAME: [u8; 34] = [
+    0x3d, 0x15, 0x37, 0x79, 0x23, 0x4b, 0xee, 0x2a, 0x6b, 0x52, 0x3c, 0x81, 0xcb, 0x4a, 0xbf, 0xea,
+    0xac, 0x3c, 0xb5, 0xeb, 0x0b, 0x74, 0x05, 0x88, 0xba, 0xae, 0x85, 0xf3, 0x87, 0x7c, 0xe5, 0x98,
+    0xac, 0x4d,
+];
+
 const HERE: Position = Position {
     place: 18,
     round: 0,
@@ -39,14 +62,14 @@ const HERE: Position = Position {
 fn judged(
     posts: &mut Posts,
     fields: [&str; 3],
-    line: &[u8],
+    hidden: &[u8],
     waiting: usize,
 ) -> Result<usize, Refusal> {
     let [at, nonce, tag] = fields;
     let post = Post {
         is_from_here: true,
         stamp: Stamp::read(at, nonce, tag),
-        line,
+        hidden,
     };
     match posts.judge(&post, HERE, waiting) {
         Ok(posted) => Ok(posted.len()),
@@ -67,39 +90,76 @@ fn given(count: u64) -> Posts {
 fn a_line_is_typed_once(rt: HostRuntime) {
     let mut posts = Posts::new(SECRET);
     let four = ["18.0", "1", FOUR];
-    assert_eq!(rt; judged(&mut posts, four, b"4", 0), Err(Refusal::NotOut));
-    assert_eq!(rt; posts.give(), Some(1));
-    assert_eq!(rt; judged(&mut posts, four, b"6", 0), Err(Refusal::WrongTag));
     assert_eq!(rt;
-        judged(&mut posts, ["18.1", "1", FOUR], b"4", 0),
+        judged(&mut posts, four, &HIDDEN_FOUR, 0),
+        Err(Refusal::NotOut)
+    );
+    assert_eq!(rt; posts.give(), Some(1));
+    assert_eq!(rt;
+        judged(&mut posts, four, &[HIDDEN_FOUR[0] ^ 2], 0),
         Err(Refusal::WrongTag)
     );
-    assert_eq!(rt; judged(&mut posts, four, b"4", 7), Ok(1));
-    assert_eq!(rt; judged(&mut posts, four, b"4", 0), Err(Refusal::NotOut));
+    assert_eq!(rt;
+        judged(&mut posts, ["18.1", "1", FOUR], &HIDDEN_FOUR, 0),
+        Err(Refusal::WrongTag)
+    );
+    assert_eq!(rt; judged(&mut posts, four, &HIDDEN_FOUR, 7), Ok(1));
+    assert_eq!(rt;
+        judged(&mut posts, four, &HIDDEN_FOUR, 0),
+        Err(Refusal::NotOut)
+    );
     assert_eq!(rt; posts.give(), Some(2));
 }
 
 #[test]
 fn whoever_has_the_secret_uses_a_nonce_up(rt: HostRuntime) {
     let rows: [(&str, &str, &str, &[u8], usize, Result<usize, Refusal>); 6] = [
-        ("18.1", "2", AGAIN, b"again", 0, Err(Refusal::Elsewhere)),
-        ("18.0", "3", QUIT, b"quit", 0, Err(Refusal::Ends)),
-        ("18.0", "4", EXIT, b"exit ", 0, Err(Refusal::Ends)),
-        ("18.0", "5", IN_3, b"in 3", 8, Err(Refusal::Busy)),
-        ("18.0", "6", LONGEST, [b'x'; 128].as_slice(), 0, Ok(128)),
-        ("18.0", "8", ONE, b"1", 0, Ok(1)),
+        (
+            "18.1",
+            "2",
+            AGAIN,
+            &[0x12, 0x30, 0x4d, 0x05, 0xfd],
+            0,
+            Err(Refusal::Elsewhere),
+        ),
+        (
+            "18.0",
+            "3",
+            QUIT,
+            &[0xb0, 0xe7, 0x41, 0x65],
+            0,
+            Err(Refusal::Ends),
+        ),
+        (
+            "18.0",
+            "4",
+            EXIT,
+            &[0x94, 0xc4, 0xbd, 0x97, 0x9d],
+            0,
+            Err(Refusal::Ends),
+        ),
+        (
+            "18.0",
+            "5",
+            IN_3,
+            &[0xf6, 0x01, 0x82, 0xf0],
+            8,
+            Err(Refusal::Busy),
+        ),
+        ("18.0", "6", LONGEST, &HIDDEN_LONGEST, 0, Ok(128)),
+        ("18.0", "8", ONE, &HIDDEN_ONE, 0, Ok(1)),
     ];
     let mut posts = given(8);
     for row in rows {
-        let (at, nonce, tag, line, waiting, wanted) = row;
+        let (at, nonce, tag, hidden, waiting, wanted) = row;
         let fields = [at, nonce, tag];
         assert_eq!(rt;
-            judged(&mut posts, fields, line, waiting),
+            judged(&mut posts, fields, hidden, waiting),
             wanted,
             "nonce {nonce}"
         );
         assert_eq!(rt;
-            judged(&mut posts, fields, line, waiting),
+            judged(&mut posts, fields, hidden, waiting),
             Err(Refusal::NotOut),
             "nonce {nonce}"
         );
@@ -110,13 +170,32 @@ fn whoever_has_the_secret_uses_a_nonce_up(rt: HostRuntime) {
 fn what_is_no_post(rt: HostRuntime) {
     let mut posts = given(1);
     let four = ["18.0", "1", FOUR];
-    for line in [
-        b"".as_slice(),
-        b"\n".as_slice(),
-        b"4\n".as_slice(),
-        b"4\n4".as_slice(),
-    ] {
-        assert_eq!(rt; judged(&mut posts, four, line, 0), Err(Refusal::Malformed));
+    let ill: [(&str, &[u8]); 4] = [
+        (
+            "51aa11dd4a14764e6212c8d3eed058dc2b6085c6b9fbd0bda2e92d0cf64db27e",
+            &[],
+        ),
+        (
+            "5ccc1a93894ba53e2146b6cadcc7488020820627824ec590e2a72240d5605a75",
+            &[0xa0],
+        ),
+        (
+            "4246244c87d543f23616e4a10c2e5a95ee2501c14f75448414d4d0a8776b2fed",
+            &[0x41, 0x02],
+        ),
+        (
+            "b3419761ec533afe1a2edb8bb59005ae03facccdef0c15526338561f3961b971",
+            &[0xcd, 0xd3, 0x9d],
+        ),
+    ];
+    for (tag, hidden) in ill {
+        let mut posts = given(1);
+        let fields = ["18.0", "1", tag];
+        assert_eq!(rt;
+            judged(&mut posts, fields, hidden, 0),
+            Err(Refusal::Malformed)
+        );
+        assert_eq!(rt; judged(&mut posts, fields, hidden, 0), Err(Refusal::NotOut));
     }
     assert_eq!(rt;
         judged(&mut posts, four, [b'4'; 129].as_slice(), 0),
@@ -125,10 +204,10 @@ fn what_is_no_post(rt: HostRuntime) {
     let foreign = Post {
         is_from_here: false,
         stamp: Stamp::read("18.0", "1", FOUR),
-        line: b"4",
+        hidden: &HIDDEN_FOUR,
     };
     assert!(rt; matches!(posts.judge(&foreign, HERE, 0), Err(Refusal::Foreign)));
-    assert_eq!(rt; judged(&mut posts, four, b"4", 0), Ok(1));
+    assert_eq!(rt; judged(&mut posts, four, &HIDDEN_FOUR, 0), Ok(1));
 }
 
 #[test]
@@ -159,20 +238,29 @@ fn what_is_no_stamp(rt: HostRuntime) {
     ] {
         let [at, nonce, tag] = fields;
         assert_eq!(rt;
-            judged(&mut posts, fields, b"4", 0),
+            judged(&mut posts, fields, &HIDDEN_FOUR, 0),
             Err(Refusal::Malformed),
             "{at} {nonce} {tag}"
         );
     }
-    assert_eq!(rt; judged(&mut posts, ["18.0", "1", FOUR], b"4", 0), Ok(1));
+    assert_eq!(rt;
+        judged(&mut posts, ["18.0", "1", FOUR], &HIDDEN_FOUR, 0),
+        Ok(1)
+    );
 }
 
 #[test]
 fn the_oldest_nonce_is_forgotten(rt: HostRuntime) {
     let four = ["18.0", "1", FOUR];
-    assert_eq!(rt; judged(&mut given(64), four, b"4", 0), Ok(1));
-    assert_eq!(rt; judged(&mut given(65), four, b"4", 0), Err(Refusal::NotOut));
-    assert_eq!(rt; judged(&mut given(65), ["18.0", "8", ONE], b"1", 0), Ok(1));
+    assert_eq!(rt; judged(&mut given(64), four, &HIDDEN_FOUR, 0), Ok(1));
+    assert_eq!(rt;
+        judged(&mut given(65), four, &HIDDEN_FOUR, 0),
+        Err(Refusal::NotOut)
+    );
+    assert_eq!(rt;
+        judged(&mut given(65), ["18.0", "8", ONE], &HIDDEN_ONE, 0),
+        Ok(1)
+    );
 }
 
 /// What is handed out for a tag, at this time.
@@ -203,4 +291,20 @@ fn a_ticket_is_good_for_two_minutes(rt: HostRuntime) {
     posts.show(TICKET, 9);
     posts.renew(SECRET);
     assert_eq!(rt; handed(&mut posts, CLAIM, 10), None);
+}
+
+#[test]
+fn each_text_is_hidden_under_a_number_of_its_own(rt: HostRuntime) {
+    let mut posts = given(0);
+    let mut last = 0;
+    for _ in 0..7 {
+        let frame = posts.hide(rt.alloc(), b"4\n").unwrap();
+        assert!(rt; frame.number == last + 1);
+        last = frame.number;
+        if last == 7 {
+            assert_eq!(rt; frame.bytes.as_slice(), FRAME.as_slice());
+        }
+    }
+    posts.renew(TICKET);
+    assert!(rt; posts.hide(rt.alloc(), b"").unwrap().number == 8);
 }

@@ -1,17 +1,29 @@
 -- What a page shows of a desk.
-use Rattle.std.specs.Prelude.{◌≡◌, ◌⊎◌, ℕ, List, [], ◌∷◌, ◌++◌}
+use Rattle.std.specs.Prelude.{◌≡◌, ◌⊎◌, ◌×◌, ℕ, List, [], ◌∷◌, ◌++◌}
 use Rattle.agree_core.specs.declared.messages.DeskId.{DeskId}
-use Rattle.desk_state.specs.Value.{state_text}
+use Rattle.desk_state.specs.Value.{open_text, state_text}
 use Rattle.screen.specs.Sights.{DeskSight}
+use Rattle.viewers.specs.Replies.{SameOpenly, ShowsOpenly}
+use Rattle.viewers.specs.declared.shown.Shown.{Shown}
 use Rattle.station_pages.specs.declared.sight.{TextLog.TextLog, TextLog.Empty, TextLog.Given'}
 
--- the texts that it was given, the oldest first
-abbrev pub texts_in : TextLog → List (List ℕ)
+-- the texts that it was given, the oldest first: each time one for all, and one for its scorer alone
+abbrev pub texts_in : TextLog → List (List ℕ × List ℕ)
 texts_in Empty = []
-texts_in (Given' marker before text) = texts_in before ++ text.value.items ∷ []
+texts_in (Given' marker before openly own) = texts_in before ++ (openly.value.items, own.value.items) ∷ []
 
--- it is given the state of the desk that is handed over, with the lines that are held, or nothing
-abbrev pub ShowsState : DeskId → List (List ℕ) → List (List ℕ) → DeskSight → Type 0
+-- what all may read of a desk: nothing of its own vote, nor of the lines that it holds
+abbrev pub open_of : DeskId → DeskSight → List ℕ
+open_of desk sight = open_text sight.sheet sight.innings sight.book desk sight.at
+
+-- it is given the state of the desk that is handed over, for all, and for its scorer with the own vote and the lines that are
+-- held; or nothing
+abbrev pub ShowsState : DeskId → List (List ℕ × List ℕ) → List (List ℕ × List ℕ) → DeskSight → Type 0
 ShowsState desk before after sight =
     (after ≡ before)
-    ⊎ ((held : _) × (after ≡ before ++ state_text sight.sheet sight.innings sight.book desk sight.at sight.own held ∷ []))
+    ⊎ ((held : _) × (after ≡ before
+    ++ (open_of desk sight, state_text sight.sheet sight.innings sight.book desk sight.at sight.own held) ∷ []))
+
+-- who hasn't the secret is served what they were, or what all may read of that desk
+abbrev pub ServesOthers : DeskId → Shown → Shown → DeskSight → Type 0
+ServesOthers desk before after sight = SameOpenly before after ⊎ ShowsOpenly (open_of desk sight) before after

@@ -1,6 +1,7 @@
 //! The page of a desk.
 
-ghost use Rattle.std.specs.Prelude.{◌≤◌, IfSome};
+ghost use Rattle.std.specs.Prelude.{◌≡◌, ◌≤◌, IfSome};
+ghost use Rattle.viewers.specs.Replies.{ShowsOpenly};
 
 use crate::attended::Attends;
 use crate::rows::Rows;
@@ -57,16 +58,22 @@ impl ScorersPage {
         self.rows.take(told);
     }
 
-    /// Shows the rows that are new.
-    pub fn show_rows(&mut self) {
+    /// Shows the rows that are new, to its scorer alone.
+    pub fn show_rows(&mut self)
+        ensures { self.new.viewers.shown ≡ self.old.viewers.shown }
+    {
         if let Ok(Some(text)) = self.rows.take_news() {
-            self.viewers.put_lines(text);
+            self.viewers.put_own_rows(text);
         }
     }
 
-    /// This state is shown from here on.
-    pub fn show_state(&mut self, text: Vec<u8>) {
-        self.viewers.put_state(text);
+    /// This state is shown to all from here on, and the whole one to its scorer alone.
+    pub fn show_state(&mut self, openly: Vec<u8>, whole: Vec<u8>)
+        ensures openly { ShowsOpenly openly.items self.old.viewers.shown self.new.viewers.shown }
+        ensures own { self.new.viewers.own.state ≡ whole }
+    {
+        self.viewers.put_state(openly);
+        self.viewers.put_own_state(whole);
     }
 
     /// The desk is at this position from here on. Lines that were typed here for another one are dropped, and told.
@@ -112,6 +119,7 @@ impl Attends for ScorersPage {
     fn attend(&mut self, now: u64) {
         self.now = now;
         self.viewers.pump(now);
+        self.viewers.veil();
         self.viewers.tell(now);
         self.count(now);
     }

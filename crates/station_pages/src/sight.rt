@@ -1,27 +1,35 @@
 //! The state of a desk, in its page.
 
-ghost use Rattle.std.specs.Prelude.{◌≡◌, ◌∷◌, ◌++◌, [], IfSome};
+ghost use Rattle.std.specs.Prelude.{◌≡◌, ◌∷◌, ◌++◌, [], IfOk, IfSome};
 ghost use Rattle.notation.specs.Written.{IsEntry};
 ghost use Rattle.screen.specs.Sights.{sight_at};
-ghost use Rattle.station_pages.specs.Sights.{ShowsState, texts_in};
+ghost use Rattle.station_pages.specs.Sights.{ServesOthers, ShowsState, open_of, texts_in};
+ghost use Rattle.desk_state.specs.Value.{state_text as state_of};
 
 use crate::scorers_page::ScorersPage;
 use agree_core::{DeskId, Position};
 use cards::MatchSheet;
 use corrections::BookOf;
-use desk_state::state_text;
+use desk_state::{open_text, state_text};
 use links::{HeldLine, HeldLines};
 use notation::Entry;
 use screen::ShowsDesk;
-use std::alloc::Global;
+use std::alloc::{AllocError, Global};
 use std::cell::RefCell;
 use std::snapshot::Snapshot;
+
+/// The state of a desk: as all may read it, and whole, for its scorer alone.
+#[derive(Drop)]
+struct Texts {
+    openly: Vec<u8>,
+    own: Vec<u8>,
+}
 
 /// The texts that a page was given, in order. Clauses alone read it.
 #[derive(Drop)]
 enum TextLog {
     Empty,
-    Given(Snapshot<TextLog>, Snapshot<Vec<u8>>),
+    Given(Snapshot<TextLog>, Snapshot<Vec<u8>>, Snapshot<Vec<u8>>),
 }
 
 /// What was shown last: it is shown again once something of it is another.
@@ -46,12 +54,37 @@ pub struct PageSight<'p> {
 }
 
 impl TextLog {
-    /// These, and then this one.
-    fn given(&self, text: &Vec<u8>) -> TextLog
-        ensures { texts_in result ≡ texts_in self.now ++ text.now.items ∷ [] }
+    /// These, and then those of a desk.
+    fn given(&self, texts: &Texts) -> TextLog
+        ensures { texts_in result ≡ texts_in self.now ++ (texts.now.openly.items, texts.now.own.items) ∷ [] }
     {
-        TextLog::Given(Snapshot::of(self), Snapshot::of(text))
+        TextLog::Given(
+            Snapshot::of(self),
+            Snapshot::of(&texts.openly),
+            Snapshot::of(&texts.own),
+        )
     }
+}
+
+/// The texts of a desk with this book, that votes at this position, voted so there, and holds these lines.
+fn texts_of<B: BookOf>(
+    alloc: Global,
+    sheet: &MatchSheet,
+    book: &B,
+    desk: DeskId,
+    at: Position,
+    own: Option<Entry>,
+    held: &[HeldLine],
+) -> Result<Texts, AllocError>
+    requires { IfSome own IsEntry }
+    ensures openly { IfOk result (λ texts. texts.openly.items ≡
+        open_of desk (sight_at sheet.now (B.innings_a_side book.now) (B.content book.now) at own)) }
+    ensures own { IfOk result (λ texts. texts.own.items ≡
+        state_of sheet.now (B.innings_a_side book.now) (B.content book.now) desk at own held.now) }
+{
+    let openly = open_text(alloc, sheet, book, desk, at)?;
+    let own = state_text(alloc, sheet, book, desk, at, own, held)?;
+    Ok(Texts { openly, own })
 }
 
 impl<'p> PageSight<'p> {
@@ -83,6 +116,8 @@ impl<'p> PageSight<'p> {
         requires { IfSome own IsEntry }
         ensures shows { ShowsState self.old.desk (texts_in self.old.log) (texts_in self.new.log)
             (sight_at sheet.now (B.innings_a_side book.now) (B.content book.now) at own) }
+        ensures others { ServesOthers self.old.desk page.old.viewers.shown page.new.viewers.shown
+            (sight_at sheet.now (B.innings_a_side book.now) (B.content book.now) at own) }
         ensures desk { self.new.desk ≡ self.old.desk }
     {
         let seen = Seen {
@@ -94,13 +129,13 @@ impl<'p> PageSight<'p> {
         if self.seen == Some(seen) && self.held.as_slice() == held {
             return;
         }
-        let made = state_text(self.alloc, sheet, book, self.desk, at, own, held);
-        if let Ok(text) = made {
-            self.log = self.log.given(&text);
+        let made = texts_of(self.alloc, sheet, book, self.desk, at, own, held);
+        if let Ok(texts) = made {
+            self.log = self.log.given(&texts);
             self.seen = Some(seen);
             self.held.clear();
             let _fits = self.held.try_extend_from_slice(held);
-            page.show_state(text);
+            page.show_state(texts.openly, texts.own);
         }
     }
 }

@@ -1,6 +1,6 @@
 -- What a viewer is sent, of what is shown: a head by HTTP's grammar, as `http1` writes it, and behind it the page, a text
 -- that was handed over, or a refusal.
-use Rattle.std.specs.Prelude.{ℕ, ◌==◌, Bool, false, if◌then◌else◌, List, [], ◌∷◌, ◌++◌, length, codes, decimal}
+use Rattle.std.specs.Prelude.{◌≡◌, ℕ, ◌+◌, ◌-◌, ◌^◌, min, bytes_eq, ◌==◌, Bool, true, false, if◌then◌else◌, List, [], ◌∷◌, ◌++◌, length, codes, decimal}
 use Rattle.hex.specs.Hex.{encode_lower}
 use Rattle.http1.specs.declared.server.Server.{Server}
 use Rattle.http1.specs.declared.conn.BodySize.TheVariants.{Known, Unknown}
@@ -85,16 +85,11 @@ nonce_text s station nonce = whole_text s station 200 (codes "OK") plain (decima
 abbrev pub handed_text : Server → Station → List ℕ → List ℕ
 handed_text s station hidden = whole_text s station 200 (codes "OK") plain (encode_lower hidden ++ codes "\n") false
 
--- what the lines of a station are
-abbrev pub lines_kind : Station → List ℕ
-lines_kind Board = plain
-lines_kind Desk = json
-
 -- the answer to what is asked for, while this is shown
 abbrev pub answer_text : Server → Ask → Bool → Shown → List ℕ
 answer_text s Page head shown = page_text s shown.station head
 answer_text s Lines head shown =
-    whole_text s shown.station 200 (codes "OK") (lines_kind shown.station) shown.lines.items head
+    whole_text s shown.station 200 (codes "OK") plain shown.lines.items head
 answer_text s State head shown = whole_text s shown.station 200 (codes "OK") json shown.state.items head
 answer_text s Events head shown = stream_text s shown.station
 answer_text s (Given nonce) head shown = nonce_text s shown.station nonce
@@ -111,20 +106,41 @@ answer_text s (Faulty status) head shown = whole_text s shown.station status (co
 abbrev pub reply_text : Server → Asked → Shown → List ℕ
 reply_text s asked shown = answer_text s asked.ask asked.is_head shown
 
--- the lines of a desk, in its events: a text that ends its own line
-abbrev pub lines_data : Station → List ℕ → List ℕ
-lines_data Board lines = []
-lines_data Desk lines = codes "data: " ++ lines
+-- a text that ends its own line, as an event with its number
+abbrev pub event_of : ℕ → List ℕ → List ℕ
+event_of number text = codes "id: " ++ decimal number ++ codes "\ndata: " ++ text ++ codes "\n"
 
--- the state that is shown, as an event: its number, and its text, which ends its own line; of a desk its lines too
-abbrev pub event : Shown → List ℕ
-event shown =
-    codes "id: " ++ decimal shown.number ++ codes "\ndata: " ++ shown.state.items
-    ++ lines_data shown.station shown.lines.items ++ codes "\n"
+-- the number of what is shown to who is signed or isn't
+abbrev pub number_for : Bool → Shown → ℕ
+number_for true shown = shown.veiled.number
+number_for false shown = shown.number
 
--- to who has asked for each new state: the state, or that there is none but that the board is there
-abbrev pub told_text : Server → Shown → List ℕ
-told_text s shown = data_text (writing s) (event shown)
+-- what is shown, as an event: to who is signed what is hidden by the secret of the desk's page, and to all others the state
+abbrev pub event : Bool → Shown → List ℕ
+event true shown = event_of shown.veiled.number shown.veiled.text.items
+event false shown = event_of shown.number shown.state.items
+
+-- to who has asked for each new state, and is signed or isn't: the state, or that there is none but that the station is there
+abbrev pub told_text : Server → Bool → Shown → List ℕ
+told_text s is_signed shown = data_text (writing s) (event is_signed shown)
 
 abbrev pub beat_text : Server → List ℕ
 beat_text s = data_text (writing s) (codes "event: beat\ndata: -\n\n")
+
+-- of what is shown all that isn't hidden is the same
+pub record SameOpenly (one other : Shown) : Type 0 where
+  pub station : other.station ≡ one.station
+  pub lines : other.lines.items ≡ one.lines.items
+  pub state : other.state.items ≡ one.state.items
+  pub number : other.number ≡ one.number
+
+-- the number of a state that is shown, behind one with this number: that of the same one stays
+abbrev pub next_number : ℕ → List ℕ → List ℕ → ℕ
+next_number number before state = if bytes_eq before state then number else min (number + 1) (2 ^ 64 - 1)
+
+-- of all that isn't hidden the state is this one from here on, and nothing else is another
+pub record ShowsOpenly (state : List ℕ) (before after : Shown) : Type 0 where
+  pub station : after.station ≡ before.station
+  pub lines : after.lines.items ≡ before.lines.items
+  pub state_is : after.state.items ≡ state
+  pub number : after.number ≡ next_number before.number before.state.items state

@@ -14,9 +14,9 @@ use std::str;
 pub enum Ask {
     /// The page itself.
     Page,
-    /// The six lines of the board.
+    /// The six lines of a board.
     Lines,
-    /// The state of the board, as JSON.
+    /// The state as JSON: of a desk without what its scorer wrote.
     State,
     /// The state, now and whenever it is new.
     Events,
@@ -161,8 +161,6 @@ fn desk_ask(path: &[u8]) -> Ask {
         Ask::Page
     } else if path == b"/desk.json".as_slice() {
         Ask::State
-    } else if path == b"/rows.json".as_slice() {
-        Ask::Lines
     } else if path == b"/events".as_slice() {
         Ask::Events
     } else {

@@ -1,10 +1,13 @@
 //! All who look at a page.
 
-ghost use Rattle.std.specs.Prelude.{◌≡◌, ◌≤◌, IfSome};
+ghost use Rattle.std.specs.Prelude.{◌≡◌, ◌⊎◌, ◌≤◌, IfSome};
 ghost use Rattle.viewers.specs.Places.{HasNoSigned, KeepsSigned, KeepsUnsigned};
+ghost use Rattle.viewers.specs.Replies.{SameOpenly, ShowsOpenly};
+ghost use Rattle.viewers.specs.Veiled.{IsVeiled};
 
 use crate::inbox::Inbox;
 use crate::listening::listener_at;
+use crate::own::Own;
 use crate::places::{Places, is_behind, network_of};
 use crate::shown::Shown;
 use crate::station::Station;
@@ -172,8 +175,11 @@ impl Crowd {
 /// lines for the desk.
 #[derive(Drop)]
 pub struct Viewers {
+    alloc: Global,
     crowd: Crowd,
     shown: Shown,
+    /// Of a desk what it tells its scorer alone.
+    own: Own,
     inbox: Option<Inbox>,
 }
 
@@ -187,8 +193,10 @@ impl Viewers {
         inbox: Option<Inbox>,
     ) -> io::Result<Viewers> {
         Ok(Viewers {
+            alloc,
             crowd: Crowd::new(net, alloc, at, station)?,
             shown: Shown::new(alloc, station),
+            own: Own::new(alloc),
             inbox,
         })
     }
@@ -205,8 +213,42 @@ impl Viewers {
     pub fn put_state(&mut self, state: Vec<u8>)
         ensures state { self.new.shown.state ≡ state }
         ensures lines { self.new.shown.lines ≡ self.old.shown.lines }
+        ensures openly { ShowsOpenly state.items self.old.shown self.new.shown }
     {
         self.shown.put_state(state);
+    }
+
+    /// This is the whole state of a desk from here on: its scorer alone reads it.
+    pub fn put_own_state(&mut self, state: Vec<u8>)
+        ensures state { self.new.own.state ≡ state }
+        ensures shown { self.new.shown ≡ self.old.shown }
+    {
+        self.own.put_state(state);
+    }
+
+    /// These are the newest rows of a desk: its scorer alone reads them.
+    pub fn put_own_rows(&mut self, rows: Vec<u8>)
+        ensures rows { self.new.own.rows ≡ rows }
+        ensures shown { self.new.shown ≡ self.old.shown }
+    {
+        self.own.put_rows(rows);
+    }
+
+    /// Hides what is new of a desk for its scorer alone, once for all who are signed. All others are served what they were.
+    pub fn veil(&mut self)
+        ensures openly { SameOpenly self.old.shown self.new.shown }
+        ensures veiled { (self.new.shown.veiled ≡ self.old.shown.veiled)
+            ⊎ IsVeiled self.old.inbox self.old.own self.new.shown.veiled }
+    {
+        if !self.own.is_new {
+            return;
+        }
+        if let Some(inbox) = &mut self.inbox
+            && let Some(veiled) = inbox.veil(self.alloc, &self.own)
+        {
+            self.own.is_new = false;
+            self.shown.put_veiled(veiled);
+        }
     }
 
     /// What ends a wait where somebody comes, asks, or may take more.
@@ -246,6 +288,7 @@ impl Viewers {
         if let Some(inbox) = &mut self.inbox {
             inbox.renew(secret);
         }
+        self.own.is_new = true;
         self.crowd.places.let_signed_go();
     }
 

@@ -2,7 +2,7 @@
 
 /// What may be run and loaded in the page: its own style and script, and what it asks of its station.
 pub const POLICY: &[u8] =
-    b"default-src 'none'; script-src 'sha256-23a4UYnVty5O3878a89IxnkBvmUVZEUtvSMDCwhkLZM='; style-src 'sha256-TJJPdKyscPeFsFxnBDMw0VKlpaQlWwlCPIb52rVEc1E='; connect-src 'self'; img-src data:; base-uri 'none'; form-action 'none'; frame-ancestors 'none'";
+    b"default-src 'none'; script-src 'sha256-nJir+NQ5zWbuvCDNjAwfVyNjP5JeAMXAY3EMIhBUlhA='; style-src 'sha256-TJJPdKyscPeFsFxnBDMw0VKlpaQlWwlCPIb52rVEc1E='; connect-src 'self'; img-src data:; base-uri 'none'; form-action 'none'; frame-ancestors 'none'";
 
 /// The page.
 pub const PAGE: &[u8] = b"<!DOCTYPE html>
@@ -16,8 +16,9 @@ pub const PAGE: &[u8] = b"<!DOCTYPE html>
 <!-- A scorer's page, for a telephone in one hand, a tablet or a laptop. A desk serves it: it tells its state and its rows (GET /events), and takes
      what a scorer would type there (POST /line). The page writes only such lines, most of them short ones, and keeps no book: each figure is the
      desk's. A line that was tapped stands for 1.2 seconds and may be taken back (?grace=3000 behind the address for another time), then it is sent
-     once, with the place and the round that the scorer saw, and signed with the desk's secret. It is never sent again by itself. The secret is given
-     once for the ticket behind # in the link of the desk's square (POST /secret), stays in this tab, and stands in no address. -->
+     once, with the place and the round that the scorer saw, signed with the desk's secret, and hidden by it. It is never sent again by itself. The
+     secret is given once for the ticket behind # in the link of the desk's square (POST /secret), stays in this tab, and stands in no address. What
+     the desk tells its scorer alone comes hidden by it too. -->
 <style>
 :root {
   color-scheme: light dark;
@@ -276,7 +277,7 @@ function element(name, text, kind) {
   return made;
 }
 
-// ---- The tag of a line: HMAC (RFC 2104) with SHA-256 (FIPS 180-4). A browser has none of its own for a page without TLS.
+// ---- Tags and keystreams: HMAC (RFC 2104) with SHA-256 (FIPS 180-4). A browser has none of its own for a page without TLS.
 const PRIMES = [];
 for (let n = 2; PRIMES.length < 64; n += 1) if (PRIMES.every(prime => n % prime !== 0)) PRIMES.push(n);
 const fraction = root => (root - Math.floor(root)) * 4294967296 | 0;
@@ -306,31 +307,67 @@ function mixed(sums, block) {
   return [a, b, c, d, e, f, g, h].map((word, n) => word + sums[n] | 0);
 }
 
-function sha256(bytes) {
+// The digest of bytes; or behind a block that these sums have taken.
+function sha256(bytes, begun) {
   const padded = new Uint8Array((bytes.length + 8 >> 6) + 1 << 6);
   padded.set(bytes);
   padded[bytes.length] = 128;
   const view = new DataView(padded.buffer);
-  view.setUint32(padded.length - 4, 8 * bytes.length);
-  let sums = FIRST;
+  view.setUint32(padded.length - 4, 8 * (bytes.length + (begun ? 64 : 0)));
+  let sums = begun || FIRST;
   for (let from = 0; from < padded.length; from += 64) sums = mixed(sums, new DataView(padded.buffer, from, 64));
   sums.forEach((word, n) => view.setInt32(4 * n, word));
   return padded.slice(0, 32);
 }
 
-function hmac(key, bytes) {
+// The sums that have taken a key's two blocks.
+function keyed(key) {
   const block = new Uint8Array(64);
   block.set(key.length > 64 ? sha256(key) : key);
-  const inner = sha256(Uint8Array.of(...block.map(byte => byte ^ 0x36), ...bytes));
-  return sha256(Uint8Array.of(...block.map(byte => byte ^ 0x5c), ...inner));
+  const [inner, outer] = [0x36, 0x5c].map(pad => mixed(FIRST, new DataView(block.map(byte => byte ^ pad).buffer)));
+  return { inner, outer };
+}
+
+const hmacBy = ({ inner, outer }, bytes) => sha256(sha256(bytes, inner), outer);
+const hmac = (key, bytes) => hmacBy(keyed(key), bytes);
+const lettersOf = text => new TextEncoder().encode(text);
+const tagged = (key, text) => hmac(key, lettersOf(text));
+
+function joined(...parts) {
+  const made = new Uint8Array(parts.reduce((length, part) => length + part.length, 0));
+  parts.reduce((from, part) => { made.set(part, from); return from + part.length; }, 0);
+  return made;
 }
 
 const hex = bytes => Array.from(bytes, byte => byte.toString(16).padStart(2, \"0\")).join(\"\");
 
+// The bytes of hex digits.
+const unhex = digits => Uint8Array.from(digits.match(/../g) || [], pair => parseInt(pair, 16));
+
 // The bytes of 32 hex digits at the end of a text, as of a whole link.
 function bytesIn(text) {
   const found = /(?:^|[^0-9a-f])([0-9a-f]{32})$/i.exec(text.trim());
-  return found && Uint8Array.from(found[1].match(/../g), pair => parseInt(pair, 16));
+  return found && unhex(found[1]);
+}
+
+// ---- What only who has the secret reads: a keystream of HMAC in counter mode, under a key that is made of the secret for that.
+
+// A text, hidden; and what is hidden, as a text. No keystream is of two texts: the seed has the direction, and a number or a tag.
+function veiled(seed, text) {
+  const key = keyed(tagged(secret, \"stream\"));
+  let pad = null;
+  return text.map((byte, i) => {
+    if (i % 32 === 0) pad = hmacBy(key, joined(seed, lettersOf(\" \" + i / 32)));
+    return byte ^ pad[i % 32];
+  });
+}
+
+// What the desk hid under a number: nothing, where the tag isn't made with the secret, of the direction, this number and these bytes.
+function opened(number, digits) {
+  if (!/^[0-9a-f]{64,}$/.test(digits)) return null;
+  const bytes = unhex(digits), seed = lettersOf(\"page \" + number), hidden = bytes.slice(32);
+  const tag = hmac(tagged(secret, \"frame\"), joined(seed, lettersOf(\" \"), hidden));
+  return hex(tag) === digits.slice(0, 64) ? new TextDecoder().decode(veiled(seed, hidden)) : null;
 }
 
 // ---- What the desk tells.
@@ -346,6 +383,8 @@ let turns = 0;           // how often they were
 let isLive = false;      // whether what comes is new: first comes what was told before
 let isFirst = true;      // whether no state came yet
 let heard = 0;           // when something came last
+let newest = 0;          // the number of the newest that the desk hid for this page
+let isAltered = false;   // whether what came last wasn't the desk's
 let told = nothingTold();
 
 // What the rows tell, from those that the desk keeps on.
@@ -363,10 +402,10 @@ const standing = () => JSON.stringify([state.place, state.round, state.pending, 
 
 // ---- The secret, for which the ticket of a square is given once. Neither is sent: the ticket makes a tag, and turns the bits of what is answered.
 const KEPT = \"secret\";
-const tagged = (key, text) => hmac(key, new TextEncoder().encode(text));
 
 function keep(found) {
   secret = found;
+  newest = 0;
   try {
     if (found) sessionStorage.setItem(KEPT, hex(found));
     else sessionStorage.removeItem(KEPT);
@@ -425,14 +464,14 @@ function hearAgain() {
   later();
 }
 
-// Where the events are. Who has the secret signs that it wants them: so it loses its place to nobody who hasn't.
+// Where the events are. Who has the secret signs that it wants them: so it is told all, and loses its place to nobody who hasn't.
 async function eventsPath() {
   try {
     if (ticket !== null) await redeem();
     if (secret !== null) await lookSigned();
     return secret === null ? \"events\" : \"events?\" + await pass();
   } catch (why) {
-    return \"events\";
+    return secret === null ? \"events\" : null;
   }
 }
 
@@ -443,11 +482,12 @@ async function listen() {
   const path = await eventsPath();
   if (turn !== turns) return;
   asked = Date.now();
-  const opened = source = new EventSource(path);
-  opened.onopen = () => { told = nothingTold(); isLive = false; isFirst = true; isOpen = true; hearAgain(); };
-  opened.onerror = () => { opened.close(); if (opened === source) isOpen = false; later(); };
-  opened.onmessage = event => takeBoth(...event.data.split(\"\\n\").map(part => JSON.parse(part)));
-  opened.addEventListener(\"beat\", () => { isLive = true; hearAgain(); });
+  if (path === null) { isOpen = false; return later(); }
+  const stream = source = new EventSource(path);
+  stream.onopen = () => { told = nothingTold(); isLive = false; isFirst = true; isOpen = true; hearAgain(); };
+  stream.onerror = () => { stream.close(); if (stream === source) isOpen = false; later(); };
+  stream.onmessage = event => { if (stream === source) takeTold(event.data, event.lastEventId); };
+  stream.addEventListener(\"beat\", () => { isLive = true; hearAgain(); });
 }
 
 // The newest rows, of which those that came before are known.
@@ -459,7 +499,26 @@ function newRows(rows) {
   return rows.slice(known.length - from);
 }
 
-// An event has the desk's state and its newest rows.
+// What came isn't what the desk told this page: it is dropped, and the desk is asked anew.
+function dropTold() {
+  source.close();
+  isOpen = false;
+  later();
+}
+
+// An event has the desk's state; to who is signed, and hidden, with what the scorer wrote, and the newest rows.
+function takeTold(data, number) {
+  const isForAll = data.startsWith(\"{\");
+  if (secret === null) return isForAll ? takeBoth(JSON.parse(data), []) : listen();
+  if (isForAll) return dropTold();
+  const text = opened(number, data);
+  isAltered = text === null || Number(number) < newest;
+  if (isAltered) return dropTold();
+  newest = Number(number);
+  const [next, rows] = text.trim().split(\"\\n\").map(part => JSON.parse(part));
+  takeBoth(next, rows || []);
+}
+
 function takeBoth(next, rows) {
   isLive = isLive || !isFirst;
   newRows(rows).forEach(hear);
@@ -468,7 +527,7 @@ function takeBoth(next, rows) {
 
 function take(next) {
   const isAnother = state === null || state.place !== next.place || state.round !== next.round;
-  state = next;
+  state = { pending: null, held: [], ...next };
   version += 1;
   isLive = isLive || !isFirst;
   isFirst = false;
@@ -596,6 +655,7 @@ function flush() {
   send(line, label, where);
 }
 
+const ALTERED = \"Someone alters what passes between this page and the desk.\";
 const UNREACHED = \"The desk wasn't reached. Tap it again when it is back.\";
 const REFUSED = {
   400: \"The desk couldn't read it.\",
@@ -636,13 +696,14 @@ async function send(line, label, where) {
   } catch (why) {
     return fail(\"Not written: \" + label, UNREACHED);
   }
-  const tag = hex(tagged(secret, nonce + \" \" + where + \" \" + line));
+  const tag = tagged(secret, nonce + \" \" + where + \" \" + line), body = veiled(joined(lettersOf(\"desk \"), tag), lettersOf(line));
   try {
-    answer = await request(\"line\", { method: \"POST\", headers: { \"X-At\": where, \"X-Nonce\": nonce, \"X-Tag\": tag }, body: line });
+    answer = await request(\"line\", { method: \"POST\", headers: { \"X-At\": where, \"X-Nonce\": nonce, \"X-Tag\": hex(tag) }, body });
   } catch (why) {
     return fail(\"No answer: \" + label, \"It was sent. See whether it stands at the desk before you tap it again.\");
   }
-  if (answer.status === 403) keep(null);
+  if (answer.status === 403) await lookSigned().catch(() => {});
+  if (answer.status === 403 && secret !== null) return fail(\"Not written: \" + label, ALTERED + \" Tap it again.\");
   if (!answer.ok) return fail(\"Not written: \" + label, REFUSED[answer.status] || \"The desk answered \" + answer.status + \".\");
   if (sent) {
     sent.since = now();
@@ -1063,6 +1124,7 @@ function lostView() {
   if (state && !isLost()) return null;
   if (!state && isOpen) return { kind: \"\", head: \"Waiting for the desk\", detail: \"\" };
   const why = note && note.kind === \"bad\" ? note.head + \". \" + note.detail + \"\\n\" : \"\";
+  if (isAltered) return { kind: \"bad\", head: \"What came wasn't the desk's\", detail: why + ALTERED + \" Nothing is written here until the desk is heard. Its own keyboard goes on.\" };
   return { kind: \"bad\", head: \"The desk isn't reached\", detail: why + \"Nothing is written here until it is back. The desk's own keyboard goes on.\" };
 }
 

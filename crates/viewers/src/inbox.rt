@@ -1,16 +1,19 @@
 //! The lines that are posted to a desk.
 
-ghost use Rattle.std.specs.Prelude.{◌≡◌, ◌≤◌, ◌∷◌, ◌++◌, [], IfSome, MatchOption, MatchResult, None, Some, if◌then◌else◌, length, take};
+ghost use Rattle.std.specs.Prelude.{◌≡◌, ◌≤◌, ◌∷◌, ◌++◌, ◌+◌, [], IfSome, MatchOption, MatchResult, None, Some, if◌then◌else◌, length, take};
 ghost use Rattle.posts.specs.Posts as posts;
 ghost use Rattle.posts.specs.Posts.{is_same_place};
 ghost use Rattle.posts.specs.Tickets as tickets;
 ghost use Rattle.viewers.specs.Inboxes as inboxes;
+ghost use Rattle.viewers.specs.Veiled.{IsVeiled};
 
 use crate::asks::{Ask, Claim, Heading};
+use crate::own::{Own, Veiled, hex_line};
 use agree_core::Position;
 use arrayvec::ArrayVec;
 use links::LineBuffer;
 use posts::{Pass, Post, PostedLine, Posts, Refusal};
+use std::alloc::Global;
 
 /// The lines that were posted to a desk and that it hasn't taken yet, and who may post.
 #[derive(Drop)]
@@ -105,6 +108,22 @@ impl Inbox {
         self.posts.renew(secret);
     }
 
+    /// Hides what a desk tells its scorer alone, under the next number.
+    pub fn veil(&mut self, alloc: Global, own: &Own) -> Option<Veiled>
+        ensures veiled { IfSome result (IsVeiled (Some self.old) own.now) }
+        ensures secret { self.new.posts.secret ≡ self.old.posts.secret }
+        ensures number { IfSome result (λ _. self.new.posts.number ≡ self.old.posts.number + 1) }
+        ensures lines { self.new.lines ≡ self.old.lines }
+    {
+        let text = own.text(alloc).ok()?;
+        let frame = self.posts.hide(alloc, text.as_slice())?;
+        let text = hex_line(alloc, frame.bytes.as_slice()).ok()?;
+        Some(Veiled {
+            number: frame.number,
+            text,
+        })
+    }
+
     /// What is handed out for a tag.
     fn hand_out(&mut self, tag: &[u8; 32], now: u64) -> Option<[u8; 16]>
         ensures handed { result ≡ tickets.handed self.old.posts.secret self.old.posts.ticket tag.now now }
@@ -139,15 +158,15 @@ pub fn give(inbox: &mut Option<Inbox>) -> Ask {
     }
 }
 
-/// Takes a post of this line, and answers what it came to.
-pub fn take(inbox: &mut Option<Inbox>, heading: Heading, line: &[u8]) -> Ask {
+/// Takes a post with this hidden line, and answers what it came to.
+pub fn take(inbox: &mut Option<Inbox>, heading: Heading, hidden: &[u8]) -> Ask {
     let Some(inbox) = inbox else {
         return Ask::Missing;
     };
     let post = Post {
         is_from_here: heading.is_from_here,
         stamp: heading.stamp,
-        line,
+        hidden,
     };
     match inbox.posted(&post) {
         None => Ask::Typed,

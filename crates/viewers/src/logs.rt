@@ -13,7 +13,7 @@ use std::snapshot::Snapshot;
 pub enum SaidLog {
     Empty,
     Answered(Snapshot<SaidLog>, Snapshot<Server>, Snapshot<Asked>, Snapshot<Shown>),
-    Told(Snapshot<SaidLog>, Snapshot<Server>, Snapshot<Shown>),
+    Told(Snapshot<SaidLog>, Snapshot<Server>, Snapshot<bool>, Snapshot<Shown>),
     Beat(Snapshot<SaidLog>, Snapshot<Server>),
 }
 
@@ -33,13 +33,14 @@ impl SaidLog {
         )
     }
 
-    /// This, and then a state.
-    pub fn told(&self, server: &Server, shown: &Shown) -> SaidLog
-        ensures { said_in result ≡ said_in self.now ++ told_text server.now shown.now }
+    /// This, and then a state, to who is signed or isn't.
+    pub fn told(&self, server: &Server, is_signed: bool, shown: &Shown) -> SaidLog
+        ensures { said_in result ≡ said_in self.now ++ told_text server.now is_signed shown.now }
     {
         SaidLog::Told(
             Snapshot::of(self),
             Snapshot::of(server),
+            Snapshot::of(&is_signed),
             Snapshot::of(shown),
         )
     }

@@ -121,16 +121,6 @@ fn put_text(server: &mut Server, out: &mut Vec<u8>, text: &[u8]) -> Result<(), W
     server.write_end(out, &[])
 }
 
-/// What the lines of a station are: a board's six as text, or those that a desk told as JSON.
-fn lines_kind(station: Station) -> &'static [u8]
-    ensures { result.now ≡ texts.lines_kind station }
-{
-    match station {
-        Station::Board => TEXT,
-        Station::Desk => JSON,
-    }
-}
-
 /// What is sent of a text: nothing of it, where the head alone is asked for.
 fn sent_of(text: &[u8], is_head: bool) -> &[u8]
     ensures { result.now ≡ texts.sent_of text.now is_head }
@@ -363,25 +353,6 @@ fn handed_text(
     whole(alloc, server, station, 200, b"OK", TEXT, &line[..], false)
 }
 
-/// The lines that are shown: a board's six, or those that a desk told.
-fn lines_text(
-    alloc: Global,
-    server: &mut Server,
-    shown: &Shown,
-    is_head: bool,
-) -> Result<Vec<u8>, WriteError>
-    ensures { IfOk result (λ bytes. bytes.items ≡ texts.answer_text server.old Ask.Lines is_head shown.now) }
-{
-    shown_text(
-        alloc,
-        server,
-        shown.station,
-        lines_kind(shown.station),
-        shown.lines.as_slice(),
-        is_head,
-    )
-}
-
 /// The answer to what was asked for, while this is shown.
 pub fn reply(
     alloc: Global,
@@ -395,7 +366,7 @@ pub fn reply(
     let station = shown.station;
     match ask {
         Ask::Page => page(alloc, server, station, head),
-        Ask::Lines => lines_text(alloc, server, shown, head),
+        Ask::Lines => shown_text(alloc, server, station, TEXT, shown.lines.as_slice(), head),
         Ask::State => shown_text(alloc, server, station, JSON, shown.state.as_slice(), head),
         Ask::Events => stream(alloc, server, station),
         Ask::Given(nonce) => nonce_text(alloc, server, station, nonce),
@@ -411,33 +382,29 @@ pub fn reply(
     }
 }
 
-/// Adds the lines of a desk.
-fn put_lines(out: &mut Vec<u8>, shown: &Shown) -> Result<(), AllocError>
-    ensures { OnOk result (out.new.items ≡ out.old.items
-        ++ texts.lines_data shown.now.station shown.now.lines.items) }
-{
-    match shown.station {
-        Station::Board => Ok(()),
-        Station::Desk => {
-            out.extend_from_slice(b"data: ")?;
-            out.extend_from_slice(shown.lines.as_slice())
-        }
-    }
-}
-
-/// A state as an event: its number, and its text, which is one line; of a desk its lines too, which are one.
-fn event_of(alloc: Global, shown: &Shown) -> Result<Vec<u8>, AllocError>
-    ensures { IfOk result (λ bytes. bytes.items ≡ texts.event shown.now) }
+/// A text that ends its own line, as an event with its number.
+fn event_of(alloc: Global, number: u64, text: &[u8]) -> Result<Vec<u8>, AllocError>
+    ensures { IfOk result (λ bytes. bytes.items ≡ texts.event_of number text.now) }
 {
     let mut digits = Buffer::new();
     let mut out = Vec::new(alloc);
     out.extend_from_slice(b"id: ")?;
-    out.extend_from_slice(digits.format(shown.number).as_bytes())?;
+    out.extend_from_slice(digits.format(number).as_bytes())?;
     out.extend_from_slice(b"\ndata: ")?;
-    out.extend_from_slice(shown.state.as_slice())?;
-    put_lines(&mut out, shown)?;
+    out.extend_from_slice(text)?;
     out.extend_from_slice(b"\n")?;
     Ok(out)
+}
+
+/// What is shown, as an event: to who is signed what is hidden by the secret of the desk's page, and to all others the state.
+fn event(alloc: Global, is_signed: bool, shown: &Shown) -> Result<Vec<u8>, AllocError>
+    ensures { IfOk result (λ bytes. bytes.items ≡ texts.event is_signed shown.now) }
+{
+    if is_signed {
+        event_of(alloc, shown.veiled.number, shown.veiled.text.as_slice())
+    } else {
+        event_of(alloc, shown.number, shown.state.as_slice())
+    }
 }
 
 /// A piece of what follows the head of a stream.
@@ -449,11 +416,16 @@ fn piece(alloc: Global, server: &mut Server, text: &[u8]) -> Result<Vec<u8>, Wri
     Ok(out)
 }
 
-/// The state that is shown, to who has asked for it whenever it is new.
-pub fn told(alloc: Global, server: &mut Server, shown: &Shown) -> Result<Vec<u8>, WriteError>
-    ensures { IfOk result (λ bytes. bytes.items ≡ texts.told_text server.old shown.now) }
+/// What is shown, to who has asked for it whenever it is new, and is signed or isn't.
+pub fn told(
+    alloc: Global,
+    server: &mut Server,
+    is_signed: bool,
+    shown: &Shown,
+) -> Result<Vec<u8>, WriteError>
+    ensures { IfOk result (λ bytes. bytes.items ≡ texts.told_text server.old is_signed shown.now) }
 {
-    match event_of(alloc, shown) {
+    match event(alloc, is_signed, shown) {
         Ok(event) => piece(alloc, server, event.as_slice()),
         Err(_) => Err(WriteError::OutOfMemory),
     }

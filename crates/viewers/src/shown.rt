@@ -1,7 +1,9 @@
 //! The newest texts of a station.
 
 ghost use Rattle.std.specs.Prelude.{◌≡◌};
+ghost use Rattle.viewers.specs.Replies.{SameOpenly, ShowsOpenly};
 
+use crate::own::Veiled;
 use crate::station::Station;
 use std::alloc::Global;
 
@@ -9,12 +11,14 @@ use std::alloc::Global;
 #[derive(Drop)]
 pub struct Shown {
     pub station: Station,
-    /// A board's six lines, or the newest ones that a desk told, as JSON in one line.
+    /// A board's six lines.
     pub lines: Vec<u8>,
-    /// The state as JSON, one line.
+    /// The state as JSON, one line: of a desk without what its scorer wrote.
     pub state: Vec<u8>,
-    /// How often the state was another one, or what a desk told.
+    /// How often the state was another one.
     pub number: u64,
+    /// What only who has the secret of a desk's page reads.
+    pub veiled: Veiled,
 }
 
 impl Shown {
@@ -27,32 +31,41 @@ impl Shown {
             lines: Vec::new(alloc),
             state: Vec::new(alloc),
             number: 0,
+            veiled: Veiled {
+                number: 0,
+                text: Vec::new(alloc),
+            },
         }
     }
 
-    /// These lines are shown from here on. Those of a desk are news by themselves, once there is a state.
+    /// These lines are shown from here on.
     pub fn put_lines(&mut self, lines: Vec<u8>)
         ensures lines { self.new.lines ≡ lines }
         ensures state { self.new.state ≡ self.old.state }
-        ensures number { self.old.station ≡ Station.Board → self.new.number ≡ self.old.number }
+        ensures number { self.new.number ≡ self.old.number }
         ensures station { self.new.station ≡ self.old.station }
     {
-        let is_news = self.station == Station::Desk && self.number > 0;
-        if is_news && self.lines.as_slice() != lines.as_slice() {
-            self.number = self.number.saturating_add(1);
-        }
         self.lines = lines;
     }
 
-    /// This state is shown from here on.
+    /// This state is shown from here on. It is news where it is another one.
     pub fn put_state(&mut self, state: Vec<u8>)
         ensures state { self.new.state ≡ state }
         ensures lines { self.new.lines ≡ self.old.lines }
         ensures station { self.new.station ≡ self.old.station }
+        ensures openly { ShowsOpenly state.items self.old self.new }
     {
         if self.state.as_slice() != state.as_slice() {
             self.number = self.number.saturating_add(1);
         }
         self.state = state;
+    }
+
+    /// This is what only who has the secret reads from here on.
+    pub fn put_veiled(&mut self, veiled: Veiled)
+        ensures veiled { self.new.veiled ≡ veiled }
+        ensures openly { SameOpenly self.old self.new }
+    {
+        self.veiled = veiled;
     }
 }

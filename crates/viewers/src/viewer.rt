@@ -1,8 +1,9 @@
 //! A browser's connection.
 
-ghost use Rattle.std.specs.Prelude.{◌≡◌, ◌≤◌, ◌++◌, drop, false, nat_lt, vec_len};
+ghost use Rattle.std.specs.Prelude.{◌≡◌, ◌⊎◌, ◌≤◌, ◌++◌, drop, false, nat_lt, vec_len};
 ghost use Rattle.std.specs.Result.{ForOk};
-ghost use Rattle.viewers.specs.Said.{said_in, taken_by};
+ghost use Rattle.viewers.specs.Replies.{beat_text, number_for};
+ghost use Rattle.viewers.specs.Said.{Tells, said_in, taken_by};
 
 use crate::asks::{Ask, Asked, Heading, Wish, bytes_at, wish_in};
 use crate::inbox::{Inbox, give, hand_out, is_passed, take};
@@ -176,6 +177,8 @@ impl<S: Stream> Viewer<S> {
     fn say(&mut self, text: Result<Vec<u8>, WriteError>, said: SaidLog)
         requires all { self.old.done ≡ vec_len self.old.out }
         requires text { ForOk text (λ bytes. said_in said ≡ said_in self.old.said ++ bytes.items) }
+        ensures said { (self.new.said ≡ self.old.said) ⊎ (self.new.said ≡ said) }
+        ensures signed { self.new.is_signed ≡ self.old.is_signed }
     {
         match text {
             Ok(text) => {
@@ -367,21 +370,27 @@ impl<S: Stream> Viewer<S> {
     }
 
     /// Has a piece of what was said be taken, and tells how many bytes of it were.
-    fn hand_piece(&mut self) -> io::Result<usize> {
+    fn hand_piece(&mut self) -> io::Result<usize>
+        ensures { self.new.said ≡ self.old.said }
+    {
         let count = self.wire.hand(&self.out, self.done)?;
         self.done += count;
         Ok(count)
     }
 
     /// Notes that it takes what it is told.
-    fn note_taken(&mut self, now: u64) {
+    fn note_taken(&mut self, now: u64)
+        ensures { self.new.said ≡ self.old.said }
+    {
         if matches!(self.stage, Stage::Watching(_)) {
             self.since = now;
         }
     }
 
     /// Has some of what was said be taken, and tells whether to go on.
-    fn hand_on(&mut self, now: u64) -> bool {
+    fn hand_on(&mut self, now: u64) -> bool
+        ensures { self.new.said ≡ self.old.said }
+    {
         if !self.is_sending() {
             return false;
         }
@@ -399,7 +408,9 @@ impl<S: Stream> Viewer<S> {
     }
 
     /// Tells who was answered that nothing follows, once all is sent.
-    fn end(&mut self) {
+    fn end(&mut self)
+        ensures { self.new.said ≡ self.old.said }
+    {
         if !matches!(self.stage, Stage::Answered) || self.is_sending() {
             return;
         }
@@ -412,7 +423,9 @@ impl<S: Stream> Viewer<S> {
     }
 
     /// Has what was said be taken, as far as that goes at once.
-    fn send(&mut self, now: u64) {
+    fn send(&mut self, now: u64)
+        ensures { self.new.said ≡ self.old.said }
+    {
         for _ in 0..MOST_PIECES {
             if !self.hand_on(now) {
                 break;
@@ -432,19 +445,35 @@ impl<S: Stream> Viewer<S> {
         self.send(now);
     }
 
-    /// Tells it the state that is shown.
-    fn tell_state(&mut self, alloc: Global, shown: &Shown) {
+    /// The number of what is shown, as it may read it.
+    fn number_of(&self, shown: &Shown) -> u64
+        ensures { result ≡ number_for self.now.is_signed shown.now }
+    {
+        if self.is_signed {
+            shown.veiled.number
+        } else {
+            shown.number
+        }
+    }
+
+    /// Tells it what is shown, as it may read it.
+    fn tell_state(&mut self, alloc: Global, shown: &Shown)
+        ensures { Tells self.old.server self.old.is_signed shown.now (said_in self.old.said) (said_in self.new.said) }
+    {
         if self.is_sending() {
             return;
         }
-        self.stage = Stage::Watching(shown.number);
-        let said = self.said.told(&self.server, shown);
-        let text = told(alloc, &mut self.server, shown);
+        self.stage = Stage::Watching(self.number_of(shown));
+        let said = self.said.told(&self.server, self.is_signed, shown);
+        let text = told(alloc, &mut self.server, self.is_signed, shown);
         self.say(text, said);
     }
 
-    /// Tells it that the board is there.
-    fn tell_beat(&mut self, alloc: Global) {
+    /// Tells it that the station is there.
+    fn tell_beat(&mut self, alloc: Global)
+        ensures { (said_in self.new.said ≡ said_in self.old.said)
+            ⊎ (said_in self.new.said ≡ said_in self.old.said ++ beat_text self.old.server) }
+    {
         if self.is_sending() {
             return;
         }
@@ -454,15 +483,18 @@ impl<S: Stream> Viewer<S> {
     }
 
     /// Tells it what is shown, where it has asked for that and wasn't told it, and where there is nothing new, at a beat, that
-    /// the board is there. What it hasn't taken yet comes first: so of several states it gets the newest alone.
-    pub fn tell(&mut self, alloc: Global, shown: &Shown, is_beat: bool, now: u64) {
+    /// the station is there. What it hasn't taken yet comes first: so of several states it gets the newest alone. Who isn't signed is
+    /// told of a desk nothing that its scorer wrote.
+    pub fn tell(&mut self, alloc: Global, shown: &Shown, is_beat: bool, now: u64)
+        ensures { Tells self.old.server self.old.is_signed shown.now (said_in self.old.said) (said_in self.new.said) }
+    {
         let Stage::Watching(number) = self.stage else {
             return;
         };
         if self.is_sending() {
             return;
         }
-        if number != shown.number {
+        if number != self.number_of(shown) {
             self.tell_state(alloc, shown);
         } else if is_beat {
             self.tell_beat(alloc);

@@ -2,12 +2,21 @@ use Rattle.std.proofs.Common.{◌≡◌, IfOk, codes, sym, subst}
 use Rattle.viewers.specs.Replies as texts
 use Rattle.viewers.proofs.replies.reply.Goals as goal
 
-pub returns-in-State : goal.returns-in-State
-returns-in-State c =
-    let state = subst (λ t. IfOk c.shown_text.result
-    (λ bytes. bytes.items ≡ texts.whole_text c.args.server.now c.args.shown.now.station 200 (codes "OK") texts.json t c.args.head))
+pub returns-in-Lines : goal.returns-in-Lines
+returns-in-Lines c =
+    let lines = subst (λ t. IfOk c.shown_text.result
+    (λ bytes. bytes.items ≡ texts.whole_text c.args.server.now c.args.shown.now.station 200 (codes "OK") texts.plain t c.args.head))
     c.as_slice.ensures.value c.shown_text.ensures in
     subst (λ a. IfOk c.shown_text.result
+    (λ bytes. bytes.items ≡ texts.answer_text c.args.server.now a c.args.head c.args.shown.now))
+    (sym c.in-Lines.is) lines
+
+pub returns-in-State : goal.returns-in-State
+returns-in-State c =
+    let state = subst (λ t. IfOk c.shown_text-in-State.result
+    (λ bytes. bytes.items ≡ texts.whole_text c.args.server.now c.args.shown.now.station 200 (codes "OK") texts.json t c.args.head))
+    c.as_slice-in-State.ensures.value c.shown_text-in-State.ensures in
+    subst (λ a. IfOk c.shown_text-in-State.result
     (λ bytes. bytes.items ≡ texts.answer_text c.args.server.now a c.args.head c.args.shown.now))
     (sym c.in-State.is) state
 

@@ -1,0 +1,42 @@
+"""Who is between a page and its desk: reads all that passes, and may alter it."""
+import socket, threading
+
+
+def flipped(piece, is_for_desk):
+    """A piece with a bit of a line turned, or of what is hidden for the page."""
+    if is_for_desk:
+        return piece[:-1] + bytes([piece[-1] ^ 1]) if piece.startswith(b"POST /line") and not piece.endswith(b"\r\n") else piece
+    at = piece.find(b"data: ") + 100
+    return piece[:at] + (b"%x" % (int(piece[at : at + 1], 16) ^ 1)) + piece[at + 1 :] if at > 100 and piece[at - 94 : at - 93] != b"{" else piece
+
+
+class Between:
+    """Passes on what comes at a place of its own, to a desk's and back. `alters` is given each piece, and whether it is for the desk."""
+
+    def __init__(self, place, alters=lambda piece, is_for_desk: piece):
+        host, port = place.split(":")
+        self.where, self.read, self.alters = (host, int(port)), {True: b"", False: b""}, alters
+        self.it = socket.create_server((host, 0))
+        self.place = "%s:%d" % self.it.getsockname()
+        threading.Thread(target=self.work, daemon=True).start()
+
+    def work(self):
+        try:
+            while True:
+                page, desk = self.it.accept()[0], socket.create_connection(self.where, timeout=20)
+                for ends in ((page, desk, True), (desk, page, False)):
+                    threading.Thread(target=self.carry, args=ends, daemon=True).start()
+        except OSError:
+            pass
+
+    def carry(self, one, other, is_for_desk):
+        try:
+            while piece := one.recv(1 << 20):
+                self.read[is_for_desk] += piece
+                other.sendall(self.alters(piece, is_for_desk))
+            other.shutdown(socket.SHUT_WR)
+        except OSError:
+            pass
+
+    def end(self):
+        self.it.close()
