@@ -1,5 +1,5 @@
 """Desks and boards that run: what they tell, row by row, and what is typed at them."""
-import os, signal, subprocess, threading, time
+import signal, subprocess, threading, time
 from . import processes
 from .places import SHEET, program
 from .ports import free_address
