@@ -1,9 +1,9 @@
 """Desks and boards that run: what they tell, row by row, and what is typed at them."""
-import signal, subprocess, threading, time
+import os, select, signal, subprocess, threading, time
 from . import processes
 from .places import SHEET, program
 from .ports import free_address
-from .waiting import SOON, Wrong, expect
+from .waiting import SOON, Wrong, expect, wait_for
 
 JOINED, APART, UNHEARD = "joined", "apart", "unheard"
 
@@ -46,10 +46,16 @@ class Station:
                 self.readers[-1].start()
 
     def _read(self, stream, rows):
-        for row in stream:
-            row = row.decode(errors="replace").removesuffix("\n")
+        """Takes rows as they come. Who has `came` sees all that left the pipe as rows."""
+        rest, is_open = b"", True
+        while is_open:
+            select.select([stream], [], [])
             with self.came:
-                self.take(row, rows)
+                more = os.read(stream.fileno(), 1 << 16)
+                is_open = bool(more)
+                *whole, rest = (rest + more).split(b"\n")
+                for row in whole if is_open or not rest else [*whole, rest]:
+                    self.take(row.decode(errors="replace"), rows)
                 self.came.notify_all()
 
     def take(self, row: str, rows: list[str]):
@@ -123,6 +129,17 @@ class Station:
     def rests(self):
         """Waits until it waits for whatever comes: all that it told so far has come."""
         processes.rest(self.pid)
+        self.has_come()
+
+    def has_come(self):
+        """Waits until all that it told so far is a row here."""
+        for stream in (self.ran.stdout, self.ran.stderr):
+            if stream is not None and stream.readable():
+                wait_for("what a station told", lambda: self._is_read(stream), pause=0.0005)
+
+    def _is_read(self, stream) -> bool:
+        with self.came:
+            return not select.select([stream], [], [], 0)[0] or not any(it.is_alive() for it in self.readers)
 
     def is_over(self) -> bool:
         return self.ran.poll() is not None
@@ -164,6 +181,8 @@ class Station:
 def settle(*stations: Station):
     """Waits until these have taken all datagrams that came, and wait for more."""
     processes.settle(*(it.pid for it in stations))
+    for it in stations:
+        it.has_come()
 
 
 def kill(*stations: Station | None):
