@@ -29,7 +29,7 @@ class Relay(threading.Thread):
         return at(self.sockets[one, other].getsockname()[1])
 
     def say(self, one, other, data: bytes):
-        """Sends bytes to a station from the other one's address."""
+        """Sends bytes from the address at which one station is found to the other."""
         self.sockets[other, one].sendto(data, (LOOPBACK, self.ports[other]))
 
     def run(self):
