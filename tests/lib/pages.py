@@ -48,8 +48,9 @@ class Served:
         return self.sent(f"{method} {target} HTTP/{version}\r\nHost: {host or self.place}\r\n{more}\r\n".encode())
 
     def is_there(self) -> bool:
+        """Whether who asks is answered, be it that another host is asked for."""
         try:
-            return Answer(self.get("/")).status == 200
+            return Answer(self.get("/")).status in (200, 403)
         except OSError:
             return False
 
