@@ -56,7 +56,7 @@ class Match:
     def __getitem__(self, name) -> stations.Station:
         return self.stations[name]
 
-    def desks(self) -> list[stations.Station]:
+    def pair(self) -> list[stations.Station]:
         return [self.stations[it] for it in "ab" if it in self.stations]
 
     def end(self, *names):
@@ -73,10 +73,10 @@ class Match:
     def write(self, place, *lines):
         """Both scorers write these lines, one after the other, from this place on."""
         for line in lines:
-            for desk in self.desks():
+            for desk in self.pair():
                 desk.wait_for_part(f"{place} next", f"{place - 1} agreed")
                 desk.say(line)
-            for desk in self.desks():
+            for desk in self.pair():
                 desk.wait_for_part(f"{place} agreed: {line}")
             place += 1
 
