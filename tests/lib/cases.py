@@ -132,6 +132,12 @@ def options(words: list[str], jobs: int) -> tuple[bool, int, list[str]]:
     return is_list, jobs, words
 
 
+def numbers(*usual: int) -> list[int]:
+    """The numbers among a script's words behind its program, and the usual ones for those that lack."""
+    found = [int(it) for it in options(sys.argv[1:], 1)[2][1:] if it.isdigit()]
+    return found + list(usual[len(found) :])
+
+
 def main(cases, jobs: int = 1, part: str | None = None):
     """What a script of tests does: `[--list] [--jobs N] [PROGRAM [NAME..]]`. It ends with status 0 where all is well."""
     part = part or pathlib.Path(sys.argv[0]).name

@@ -14,7 +14,7 @@ class Match:
     of the ports."""
 
     def __init__(self, folder, sheet=SHEET, boards="c", relay=None, key=None):
-        self.folder, self.sheet, self.key, self.boards, self.stations, self.ended = folder, sheet, key, boards, {}, []
+        self.folder, self.sheet, self.key, self.board_names, self.stations, self.ended = folder, sheet, key, boards, {}, []
         self.ports = dict(zip("ab" + boards, free_ports(2 + len(boards))))
         self.relay = relay(self.ports) if relay else None
 
@@ -36,7 +36,7 @@ class Match:
 
     def desk_options(self, letter) -> dict:
         other = "ab".replace(letter, "")
-        boards = [self.there(letter, it) for it in self.boards]
+        boards = [self.there(letter, it) for it in self.board_names]
         own = {"letter": letter, "file": self.file(letter), "at": self.at(letter), "other": self.there(letter, other)}
         return {**own, "sheet": self.sheet, "boards": boards, "key": self.key}
 
