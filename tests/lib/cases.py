@@ -145,7 +145,7 @@ def main(cases, jobs: int = 1, part: str | None = None):
     found = chosen(named(cases), [it for it in words[1:] if not it.isdigit()])
     places.use(words[0] if words else None)
     if is_list:
-        print("".join(f"{part}/{name}\n" for name in found), end="")
+        print("".join(f"{name}\n" for name in found), end="")
         sys.exit(0)
     if not found:
         sys.exit(f"{part}: there is no such case")

@@ -158,7 +158,7 @@ def fail_scorer(plan, is_careless=False):
         end, heard, place = life(ground.folder, other, plan.text(), is_careless)
         calls = look_at_desk(ground, judge, heard)
         met = plan.met(calls) is not None
-        if met and (is_at_the_beginning(plan) or plan.label == "random" and plan.count == 1):
+        if met and (is_at_the_beginning(plan) or plan.label == "random" and plan.count < 2):
             expect(end, [(3, "", f"cannot listen at {place}\n")])
             if heard or bytes_at(ground.file("a.votes")) is not None:
                 raise Wrong("it has begun a file")
