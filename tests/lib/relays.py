@@ -88,26 +88,29 @@ class Streams(threading.Thread):
                 threading.Thread(target=self.join_both, args=(self.listener.accept()[0],), daemon=True).start()
 
     def join_both(self, here):
+        """Hands bytes on both ways, until the station ends the stream. Who asks may end their half before."""
         with here, socket.create_connection(self.to) as there:
             there.setsockopt(socket.IPPROTO_TCP, socket.TCP_NODELAY, 1)
-            while not self.ends:
-                for it in select.select([here, there], [], [], 0.02)[0]:
+            open_ends = [here, there]
+            while not self.ends and there in open_ends:
+                for it in select.select(open_ends, [], [], 0.02)[0]:
                     try:
                         data = it.recv(1 << 16)
-                        if not data or not self.pass_on(data, here, there, it is here):
-                            return
+                        if it is there and data:
+                            here.sendall(data)
+                        elif it is there or not self.pass_on(data, there):
+                            open_ends.remove(it)
                     except OSError:
                         return
 
-    def pass_on(self, data, here, there, is_asked) -> bool:
-        """Hands bytes on. It answers whether the stream goes on."""
-        if not is_asked:
-            here.sendall(data)
-            return True
+    def pass_on(self, data, there) -> bool:
+        """Hands bytes on to the station, and answers whether more may come; where no piece is left of them, none does."""
         self.passed += data
-        pieces = self.changes(data)
+        pieces = self.changes(data) if data else []
         for piece in pieces:
             there.sendall(piece)
+        if not pieces:
+            there.shutdown(socket.SHUT_WR)
         return bool(pieces)
 
     def end(self):
