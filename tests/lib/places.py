@@ -97,7 +97,7 @@ def ground(*words, **how):
 def printed(*words, **how) -> str:
     """What the program prints, which must end well."""
     status, output, errors = ground(*words, **how)
-    expect(f"the status and the errors of {words}", (status, errors), (0, ""))
+    expect(f"the status of {words}, which tells {errors!r}", status, 0)
     return output
 
 
