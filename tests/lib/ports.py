@@ -79,10 +79,7 @@ def peer(port: int = 0, waits: float | None = None, room: int = 0) -> socket.soc
     if room:
         it.setsockopt(socket.SOL_SOCKET, socket.SO_RCVBUF, room)
     it.bind((LOOPBACK, port or free_port()))
-    it.settimeout(waits)
-    it.setblocking(waits is not None)
-    if waits is not None:
-        it.settimeout(waits)
+    it.settimeout(waits or 0.0)
     return it
 
 

@@ -1,7 +1,7 @@
 """Desks and boards that run: what they tell, row by row, and what is typed at them."""
 import os, select, signal, subprocess, threading, time
 from . import processes
-from .places import SHEET, program
+from .places import SHEET, ground, program, value_in
 from .ports import free_address
 from .waiting import SOON, Wrong, expect, wait_for
 
@@ -208,15 +208,11 @@ class Board(Station):
 
     def entries(self) -> int:
         """How many its state has; none before it is written."""
-        from .places import value_in
-
         value = value_in(self.files["json"])
         return 0 if value is None else value["entries"]
 
 
 def refused(words, text: str, status: int, **how):
     """The program with these words must end so, and tell this alone."""
-    from .places import ground
-
     found = ground(*words, **how)
     expect(f"status and errors of {words}", found[::2], (status, f"{text}\n"))

@@ -102,11 +102,6 @@ class Terminal:
         """Waits until a row is shown whole."""
         wait_for(repr(row), lambda: row in self.read().rows, but=lambda: self.screen.rows[-12:])
 
-    def wait_for_text(self, text: str, since: int = 0):
-        """Waits until this text was written, behind so many bytes."""
-        data = text.encode()
-        wait_for(repr(text), lambda: self.read() and data in self.bytes[since:], but=lambda: self.bytes[since:][-400:])
-
     def wait_line(self, line: str):
         """Waits until the line that is being typed stands so, the cursor being at `|`."""
         wait_for(repr(line), lambda: self.read().last() == f"> {line}", but=lambda: self.screen.last())
