@@ -109,13 +109,21 @@ class Terminal:
     def jobs(self) -> list[int]:
         """The processes of the job in the foreground, but for shells and who began them."""
         group, found = os.tcgetpgrp(self.keys), []
-        for it in filter(str.isdigit, os.listdir("/proc")):
+        # a shell's job leads its own group
+        for it in [group] if self.is_no_shell(group) else map(int, filter(str.isdigit, os.listdir("/proc"))):
             try:
-                if os.getpgid(int(it)) == group and os.readlink(f"/proc/{it}/exe") not in BEGINNERS:
-                    found.append(int(it))
-            except (ProcessLookupError, FileNotFoundError):
+                if os.getpgid(it) == group and self.is_no_shell(it):
+                    found.append(it)
+            except ProcessLookupError:
                 pass
         return found
+
+    @staticmethod
+    def is_no_shell(pid: int) -> bool:
+        try:
+            return os.readlink(f"/proc/{pid}/exe") not in BEGINNERS
+        except OSError:
+            return False
 
     def settles(self):
         """Waits until what runs in the foreground has taken what came and told all that there was."""
