@@ -5,12 +5,20 @@ from . import places
 from .waiting import Wrong
 
 LIMIT = 900
+MEMORY = "/dev/shm"
 
 
 def alone(case):
     """Says of a case that nothing goes beside it: it tells how long something took."""
     case.is_alone = True
     return case
+
+
+def in_memory(*cases):
+    """Says of cases that their folders are in memory, where there is room: they try nothing of a disk, and write many files."""
+    for case in cases:
+        case.is_in_memory = True
+    return cases
 
 
 def named(cases) -> dict:
@@ -39,7 +47,8 @@ class Run:
     """A case that goes on, as a process."""
 
     def __init__(self, name: str, case):
-        self.name, self.case, self.began, self.folder = name, case, time.monotonic(), tempfile.mkdtemp()
+        is_in_memory = getattr(case, "is_in_memory", False) and os.access(MEMORY, os.W_OK)
+        self.name, self.case, self.began, self.folder = name, case, time.monotonic(), tempfile.mkdtemp(dir=MEMORY if is_in_memory else None)
         self.is_alone = getattr(case, "is_alone", False)
         self.text, mine = b"", os.pipe()
         sys.stdout.flush()
