@@ -1,15 +1,16 @@
 """Lives of the program under shim.c: a desk whose scorer and other desk are played here, a board, and words that end by
 themselves. Each answers how the process ended and leaves a record of its calls."""
-import os, select, signal, socket, subprocess, time
+import os, select, signal, subprocess, time
+from lib import ports
 import messages
-from record import SEAL, SHEET, TOP, Wrong, bytes_at
+from record import SEAL, SHEET, Wrong, bytes_at
 
 BOOK = ["innings home", "in 1", "in 2", "ball 7 bat 1"]
 DIFFERS = {2: "in 3"}
 BOARD = "Alder 1 for 0\nOvers 0.1\nStriker Baker 0 (0)\nOther Amin 1 (1)\nTarget -\nResult -\n"
 FINGERPRINTS = "".join(f"{it}\n" for it in SEAL.fingerprints(False))
 SAME_DISK = "the copy is on the same disk as the file\n"
-LONGEST = 20
+LONGEST = 60
 
 
 def vote(desk, place, round_, line):
@@ -23,20 +24,9 @@ def position(data):
 
 
 class Tools:
-    """The program, the compiled shim, and addresses of this worker's own on loopback."""
+    """The program and the compiled shim."""
 
-    program, shim, count = None, None, 0
-
-    def socket(self):
-        self.count += 1
-        it = socket.socket(socket.AF_INET, socket.SOCK_DGRAM)
-        it.bind((f"127.{1 + os.getpid() % 199}.{self.count // 200 % 200}.{1 + self.count % 200}", 0))
-        it.setblocking(False)
-        return it
-
-    def free_address(self):
-        with self.socket() as it:
-            return "%s:%d" % it.getsockname()
+    program, shim = None, None
 
     def environment(self, log, fail, wrong):
         return {"LD_PRELOAD": self.shim, "SHIM_LOG": log, "SHIM_FAIL": fail, "SHIM_WRONG": wrong, "PATH": os.environ["PATH"]}
@@ -107,10 +97,10 @@ class OtherDesk:
     """Desk B, which votes as desk A does, but first for another entry at some places."""
 
     def __init__(self):
-        self.socket, self.cast, self.sender = TOOLS.socket(), {}, None  # the desk that it heard last
+        self.socket, self.cast, self.sender = ports.peer(), {}, None  # the desk that it heard last
 
     def address(self):
-        return "%s:%d" % self.socket.getsockname()
+        return ports.address_of(self.socket)
 
     def hear(self, place, round_):
         """Votes where desk A has."""
@@ -162,7 +152,7 @@ def next_line(place, what, until):
 def desk(folder, other, fail="", wrong="", until=len(BOOK), disturb=None, copy=None):
     """A desk's life from its start until so many entries are agreed and its scorer quits, or until it ends before. It
     answers its status and texts, the votes that came from it, and its address."""
-    at = TOOLS.free_address()
+    at = ports.free_address()
     words = ["desk", "--sheet", SHEET, "--desk", "a", "--file", f"{folder}/a.votes", "--at", at, "--other", other.address()]
     words += ["--copy", copy] if copy else []
     with Process(words, folder, fail, wrong) as it:
@@ -195,9 +185,9 @@ def told(line):
 def board(folder, fail="", wrong="", disturb=None):
     """A board's life until its text and its state have the book, with both desks played here. It answers its status and
     texts, and its address."""
-    at, desks = TOOLS.free_address(), [TOOLS.socket(), TOOLS.socket()]
+    at, desks = ports.free_address(), [ports.peer(), ports.peer()]
     text, json = f"{folder}/board.txt", f"{folder}/board.json"
-    where = ["%s:%d" % it.getsockname() for it in desks]
+    where = [*map(ports.address_of, desks)]
     words = ["board", "--sheet", SHEET, "--at", at, "--desk-a", where[0], "--desk-b", where[1]]
     words += ["--text", text, "--json", json]
     with Process(words, folder, fail, wrong) as it:

@@ -2,6 +2,7 @@
 
 MATCH = 20260822
 DESK_A, DESK_B, BOARD = 1, 2, 3
+ENDS = {"over": 5, "void": 10}
 
 
 def code(line):
@@ -11,6 +12,8 @@ def code(line):
         front = [1, 0, 0, 0, 0, 0, 1 + (words[1] == "away")]
     elif words[0] == "in":
         front = [2, 0, 0, 0, 0, 0, int(words[1])]
+    elif words[0] in ENDS:
+        front = [ENDS[words[0]]]
     else:
         front = [3, 0, 0, 0, 0, 0, int(words[1]), 1, int(words[3])]
     return bytes(front + [0] * (24 - len(front)))

@@ -1,6 +1,7 @@
 """Lives of a board that serves a page, under shim.c, in which a call for it fails: its viewer is played here."""
 import re, socket, time
-from lives import BOARD, LONGEST, SHEET, TOOLS, Process, answer_board, has_book
+from lib import ports
+from lives import BOARD, LONGEST, SHEET, Process, answer_board, has_book
 from record import Wrong, bytes_at
 from trials import Ground, expect, shows_board
 
@@ -76,19 +77,12 @@ def answer_at(place, request):
     return in_answer(found)
 
 
-def free_place():
-    """An address for a page, of this worker's own."""
-    with TOOLS.socket() as other, socket.socket() as it:
-        it.bind((other.getsockname()[0], 0))
-        return "%s:%d" % it.getsockname()
-
-
 def life(folder, fail=""):
     """A board's life until its files have the book and a viewer was told it. It answers its status and texts, and the address of
     its page."""
-    at, place, desks = TOOLS.free_address(), free_place(), [TOOLS.socket(), TOOLS.socket()]
+    at, place, desks = ports.free_address(), ports.free_address(), [ports.peer(), ports.peer()]
     text, json = f"{folder}/board.txt", f"{folder}/board.json"
-    where, viewer = ["%s:%d" % it.getsockname() for it in desks], Viewer(place)
+    where, viewer = [*map(ports.address_of, desks)], Viewer(place)
     words = ["board", "--sheet", SHEET, "--at", at, "--desk-a", where[0], "--desk-b", where[1], "--text", text, "--json", json]
     with Process([*words, "--serve", place], folder, fail, "") as it:
         end = time.time() + LONGEST

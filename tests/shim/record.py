@@ -1,14 +1,11 @@
 """What a program's calls come to: reads the record that shim.c writes, and plays a disk that loses, keeps or spoils
 whatever isn't synced. A vote that was handed out must be in each file that a power loss may leave, from then on."""
 import errno, functools, importlib.util, os
+from lib.waiting import Wrong
 
 TOP = os.path.dirname(os.path.dirname(os.path.dirname(os.path.realpath(__file__))))
 SHEET = f"{TOP}/examples/sheet.toml"
 SPOILS = (0x00, 0xA5, 0xFF)
-
-
-class Wrong(Exception):
-    """What happened isn't what must happen."""
 
 
 def example(name):

@@ -1,8 +1,9 @@
 """Lives of a desk that serves a page, under shim.c, in which a call for it fails: its scorer's browser, its terminal and the
 other desk are played here. The browser asks again for what it isn't answered, and sends a post again as it was."""
 import errno, os, re, select, time
-from lives import BOOK, FINGERPRINTS, LONGEST, SHEET, TOOLS, Process, told
-from pages import Viewer, answer_at, free_place, is_at_the_beginning
+from lives import BOOK, FINGERPRINTS, LONGEST, SHEET, Process, told
+from pages import Viewer, answer_at, is_at_the_beginning
+from lib.ports import free_address
 from plans import HOWS, Plan, plans
 from record import Wrong, bytes_at
 from tickets import secret_in, signed, ticket_tag
@@ -129,7 +130,7 @@ def keep(it, link, other, is_careless):
 
 def life(folder, other, fail="", is_careless=False):
     """Until it ends. It answers its status and texts, the votes that came from it, and its page's place."""
-    at, place = TOOLS.free_address(), free_place()
+    at, place = free_address(), free_address()
     words = ["desk", "--sheet", SHEET, "--desk", "a", "--file", f"{folder}/a.votes", "--at", at, "--other", other.address()]
     with Served([*words, "--serve", place], folder, fail, "") as it:
         link = it.link()
@@ -157,7 +158,7 @@ def fail_scorer(plan, is_careless=False):
         end, heard, place = life(ground.folder, other, plan.text(), is_careless)
         calls = look_at_desk(ground, judge, heard)
         met = plan.met(calls) is not None
-        if met and (is_at_the_beginning(plan) or plan.label == "random" and plan.count == 1):
+        if met and (is_at_the_beginning(plan) or plan.label == "random" and plan.count < 2):
             expect(end, [(3, "", f"cannot listen at {place}\n")])
             if heard or bytes_at(ground.file("a.votes")) is not None:
                 raise Wrong("it has begun a file")
