@@ -1,5 +1,5 @@
 -- What a page shows of a desk.
-use Rattle.std.specs.Prelude.{◌≡◌, ◌⊎◌, ◌×◌, ℕ, List, [], ◌∷◌, ◌++◌}
+use Rattle.std.specs.Prelude.{◌≡◌, ◌⊎◌, ℕ, List, [], ◌∷◌, ◌++◌}
 use Rattle.agree_core.specs.declared.messages.DeskId.{DeskId}
 use Rattle.desk_state.specs.Value.{open_text, state_text}
 use Rattle.screen.specs.Sights.{DeskSight}

@@ -1,4 +1,4 @@
-use Rattle.std.proofs.Common.{◌∙◌, ◌∷◌, ◌++◌, [], ap, inr}
+use Rattle.std.proofs.Common.{◌∙◌, ◌++◌, ◌∷◌, [], ℕ, List, ap₂, inr}
 use Rattle.station_pages.specs.Sights.{texts_in}
 use Rattle.station_pages.proofs.sight.PageSight.put.Goals as goal
 
@@ -6,7 +6,5 @@ pub returns-in-Ok-clause-shows : goal.returns-in-Ok-clause-shows
 returns-in-Ok-clause-shows g c =
     inr (
       c.args.held.now,
-      c.given.ensures
-          ∙ ap (λ t. texts_in c.args.self.now.log ++ (t, _) ∷ []) c.in-Ok.ensures.openly
-          ∙ ap (λ t. texts_in c.args.self.now.log ++ (_, t) ∷ []) c.in-Ok.ensures.own,
+      c.given.ensures ∙ ap₂ (λ (openly own : List ℕ). texts_in c.args.self.now.log ++ (openly, own) ∷ []) c.in-Ok.ensures.openly c.in-Ok.ensures.own,
     )
