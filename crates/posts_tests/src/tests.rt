@@ -298,7 +298,7 @@ fn each_text_is_hidden_under_a_number_of_its_own(rt: HostRuntime) {
     let mut posts = given(0);
     let mut last = 0;
     for _ in 0..7 {
-        let frame = posts.hide(rt.alloc(), b"4\n").unwrap();
+        let frame = posts.hide(rt.alloc(), b"4\n").expect(&rt, "a frame");
         assert!(rt; frame.number == last + 1);
         last = frame.number;
         if last == 7 {
@@ -306,5 +306,5 @@ fn each_text_is_hidden_under_a_number_of_its_own(rt: HostRuntime) {
         }
     }
     posts.renew(TICKET);
-    assert!(rt; posts.hide(rt.alloc(), b"").unwrap().number == 8);
+    assert!(rt; posts.hide(rt.alloc(), b"").expect(&rt, "a frame").number == 8);
 }
