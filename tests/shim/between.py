@@ -6,8 +6,11 @@ def flipped(piece, is_for_desk):
     """A piece with a bit of a line turned, or of what is hidden for the page."""
     if is_for_desk:
         return piece[:-1] + bytes([piece[-1] ^ 1]) if piece.startswith(b"POST /line") and not piece.endswith(b"\r\n") else piece
-    at = piece.find(b"data: ") + 100
-    return piece[:at] + (b"%x" % (int(piece[at : at + 1], 16) ^ 1)) + piece[at + 1 :] if at > 100 and piece[at - 94 : at - 93] != b"{" else piece
+    begins = piece.find(b"data: ") + 6
+    at = begins + 94
+    if begins < 6 or piece[begins : begins + 1] == b"{" or at >= len(piece):
+        return piece
+    return piece[:at] + (b"%x" % (int(piece[at : at + 1], 16) ^ 1)) + piece[at + 1 :]
 
 
 class Between:
