@@ -296,12 +296,10 @@ fn a_ticket_is_good_for_two_minutes(rt: HostRuntime) {
 #[test]
 fn each_text_is_hidden_under_a_number_of_its_own(rt: HostRuntime) {
     let mut posts = given(0);
-    let mut last = 0;
-    for _ in 0..7 {
+    for number in 1..8 {
         let frame = posts.hide(rt.alloc(), b"4\n").expect(&rt, "a frame");
-        assert!(rt; frame.number == last + 1);
-        last = frame.number;
-        if last == 7 {
+        assert_eq!(rt; frame.number, number);
+        if number == 7 {
             assert_eq!(rt; frame.bytes.as_slice(), FRAME.as_slice());
         }
     }
