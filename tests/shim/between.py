@@ -3,9 +3,9 @@ import socket, threading
 
 
 def flipped(piece, is_for_desk):
-    """A piece with a bit of a line turned, or of what is hidden for the page."""
+    """A piece with a bit of a line turned, which comes with its fields or behind them, or of what is hidden for the page."""
     if is_for_desk:
-        return piece[:-1] + bytes([piece[-1] ^ 1]) if piece.startswith(b"POST /line") and not piece.endswith(b"\r\n") else piece
+        return piece if piece.endswith(b"\r\n\r\n") else piece[:-1] + bytes([piece[-1] ^ 1])
     begins = piece.find(b"data: ") + 6
     at = begins + 94
     if begins < 6 or piece[begins : begins + 1] == b"{" or at >= len(piece):
