@@ -106,6 +106,20 @@ def book_of(count: int) -> list[str]:
     return content(f"{EXAMPLES}/innings.txt").splitlines()[:count]
 
 
+def match_of(overs: int) -> list[str]:
+    """A match of so many overs a side: five bowlers, two of them at a time, each run and extra, and a wicket in every fifth over."""
+    book = []
+    for side in "home", "away":
+        book += [f"innings {side}", "in 1", "in 2"]
+        for over in range(overs):
+            bowler = 7 + (over // 8 * 2 + over % 2) % 5
+            last = ["bat 0 out bowled striker 0"] if over % 5 == 4 else ["bat 0 six"]
+            book += [f"ball {bowler} {it}" for it in ["bat 0", "bat 1", "bat 0 four", "wide 0", "bat 2", "leg 1", *last]]
+            book += [f"in {3 + over // 5}", "over"] if over % 5 == 4 else ["over"]
+        book.append("end overs")
+    return book
+
+
 def long_book(count: int, runs=0) -> list[str]:
     """So many entries: overs of balls alike."""
     book = ["innings home", "in 1", "in 2"]
