@@ -1,5 +1,8 @@
 //! Names of a sheet that two bear. Such a sheet is taken: standard error is told, and the match goes on.
 
+ghost use Rattle.std.specs.Prelude.{IfOk, Ok};
+ghost use Rattle.cards.specs.Reading.{IsReading};
+
 use crate::fault::{StopFault, Stopped};
 use crate::opening::bytes_at;
 use crate::sheet::NoSheet;
@@ -61,7 +64,9 @@ pub fn told_sheet_of<'a>(
     rt: &HostRuntime,
     path: &'a str,
     text: &[u8],
-) -> Result<MatchSheet, Stopped<'a>> {
+) -> Result<MatchSheet, Stopped<'a>>
+    ensures { IfOk result (λ sheet. IsReading text.now (Ok sheet)) }
+{
     match read_sheet(rt.alloc(), text) {
         Ok(sheet) => {
             let _ = tell_twins(&mut rt.stderr(), &sheet);

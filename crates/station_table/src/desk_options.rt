@@ -13,13 +13,7 @@ use toml::Table;
 pub const MOST_BOARDS: usize = 4;
 
 /// The addresses of a desk's boards, the first ones first.
-#[derive(Clone, Copy)]
-pub struct BoardNames<'a> {
-    pub first: Option<&'a str>,
-    pub second: Option<&'a str>,
-    pub third: Option<&'a str>,
-    pub fourth: Option<&'a str>,
-}
+pub type BoardNames<'a> = [Option<&'a str>; MOST_BOARDS];
 
 /// What a desk's words name, or what it begins with: the files of its votes, of their copy and of the key; its address, the
 /// other desk's, and the boards'; and how wide its scorer's rows are.
@@ -79,20 +73,20 @@ fn boards_or<'a>(named: BoardNames<'a>, sheet: &'a Table) -> BoardNames<'a>
     ensures { begun.boards_of result
         ≡ begun.boards_or (begun.boards_of named.entry) (begun.boards_in (table_view sheet.now)) }
 {
-    match named.first {
+    match named[0] {
         Some(_) => named,
-        None => BoardNames {
-            first: board_in(sheet, 0),
-            second: board_in(sheet, 1),
-            third: board_in(sheet, 2),
-            fourth: board_in(sheet, 3),
-        },
+        None => [
+            board_in(sheet, 0),
+            board_in(sheet, 1),
+            board_in(sheet, 2),
+            board_in(sheet, 3),
+        ],
     }
 }
 
 /// What a desk begins with: what its words name, and for what they don't what its sheet's table of stations has.
-pub fn desk_begun<'a>(desk: DeskId, named: DeskOptions<'a>, sheet: &'a Table) -> DeskOptions<'a>
-    ensures { begun.desk_of result ≡ begun.begun_with desk (begun.desk_of named.entry) (table_view sheet.now) }
+pub fn desk_begun<'a>(desk: DeskId, named: &DeskOptions<'a>, sheet: &'a Table) -> DeskOptions<'a>
+    ensures { begun.desk_of result ≡ begun.begun_with desk (begun.desk_of named.now) (table_view sheet.now) }
 {
     let file = or_else(text_in(sheet, "votes"), Some(own_file(desk)));
     let copy = or_else(text_in(sheet, own_copy(desk)), text_in(sheet, "copy"));

@@ -8,19 +8,13 @@ use crate::words::{desk_in, number_in};
 use cards::Columns;
 use clap::ArgMatches;
 use machine::{Address, addresses_in};
-use station_table::{BoardNames, BoardOptions, DeskOptions, MOST_BOARDS};
+use station_table::{
+    BoardNames, BoardOptions, BoardSetting, DeskOptions, DeskSetting, MOST_BOARDS, Showing,
+};
 use std::net::SocketAddr;
 
 /// The sheet of a station whose words name none: that of the folder.
 const SHEET: &str = "sheet.toml";
-
-/// No boards, where none are named.
-const NO_BOARDS: BoardNames<'static> = BoardNames {
-    first: None,
-    second: None,
-    third: None,
-    fourth: None,
-};
 
 /// The address of a page, if the text is one with a port of its own.
 fn place_in(text: &str) -> Option<Address<'_>> {
@@ -54,16 +48,26 @@ fn full_desk_task<'a>(words: &ArgMatches<'a>) -> Option<DeskTask<'a>> {
         Some(boards) => addresses_in(at, other, boards)?,
         None => addresses_in(at, other, &[])?,
     };
-    Some(DeskTask::Named {
+    Some(DeskTask::Named(DeskSetting {
         sheet: words.get_str("sheet")?,
         desk: desk_in(words.get_str("desk")?)?,
         file: words.get_str("file")?,
         copy: words.get_str("copy"),
+        key: words.get_str("key"),
         at,
         peers,
         serve: served_in(words)?,
-        key: words.get_str("key"),
         columns: columns_in(words)?,
+    }))
+}
+
+/// Where the words say that a board shows its book.
+fn showing_in<'a>(words: &ArgMatches<'a>) -> Option<Showing<'a>> {
+    Some(Showing {
+        text: words.get_str("text"),
+        json: words.get_str("json"),
+        script: words.get_str("script"),
+        serve: served_in(words)?,
     })
 }
 
@@ -73,16 +77,13 @@ fn full_board_task<'a>(words: &ArgMatches<'a>) -> Option<BoardTask<'a>>
 {
     let other = words.get_str("desk-b")?;
     let (at, peers) = addresses_in(words.get_str("at")?, words.get_str("desk-a")?, &[other])?;
-    Some(BoardTask::Named {
+    Some(BoardTask::Named(BoardSetting {
         sheet: words.get_str("sheet")?,
+        key: words.get_str("key"),
         at,
         peers,
-        text: words.get_str("text"),
-        json: words.get_str("json"),
-        script: words.get_str("script"),
-        serve: served_in(words)?,
-        key: words.get_str("key"),
-    })
+        shows: showing_in(words)?,
+    }))
 }
 
 /// Whether a text is an address, if there is one.
@@ -95,19 +96,18 @@ fn is_address(text: Option<&str>) -> bool {
 
 /// The boards that are named, if they are addresses and not too many.
 fn boards_in<'a>(words: &ArgMatches<'a>) -> Option<BoardNames<'a>> {
+    let mut boards = [None; MOST_BOARDS];
     let Some(texts) = words.get_strs("board") else {
-        return Some(NO_BOARDS);
+        return Some(boards);
     };
     let are_fine = texts.iter().all(|text| is_address(Some(*text)));
     if !are_fine || texts.len() > MOST_BOARDS {
         return None;
     }
-    Some(BoardNames {
-        first: texts.get(0).copied(),
-        second: texts.get(1).copied(),
-        third: texts.get(2).copied(),
-        fourth: texts.get(3).copied(),
-    })
+    for (board, text) in boards.iter_mut().zip(texts) {
+        *board = Some(*text);
+    }
+    Some(boards)
 }
 
 /// The task of a desk of the sheet's table, by its letter.
@@ -170,10 +170,7 @@ fn board_of_sheet<'a>(number: &str, words: &ArgMatches<'a>) -> Option<BoardTask<
         sheet: words.get_str("sheet").unwrap_or(SHEET),
         index: index_in(number)?,
         named,
-        text: words.get_str("text"),
-        json: words.get_str("json"),
-        script: words.get_str("script"),
-        serve: served_in(words)?,
+        shows: showing_in(words)?,
     })
 }
 

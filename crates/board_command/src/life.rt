@@ -1,0 +1,113 @@
+//! The process of a board on this machine: there is a life of a board only where its process was kept.
+
+ghost use Rattle.std.specs.Prelude.{◌≡◌, [], Ok};
+ghost use Rattle.cards.specs.Reading.{IsReading};
+ghost use Rattle.machine.specs.Screens.{written_of};
+ghost use Rattle.board_command.specs.Keeping.{IsFresh, WasKept, entries_in, innings_in, traces_of};
+ghost use Rattle.live.specs.SightLogs.{sights_of};
+
+use crate::files::{Files, Shown};
+use crate::hearing::Listening;
+use crate::notes::Notes;
+use board::{Board, Witness};
+use cards::MatchSheet;
+use corrections::CheckedBook;
+use links::{CarriedLog, Clock, Log};
+use live::{SightLog, keep_board};
+use machine::Written;
+use machine_files::Replaces;
+use setup::{SheetFile, StationLink};
+use station_screens::Output;
+use station_texts::NoticeLog;
+use std::io::Write;
+use std::snapshot::Snapshot;
+use streams::{Sink, Watched, WriteFailed};
+
+/// The life of a board: the path of its sheet, and how it ended. Of what it had to do with clauses alone read: the bytes of its
+/// sheet, what was read of them, what it said and heard, what passed for that at its socket, what was written to its screen, the
+/// notices that it told, and the books that it handed to be shown.
+#[derive(Drop)]
+pub struct BoardLife<'a> {
+    sheet_path: &'a str,
+    ended: Result<(), WriteFailed>,
+    text: Snapshot<Vec<u8>>,
+    sheet: Snapshot<MatchSheet>,
+    passed: Snapshot<Log>,
+    carried: Snapshot<CarriedLog>,
+    told: Written,
+    notices: Snapshot<NoticeLog>,
+    shown: Snapshot<SightLog<CheckedBook>>,
+    pub ghost read: { IsReading text.value.items (Ok sheet.value) },
+    pub ghost kept: { ∥ WasKept (traces_of sheet.value passed.value carried.value told notices.value shown.value ended) ∥₁ },
+}
+
+impl BoardLife<'_> {
+    /// How it ended.
+    pub fn ended(&self) -> Result<(), WriteFailed>
+        ensures { result ≡ self.now.ended }
+    {
+        self.ended
+    }
+}
+
+/// Keeps a board that has heard nothing, over a link at which nothing passed, until a write to its screen fails: its life.
+#[inline(never)]
+pub fn keep_on<
+    'a,
+    'f,
+    T: Replaces,
+    P: Replaces,
+    E: Sink + Drop,
+    M: Write + Drop,
+    N: Clock,
+    C: Clock,
+>(
+    source: SheetFile<'a>,
+    board: Board<CheckedBook>,
+    witness: Witness,
+    link: Listening<'_, StationLink<'_, M>, N>,
+    clock: &mut C,
+    screen: Output<'_>,
+    errors: E,
+    shown: Shown<'_, '_, 'f, Files<'f, T, E, CheckedBook>, Files<'f, P, E, CheckedBook>>,
+) -> BoardLife<'a>
+    requires fresh { IsFresh source.sheet board }
+    requires read { IsReading (source.text).value.items (Ok source.sheet) }
+    requires witness { witness ≡ [] }
+    requires unsaid { (link.link).above ≡ [] }
+    requires untold { written_of screen ≡ [] }
+    requires unshown { sights_of entries_in innings_in (shown.files).log ≡ [] }
+    ensures sheet { result.sheet_path.now ≡ source.path.now }
+{
+    let SheetFile {
+        path: sheet_path,
+        text,
+        sheet,
+    } = source;
+    let mut board = board;
+    let mut link = link;
+    let mut shown = shown;
+    let mut watch = Notes::watching(witness, errors);
+    let mut out = Watched::new(screen);
+    let ended = keep_board(
+        &mut board,
+        &sheet,
+        &mut link,
+        clock,
+        &mut watch,
+        &mut out,
+        &mut shown,
+        u64::MAX,
+    );
+    BoardLife {
+        sheet_path,
+        ended,
+        text,
+        sheet: Snapshot::of(&sheet),
+        passed: Snapshot::of(link.link().passed()),
+        carried: Snapshot::of(link.link().link().carrier().passed()),
+        told: out.into_inner().written(),
+        notices: Snapshot::of(watch.notices.log()),
+        shown: Snapshot::of(shown.files.log()),
+    }
+}
