@@ -2,7 +2,7 @@
 
 /// What may be run and loaded in the page: its own style and script, and what it asks of its station.
 pub const POLICY: &[u8] =
-    b"default-src 'none'; script-src 'sha256-2Qayw7vMPitHpc5oxT8veKPVPvF2iGMDdq4DF9YlQr0='; style-src 'sha256-B84a2jJVt62bcn2KTCLvkTx9arKlmpNL4W/lapH/v/w='; connect-src 'self'; img-src data:; base-uri 'none'; form-action 'none'; frame-ancestors 'none'";
+    b"default-src 'none'; script-src 'sha256-8i8NpewUwcKLGKRc9Q9QgKr5j1LCdjwZaYna2P/7KZA='; style-src 'sha256-B84a2jJVt62bcn2KTCLvkTx9arKlmpNL4W/lapH/v/w='; connect-src 'self'; img-src data:; base-uri 'none'; form-action 'none'; frame-ancestors 'none'";
 
 /// The page.
 pub const PAGE: &[u8] = b"<!DOCTYPE html>
@@ -579,12 +579,11 @@ function follow(row) {
 const WRONG = new RegExp(\"^(fault |refused |which one|no such (player|ball)|who bowls|undo: |[wb]: |\\\\w+ has no fielder|\" +
   \"\\\\d+ (not taken|doesn't differ|is cast|isn't written|differs: begin)|dropped |24 lines |not held|peer: |not a peer|cannot |this file |this is the copy|the other desk's file |its file |votes)\");
 const CHANGED = /^(now: |innings \\d+: |\\.\\. and )/;
-// Rows that come of the other desk and of files, and those that come with another state: neither is an answer to a line.
+// Rows that come of the other desk and of files: no answer to a line.
 const UNASKED = /^(peer: |not a peer|the other desk|this file |page: |\\d+ the other has written)/;
-const OF_STATE = /^(\\d+ | )/;
 
-// Whether a row is the desk's answer to the line that was sent.
-const isAnswer = (row, isWrong) => sent !== null && !UNASKED.test(row) && (isWrong || sent.isQuestion || !OF_STATE.test(row));
+// Whether a row is the desk's answer to what was sent, and says that nothing is written. What is written the state shows, which may come later.
+const isAnswer = (row, isWrong) => sent !== null && !UNASKED.test(row) && (isWrong || sent.isQuestion);
 
 // What the scorer is to read before going on: a row that says why a line isn't taken, or what a correction has changed. Not what was told before this page came.
 function heed(row) {
