@@ -1,8 +1,9 @@
 // Runs the script of a desk's page over a document of its own, with a clock that stands until it is told, and a desk that answers as it is told.
 //
 // It reads steps as JSON, from standard input, and prints what each `run` and `posted` finds, as one JSON value:
-//   ["desk", state, rows]   the desk tells this state and these rows, hidden for the page
+//   ["desk", state, rows]   the desk tells this state, the digest of that book, and these rows, hidden for the page
 //   ["book", value]         what /book.json answers from now on; null: the desk isn't reached
+//   ["between", old, new]   who is between puts the new text in place of the old one in what it answers
 //   ["tap", within, text]   a tap at the button in there that has this text; without one at the first
 //   ["pass", milliseconds]  time goes on
 //   ["rest", isDown]        a finger comes down, and rests, or goes up
@@ -70,8 +71,10 @@ function documentOf() {
 
 // ---- A page in its time.
 const kept = new Map([["secret", SECRET.toString("hex")]]);
-let time = 1e6, timers = [], page = null, number = 0, fetched = 0, book = null;
+let time = 1e6, timers = [], page = null, number = 0, fetched = 0, book = null, between = ["", ""];
 const posted = [];
+// The digest of each book that the desk has in these steps, by how many entries it has.
+const sums = new Map(steps.filter(([name, value]) => name === "book" && value).map(([, value]) => [value.entries, crypto.createHash("sha256").update(JSON.stringify(value)).digest("hex")]));
 
 const after = (then, wait = 0, every = 0) => { const it = { at: time + wait, then, every }; timers.push(it); return it; };
 const settled = () => new Promise(then => setImmediate(() => setImmediate(then)));
@@ -96,7 +99,7 @@ function answer(path, { method, headers, body } = {}) {
   if (path === "book.json") {
     fetched += 1;
     if (book === null) throw new Error("no desk");
-    return said(JSON.stringify(book));
+    return said(JSON.stringify(book).replace(...between));
   }
   if (method === "POST") posted.push([headers["X-At"], turned(Buffer.concat([Buffer.from("desk "), Buffer.from(headers["X-Tag"], "hex")]), Buffer.from(body)).toString()]);
   return said("7\n");
@@ -143,12 +146,14 @@ function buttons(within) {
 const STEPS = {
   async desk(state, rows = []) {
     number += 1;
-    const hidden = turned(Buffer.from("page " + number), Buffer.from(JSON.stringify(state) + "\n" + JSON.stringify(rows) + "\n"));
+    const sum = sums.get(state.news.entries) || "0".repeat(64);
+    const hidden = turned(Buffer.from("page " + number), Buffer.from([JSON.stringify(state), sum, JSON.stringify(rows), ""].join("\n")));
     const tag = hmac(hmac(SECRET, "frame"), "page " + number + " ", hidden);
     page.source.onmessage({ data: tag.toString("hex") + hidden.toString("hex"), lastEventId: String(number) });
     await pass(400);
   },
   async book(value) { book = value; },
+  async between(old, by) { between = [old, by]; },
   async tap(within, text) {
     await pass(500);
     const all = buttons(within).filter(it => it.attributes["aria-disabled"] !== "true");

@@ -2,7 +2,7 @@
 
 /// What may be run and loaded in the page: its own style and script, and what it asks of its station.
 pub const POLICY: &[u8] =
-    b"default-src 'none'; script-src 'sha256-8i8NpewUwcKLGKRc9Q9QgKr5j1LCdjwZaYna2P/7KZA='; style-src 'sha256-B84a2jJVt62bcn2KTCLvkTx9arKlmpNL4W/lapH/v/w='; connect-src 'self'; img-src data:; base-uri 'none'; form-action 'none'; frame-ancestors 'none'";
+    b"default-src 'none'; script-src 'sha256-k4V7YgiT3Nj7MUkEGDlLwjaHgeF4i3RikdiGFUSO3Yk='; style-src 'sha256-B84a2jJVt62bcn2KTCLvkTx9arKlmpNL4W/lapH/v/w='; connect-src 'self'; img-src data:; base-uri 'none'; form-action 'none'; frame-ancestors 'none'";
 
 /// The page.
 pub const PAGE: &[u8] = b"<!DOCTYPE html>
@@ -526,8 +526,9 @@ function takeTold(data, number) {
   isAltered = text === null || Number(number) < newest;
   if (isAltered) return dropTold();
   newest = Number(number);
-  const [next, rows] = text.trim().split(\"\\n\").map(part => JSON.parse(part));
-  takeBoth(next, rows || []);
+  const [next, sum, rows] = text.trim().split(\"\\n\");
+  bookSum = sum;
+  takeBoth(JSON.parse(next), rows ? JSON.parse(rows) : []);
 }
 
 function takeBoth(next, rows) {
@@ -606,6 +607,7 @@ function hear(row) {
 
 // ---- The book: what stands, in the order of the match.
 let book = null;         // how many entries it has, and what stands; nothing before the desk gave it
+let bookSum = null;      // the digest of its text, as the desk told its scorer alone
 let isFetching = false;  // whether it is asked for
 
 const items = () => book === null ? [] : book.items;
@@ -623,14 +625,22 @@ function followBook() {
   book.entries = entries;
 }
 
+// Takes a book that came. One of the newest state that isn't the desk's isn't taken: whoever is between has altered it.
+function takeBook(text) {
+  const came = JSON.parse(text), isNewest = state !== null && came.entries === state.news.entries;
+  isAltered = isNewest && secret !== null && bookSum !== null && hex(sha256(lettersOf(text))) !== bookSum;
+  if (isAltered) return dropTold();
+  book = came;
+  followBook();
+}
+
 // Asks for the whole book. Where it isn't of the newest state that is done again, in a moment.
 async function fetchBook() {
   if (isFetching) return;
   isFetching = true;
   try {
     const answer = await request(\"book.json\");
-    if (answer.ok) book = await answer.json();
-    if (answer.ok) followBook();
+    if (answer.ok) takeBook(await answer.text());
   } catch (why) {
     // The desk isn't reached.
   }
