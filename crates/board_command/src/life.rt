@@ -1,7 +1,7 @@
 //! The process of a board on this machine: there is a life of a board only where its process was kept.
 
-ghost use Rattle.std.specs.Prelude.{◌≡◌, [], Ok};
-ghost use Rattle.cards.specs.Reading.{IsReading};
+ghost use Rattle.std.specs.Prelude.{◌≡◌, []};
+ghost use Rattle.setup.specs.SheetText.{IsSheetOf};
 ghost use Rattle.machine.specs.Screens.{written_of};
 ghost use Rattle.board_command.specs.Keeping.{IsFresh, WasKept, entries_in, innings_in, traces_of};
 ghost use Rattle.live.specs.SightLogs.{sights_of};
@@ -37,7 +37,7 @@ pub struct BoardLife<'a> {
     told: Written,
     notices: Snapshot<NoticeLog>,
     shown: Snapshot<SightLog<CheckedBook>>,
-    pub ghost read: { IsReading text.value.items (Ok sheet.value) },
+    pub ghost read: { IsSheetOf text.value.items sheet.value },
     pub ghost kept: { ∥ WasKept (traces_of sheet.value passed.value carried.value told notices.value shown.value ended) ∥₁ },
 }
 
@@ -72,7 +72,7 @@ pub fn keep_on<
     shown: Shown<'_, '_, 'f, Files<'f, T, E, CheckedBook>, Files<'f, P, E, CheckedBook>>,
 ) -> BoardLife<'a>
     requires fresh { IsFresh source.sheet board }
-    requires read { IsReading (source.text).value.items (Ok source.sheet) }
+    requires read { IsSheetOf (source.text).value.items source.sheet }
     requires witness { witness ≡ [] }
     requires unsaid { (link.link).above ≡ [] }
     requires untold { written_of screen ≡ [] }

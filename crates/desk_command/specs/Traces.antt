@@ -1,6 +1,5 @@
 -- What the process of a desk on this machine leaves to be seen.
-use Rattle.std.specs.Prelude.{◌≡◌, ℕ, List, Result, Ok}
-use Rattle.cards.specs.Reading.{IsReading}
+use Rattle.std.specs.Prelude.{◌≡◌, ℕ, List, Result}
 use Rattle.cards.specs.Sheet.{Sheet, in_columns}
 use Rattle.links.specs.declared.log.{CarriedLog.CarriedLog, InputLog.InputLog, Log.Log}
 use Rattle.links.specs.Logs.{carried_of, inputs_of, passed_of}
@@ -9,12 +8,13 @@ use Rattle.links.specs.Typing.{Input}
 use Rattle.live.specs.declared.desk_life.LifeEnd.{LifeEnd}
 use Rattle.machine.specs.declared.row_log.Written.{Written}
 use Rattle.machine.specs.Screens.{text_of}
+use Rattle.setup.specs.SheetText.{IsSheetOf}
 
 -- the sheet is what these bytes are read as, for rows of some width
-pub record IsSheetOf (text : List ℕ) (sheet : Sheet) : Type 0 where
+pub record IsWideSheetOf (text : List ℕ) (sheet : Sheet) : Type 0 where
   pub columns : ℕ
   pub read : Sheet
-  pub is : IsReading text (Ok read)
+  pub is : IsSheetOf text read
   pub wide : sheet ≡ in_columns columns read
 
 -- the sheet of its match, what was typed, what it said and heard, what passed for that at its socket, what was written to its

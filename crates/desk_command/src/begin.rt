@@ -6,7 +6,7 @@ ghost use Rattle.streams.specs.Watched.{Prints, TellsFailure};
 ghost use Rattle.desk_command.specs.Ends as ends;
 ghost use Rattle.desk_command.specs.Ends.{WasStopped};
 ghost use Rattle.desk_command.specs.Lives.{copy_of, desk_of, path_of, sheet_path_of, traces_in};
-ghost use Rattle.desk_command.specs.Traces.{IsSheetOf};
+ghost use Rattle.desk_command.specs.Traces.{IsWideSheetOf};
 
 use crate::desk_disk::{desk_disk_at, empty_book};
 use crate::desk_screen::DeskScreen;
@@ -159,7 +159,7 @@ fn wide_sheet_at<'a>(
     columns: Option<Columns>,
 ) -> Result<SheetFile<'a>, Stopped<'a>>
     ensures path { IfOk result (λ file. file.path.now ≡ path.now) }
-    ensures sheet { IfOk result (λ file. IsSheetOf (file.text).value.items file.sheet) }
+    ensures sheet { IfOk result (λ file. IsWideSheetOf (file.text).value.items file.sheet) }
 {
     let mut file = sheet_file_at(rt, path)?;
     if let Some(columns) = columns.or(terminals_columns(rt)) {

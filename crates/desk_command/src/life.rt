@@ -6,7 +6,7 @@ ghost use Rattle.machine.specs.Screens.{text_of, written_of};
 ghost use Rattle.streams.specs.Watched.{stream_of};
 ghost use Rattle.desk_command.specs.Keeping.{LivesOn, WasKept};
 ghost use Rattle.desk_command.specs.OnFiles.{IsOnFiles};
-ghost use Rattle.desk_command.specs.Traces.{IsSheetOf, traces_of};
+ghost use Rattle.desk_command.specs.Traces.{IsWideSheetOf, traces_of};
 
 use crate::desk_disk::DeskDisk;
 use crate::desk_screen::DeskScreen;
@@ -41,7 +41,7 @@ pub struct Life<'a> {
     passed: Snapshot<Log>,
     carried: Snapshot<CarriedLog>,
     told: Written,
-    pub ghost read: { ∥ IsSheetOf text.value.items sheet.value ∥₁ },
+    pub ghost read: { ∥ IsWideSheetOf text.value.items sheet.value ∥₁ },
     pub ghost kept: { ∥ WasKept desk file.now (option_copied copy)
         (traces_of sheet.value typed.value passed.value carried.value told ended) ∥₁ },
 }
@@ -112,7 +112,7 @@ pub fn keep_on<'a, 's, 'r, E: Write + Drop, K: Keys, S: Squares, C: Clock>(
 ) -> Kept<'a, 's, 'r, Ahead<PageWords<K, S>, C>>
     requires empty { book.entries ≡ [] }
     requires innings { book.innings_a_side ≡ (source.sheet).innings }
-    requires read { IsSheetOf (source.text).value.items source.sheet }
+    requires read { IsWideSheetOf (source.text).value.items source.sheet }
     requires unsaid { link.above ≡ [] }
     requires untyped { given_of (keys.queue).log ≡ [] }
     requires untold { written_of screen.output ≡ [] }

@@ -23,6 +23,10 @@ Tells bytes (Ok sheet) = IsReading bytes (Ok sheet)
 Tells bytes (Err (Refused why)) = IsReading bytes (Err why)
 Tells bytes (Err fault) = ⊤
 
+-- the sheet is what these bytes are read as
+pub record IsSheetOf (bytes : List ℕ) (sheet : sheets.Sheet) : Type 0 where
+  pub is : IsReading bytes (Ok sheet)
+
 -- no sheet is refused for being out of memory
 abbrev pub IsSheetFault : NoSheet → Type 0
 IsSheetFault (Refused why) = why ≢ SheetFault.NoMemory

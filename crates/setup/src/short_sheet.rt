@@ -1,7 +1,7 @@
 //! The sheet of a word that takes no long one, and tells in words what is wrong with one.
 
-ghost use Rattle.std.specs.Prelude.{◌≡◌, ◌≤◌, IfOk, Ok, vec_len};
-ghost use Rattle.cards.specs.Reading.{IsReading};
+ghost use Rattle.std.specs.Prelude.{◌≡◌, ◌≤◌, IfOk, vec_len};
+ghost use Rattle.setup.specs.SheetText.{IsSheetOf};
 
 use crate::fault::{StopFault, Stopped};
 use crate::opening::bytes_at;
@@ -49,7 +49,7 @@ pub fn short_sheet_of<'a>(
     path: &'a str,
     text: &[u8],
 ) -> Result<MatchSheet, Stopped<'a>>
-    ensures { IfOk result (λ sheet. IsReading text.now (Ok sheet)) }
+    ensures { IfOk result (IsSheetOf text.now) }
 {
     match told_sheet_of(rt, path, text) {
         Err(
@@ -79,7 +79,7 @@ pub struct SheetFile<'a> {
 /// The match sheet in a file, with what it was read of.
 pub fn sheet_file_at<'a>(rt: &HostRuntime, path: &'a str) -> Result<SheetFile<'a>, Stopped<'a>>
     ensures path { IfOk result (λ file. file.path.now ≡ path.now) }
-    ensures sheet { IfOk result (λ file. IsReading (file.text).value.items (Ok file.sheet)) }
+    ensures sheet { IfOk result (λ file. IsSheetOf (file.text).value.items file.sheet) }
 {
     let text = short_sheet_bytes(rt, path)?;
     let sheet = short_sheet_of(rt, path, text.as_slice())?;

@@ -1,7 +1,7 @@
 //! Names of a sheet that two bear. Such a sheet is taken: standard error is told, and the match goes on.
 
-ghost use Rattle.std.specs.Prelude.{IfOk, Ok};
-ghost use Rattle.cards.specs.Reading.{IsReading};
+ghost use Rattle.std.specs.Prelude.{IfOk};
+ghost use Rattle.setup.specs.SheetText.{IsSheetOf};
 
 use crate::fault::{StopFault, Stopped};
 use crate::opening::bytes_at;
@@ -65,7 +65,7 @@ pub fn told_sheet_of<'a>(
     path: &'a str,
     text: &[u8],
 ) -> Result<MatchSheet, Stopped<'a>>
-    ensures { IfOk result (λ sheet. IsReading text.now (Ok sheet)) }
+    ensures { IfOk result (IsSheetOf text.now) }
 {
     match read_sheet(rt.alloc(), text) {
         Ok(sheet) => {
