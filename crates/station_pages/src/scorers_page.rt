@@ -1,7 +1,7 @@
 //! The page of a desk.
 
 ghost use Rattle.std.specs.Prelude.{◌≡◌, ◌≤◌, IfSome};
-ghost use Rattle.viewers.specs.Replies.{ShowsOpenly};
+ghost use Rattle.viewers.specs.Replies.{ShowsBook, ShowsOpenly};
 
 use crate::attended::Attends;
 use crate::rows::Rows;
@@ -74,6 +74,13 @@ impl ScorersPage {
     {
         self.viewers.put_state(openly);
         self.viewers.put_own_state(whole);
+    }
+
+    /// This is what stands in the book from here on.
+    pub fn show_book(&mut self, book: Vec<u8>)
+        ensures { ShowsBook book.items self.old.viewers.shown self.new.viewers.shown }
+    {
+        self.viewers.put_book(book);
     }
 
     /// The desk is at this position from here on. Lines that were typed here for another one are dropped, and told.

@@ -18,6 +18,8 @@ pub enum Ask {
     Lines,
     /// The state as JSON: of a desk without what its scorer wrote.
     State,
+    /// What stands in a desk's book, as JSON.
+    Book,
     /// The state, now and whenever it is new.
     Events,
     /// This nonce was given.
@@ -161,6 +163,8 @@ fn desk_ask(path: &[u8]) -> Ask {
         Ask::Page
     } else if path == b"/desk.json".as_slice() {
         Ask::State
+    } else if path == b"/book.json".as_slice() {
+        Ask::Book
     } else if path == b"/events".as_slice() {
         Ask::Events
     } else {

@@ -2,7 +2,7 @@
 
 ghost use Rattle.std.specs.Prelude.{◌≡◌, ◌⊎◌, ◌≤◌, IfSome};
 ghost use Rattle.viewers.specs.Places.{HasNoSigned, KeepsSigned, KeepsUnsigned};
-ghost use Rattle.viewers.specs.Replies.{SameOpenly, ShowsOpenly};
+ghost use Rattle.viewers.specs.Replies.{SameOpenly, ShowsBook, ShowsOpenly};
 ghost use Rattle.viewers.specs.Veiled.{IsVeiled};
 
 use crate::inbox::Inbox;
@@ -216,6 +216,13 @@ impl Viewers {
         ensures openly { ShowsOpenly state.items self.old.shown self.new.shown }
     {
         self.shown.put_state(state);
+    }
+
+    /// This is what stands in a desk's book from here on.
+    pub fn put_book(&mut self, book: Vec<u8>)
+        ensures { ShowsBook book.items self.old.shown self.new.shown }
+    {
+        self.shown.put_book(book);
     }
 
     /// This is the whole state of a desk from here on: its scorer alone reads it.

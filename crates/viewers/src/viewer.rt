@@ -515,8 +515,8 @@ fn refused(status: u16) -> Wish {
 /// What is asked for, where it can be had: nothing may have been handed over to be shown yet, or no place be free.
 fn ready(asked: Asked, shown: &Shown, is_behind: bool) -> Asked {
     let ask = match asked.ask {
-        Ask::Page | Ask::Lines | Ask::State | Ask::Events if is_behind => Ask::Full,
-        Ask::Lines | Ask::State if shown.number == 0 => Ask::Unready,
+        Ask::Page | Ask::Lines | Ask::State | Ask::Book | Ask::Events if is_behind => Ask::Full,
+        Ask::Lines | Ask::State | Ask::Book if shown.number == 0 => Ask::Unready,
         ask => ask,
     };
     Asked {
