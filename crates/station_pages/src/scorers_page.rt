@@ -1,6 +1,7 @@
 //! The page of a desk.
 
 ghost use Rattle.std.specs.Prelude.{◌≡◌, ◌≤◌, IfSome};
+ghost use Rattle.sha2.specs.Sha256.{sha256};
 ghost use Rattle.viewers.specs.Replies.{ShowsBook, ShowsOpenly};
 
 use crate::attended::Attends;
@@ -78,7 +79,8 @@ impl ScorersPage {
 
     /// This is what stands in the book from here on.
     pub fn show_book(&mut self, book: Vec<u8>)
-        ensures { ShowsBook book.items self.old.viewers.shown self.new.viewers.shown }
+        ensures shown { ShowsBook book.items self.old.viewers.shown self.new.viewers.shown }
+        ensures digest { self.new.viewers.own.digest ≡ sha256 book.items }
     {
         self.viewers.put_book(book);
     }

@@ -3,6 +3,7 @@
 ghost use Rattle.std.specs.Prelude.{◌≡◌, ◌⊎◌, ◌≤◌, IfSome};
 ghost use Rattle.viewers.specs.Places.{HasNoSigned, KeepsSigned, KeepsUnsigned};
 ghost use Rattle.viewers.specs.Replies.{SameOpenly, ShowsBook, ShowsOpenly};
+ghost use Rattle.sha2.specs.Sha256.{sha256};
 ghost use Rattle.viewers.specs.Veiled.{IsVeiled};
 
 use crate::inbox::Inbox;
@@ -218,10 +219,12 @@ impl Viewers {
         self.shown.put_state(state);
     }
 
-    /// This is what stands in a desk's book from here on.
+    /// This is what stands in a desk's book from here on, and its scorer alone is told the digest of that.
     pub fn put_book(&mut self, book: Vec<u8>)
-        ensures { ShowsBook book.items self.old.shown self.new.shown }
+        ensures shown { ShowsBook book.items self.old.shown self.new.shown }
+        ensures digest { self.new.own.digest ≡ sha256 book.items }
     {
+        self.own.put_book(book.as_slice());
         self.shown.put_book(book);
     }
 
