@@ -1,4 +1,4 @@
--- Why the book of an input isn't printed, as cards or as JSON.
+-- Why the book of an input isn't printed.
 use Rattle.std.specs.Prelude.{ℕ, List}
 use Rattle.streams.specs.declared.input.InputFault.{InputFault}
 use Rattle.cards.specs.Sheet.{Sheet}
@@ -18,6 +18,13 @@ of_input InputFault.Read = Read
 abbrev pub of_book : BookFault → PrintFault
 of_book BookFault.NoMemory = NoMemory
 of_book why = Book why
+
+-- out of memory, or a write failed
+abbrev pub IsOfPrinting : PrintFault → Type 0
+IsOfPrinting NoMemory = Unit {0}
+IsOfPrinting Read = ⊥
+IsOfPrinting Write = Unit {0}
+IsOfPrinting (Book why) = ⊥
 
 -- out of memory, a read or a write failed, or the input has no book for this reason
 abbrev pub WhyNotPrinted : Source → Sheet → List ℕ → PrintFault → Type 0

@@ -5,7 +5,7 @@ ghost use Rattle.std.specs.Prelude.{◌≡◌};
 use books::BookFault;
 use setup::StopFault;
 use std::alloc::AllocError;
-use streams::InputFault;
+use streams::{InputFault, WriteFailed};
 
 /// Why `card`, `export`, `lines` and `page` end before their end.
 #[derive(Clone, Copy)]
@@ -40,6 +40,16 @@ impl From<InputFault> for PrintFault {
             InputFault::NoMemory => PrintFault::NoMemory,
             InputFault::Read => PrintFault::Read,
         }
+    }
+}
+
+impl From<WriteFailed> for PrintFault {
+    ghost use Rattle.commands.specs.declared.printing.PrintFault.TheVariants.{Write};
+
+    ghost from_gives = { λ _ fault. fault ≡ Write };
+
+    fn from(_why: WriteFailed) -> Self {
+        PrintFault::Write
     }
 }
 

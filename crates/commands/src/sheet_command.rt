@@ -2,26 +2,17 @@
 
 ghost use Rattle.std.specs.Prelude.{◌≡◌, [], true, IfOk, OnOk};
 ghost use Rattle.sheet_check.specs.Shown.{shown_sheet};
-ghost use Rattle.streams.specs.Watched.{IsHandedOn, Prints, TellsFailure};
+ghost use Rattle.streams.specs.Watched.{Prints};
 ghost use Rattle.commands.specs.SheetWord.{PrintsSheet};
 ghost use Rattle.setup.specs.Ends.{EndsWriting};
 
 use crate::printing::PrintFault;
+use crate::product::print_whole;
 use cards::{MatchSheet, SheetFault, read_sheet};
 use setup::{StopFault, Stopped, output, short_sheet_bytes, tell_twins};
 use sheet_check::{report_of, shown_sheet};
 use std::alloc::Global;
-use streams::{Sink, Watched, WriteFailed};
-
-/// Prints a text, and hands it on.
-fn print_whole<W: Sink>(text: &str, out: &mut Watched<W>) -> Result<(), WriteFailed>
-    ensures text { OnOk result (Prints W.contents out.old out.new text.now) }
-    ensures failed { TellsFailure result out.old out.new }
-    ensures handed_on { OnOk result (IsHandedOn W.calls out.new) }
-{
-    write!(out, "{text}")?;
-    out.flush()
-}
+use streams::{Sink, Watched};
 
 /// Prints a text, or answers that it can't be printed.
 fn printed<W: Sink>(text: &str, writer: &mut Watched<W>) -> Result<(), PrintFault>

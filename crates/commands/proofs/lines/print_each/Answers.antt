@@ -1,7 +1,7 @@
 use Rattle.std.proofs.Common.{◌∙◌}
 use Rattle.cards.proofs.Pages.{copies_next}
 use Rattle.commands.proofs.LinesAgain.{all_read, one_more}
-use Rattle.commands.proofs.lines_command.print_each.Goals as goal
+use Rattle.commands.proofs.lines.print_each.Goals as goal
 
 pub loop-place-preserved : goal.loop-place-preserved
 loop-place-preserved g c = (

@@ -1,36 +1,31 @@
-//! `ground export`: the book of a match as JSON.
+//! `ground card`, `lines`, `export` and `page`: what is printed of a book, which is made of pen lines or of a desk's votes file.
 
-ghost use Rattle.std.specs.Prelude.{◌++◌, codes, IfErr, IfSome, OnOk};
-ghost use Rattle.streams.specs.Watched.{IsHandedOn, Prints, TellsFailure, stream_of};
+ghost use Rattle.std.specs.Prelude.{IfErr, IfSome, OnOk};
+ghost use Rattle.books.specs.CardBook.{IsBookFrom};
+ghost use Rattle.streams.specs.Watched.{stream_of};
 ghost use Rattle.toml.specs.View.{table_view};
-ghost use Rattle.commands.specs.Export.{PrintsExport};
 ghost use Rattle.commands.specs.PrintFault.{WhyNotPrinted};
+ghost use Rattle.commands.specs.Product.{PrintsBook};
 ghost use Rattle.setup.specs.Ends.{EndsReading, EndsWriting};
 
 use crate::printing::PrintFault;
+use crate::product::{Product, print_product};
 use books::{Source, book_from};
 use cards::MatchSheet;
-use export::{document_of, text_of};
-use setup::{NoSheet, StopFault, Stopped, open_input, output, short_sheet_bytes, short_sheet_of};
+use export::document_of;
+use setup::{
+    NoSheet, StopFault, Stopped, open_input, output, short_sheet_at, short_sheet_bytes,
+    short_sheet_of, told_sheet_at,
+};
 use std::alloc::Global;
-use streams::{Feed, Sink, Watched, WriteFailed, read_all};
+use streams::{Feed, Sink, Watched, read_all};
 use toml::Table;
 
-/// Prints a book as one JSON value. It fails only where a write fails; how much was written then isn't said.
-pub fn print_text<W: Sink>(text: &str, out: &mut Watched<W>) -> Result<(), WriteFailed>
-    ensures text { OnOk result (Prints W.contents out.old out.new (text.now ++ codes "\n")) }
-    ensures failed { TellsFailure result out.old out.new }
-    ensures handed_on { OnOk result (IsHandedOn W.calls out.new) }
-{
-    writeln!(out, "{text}")?;
-    out.flush()
-}
-
-/// `ground export`: reads pen lines or a votes file to the end, and prints their book as one JSON value: what happened
-/// ball by ball with the results of the Laws, each entry as it was penned, and what the sheet's document hands on. Where a
-/// line isn't taken, or the file or its votes are refused, nothing is written.
-pub fn export_run<R: Feed, W: Sink>(
+/// Reads pen lines or a votes file to the end, and prints a product of their book, with the sheet and its document. Where a line
+/// isn't taken, or the file or its votes are refused, nothing is written.
+pub fn book_run<R: Feed, W: Sink>(
     alloc: Global,
+    product: Product,
     sheet: &MatchSheet,
     document: &Table,
     source: Source,
@@ -38,7 +33,8 @@ pub fn export_run<R: Feed, W: Sink>(
     writer: &mut Watched<W>,
 ) -> Result<(), PrintFault>
     ensures written { OnOk result (IfSome (R.remaining (stream_of reader.old)) (λ input.
-        PrintsExport W.contents writer.old writer.new source sheet.now (table_view document.now) input)) }
+        PrintsBook W.contents writer.old writer.new product sheet.now (table_view document.now)
+        (IsBookFrom source sheet.now input))) }
     ensures why { IfErr result (λ fault. IfSome (R.remaining (stream_of reader.old)) (λ input.
         WhyNotPrinted source sheet.now input fault)) }
     ensures read { EndsReading R.remaining PrintFault.Read result reader.old reader.new }
@@ -46,15 +42,11 @@ pub fn export_run<R: Feed, W: Sink>(
 {
     let input = read_all(alloc, reader)?;
     let book = book_from(alloc, sheet, source, input.as_slice())?;
-    let text = text_of(alloc, sheet, document, &book)?;
-    match print_text(text.as_str(), writer) {
-        Ok(()) => Ok(()),
-        Err(_) => Err(PrintFault::Write),
-    }
+    print_product(alloc, product, sheet, document, &book, writer)
 }
 
 /// The match sheet in a file, and its document.
-pub fn sheet_and_document<'a>(
+fn sheet_and_document<'a>(
     rt: &HostRuntime,
     path: &'a str,
 ) -> Result<(MatchSheet, Table), Stopped<'a>> {
@@ -66,19 +58,34 @@ pub fn sheet_and_document<'a>(
     }
 }
 
-/// Runs `export` over a file.
-#[inline(never)]
-pub fn start_export<'a>(
+/// The match sheet in a file, and what a product takes of its document: cards and lines nothing. For cards it may be long.
+pub fn sheet_for<'a>(
     rt: &HostRuntime,
+    product: Product,
+    path: &'a str,
+) -> Result<(MatchSheet, Table), Stopped<'a>> {
+    match product {
+        Product::Cards => Ok((told_sheet_at(rt, path)?, Table::new(rt.alloc()))),
+        Product::Lines => Ok((short_sheet_at(rt, path)?, Table::new(rt.alloc()))),
+        Product::Json | Product::Page | Product::Rows(_) => sheet_and_document(rt, path),
+    }
+}
+
+/// Prints a product of the book of one file.
+#[inline(never)]
+pub fn start_book<'a>(
+    rt: &HostRuntime,
+    product: Product,
     sheet: &'a str,
     from: &'a str,
     source: Source,
 ) -> Result<bool, Stopped<'a>> {
-    let (sheet, document) = sheet_and_document(rt, sheet)?;
+    let (sheet, document) = sheet_for(rt, product, sheet)?;
     let mut reader = open_input(rt, from)?;
     let mut writer = output(rt)?;
-    match export_run(
+    match book_run(
         rt.alloc(),
+        product,
         &sheet,
         &document,
         source,

@@ -4,7 +4,7 @@ use Rattle.notation.specs.Written.{IsEntry}
 use Rattle.streams.specs.Watched.{stream_of, failures}
 use Rattle.cards.proofs.Pages.{CopiedFrom}
 use Rattle.commands.specs.Lines.{full_line}
-use Rattle.commands.proofs.lines_command.print_each.Given as goal
+use Rattle.commands.proofs.lines.print_each.Given as goal
 
 abbrev pub invariant-loop-place : goal.invariant-loop-place
 invariant-loop-place g l =
