@@ -4,16 +4,20 @@
 
 mod book_command;
 mod both_files;
+mod check;
 mod compare_command;
 mod file_ends;
 mod lines;
+mod migrate;
 mod printing;
 mod product;
 mod sheet_command;
 
 pub use crate::book_command::{book_run, start_book};
 pub use crate::both_files::{BothPrintFault, book_both_run, start_book_of_both};
+pub use crate::check::{CheckFault, check_run, start_check};
 pub use crate::compare_command::{compare_run, start_compare};
+pub use crate::migrate::{MigrateFault, migrate_run, start_migrate};
 pub use crate::printing::PrintFault;
 pub use crate::product::Product;
 pub use crate::sheet_command::{sheet_run, start_sheet};

@@ -6,11 +6,11 @@ use Rattle.streams.specs.Watched.{stream_of}
 use Rattle.cards.specs.Board.{board}
 use Rattle.books.specs.Table.{IsInStep, agreed_in, innings_in}
 use Rattle.books.specs.Taking.{answer_to, with_taken}
-use Rattle.check_command.specs.Check.{printed, is_rejected, board_of_book, output_of, sheet}
+use Rattle.commands.specs.Check.{printed, is_rejected, board_of_book, output_of, sheet}
 use Rattle.streams.proofs.Appending.{appends_none, appends_both, appends_kept}
 use Rattle.notation.proofs.Cuts.{length-lines_of}
-use Rattle.check_command.proofs.check.check_lines.Invariants.{Midway}
-use Rattle.check_command.proofs.check.check_lines.Goals as goal
+use Rattle.commands.proofs.check.check_lines.Invariants.{Midway}
+use Rattle.commands.proofs.check.check_lines.Goals as goal
 
 module _
     {innings n : ℕ} {input : List ℕ} {lines : List (List ℕ)} {rejected : Bool} {old : Table} {o p : Option (List ℕ)}

@@ -8,7 +8,7 @@ ghost use Rattle.entry_log.specs.Version2.{version_2};
 ghost use Rattle.entry_log.specs.declared.slot.TheConstants.{MAX_SLOTS};
 ghost use Rattle.agree_core.specs.Ballots.{desk_number};
 ghost use Rattle.vote_store.specs.Migrated.{IsMigrated, answer_of};
-ghost use Rattle.migrate_command.specs.Migrate.{Leaves, WhyNotMigrated, migrated_line, old_left};
+ghost use Rattle.commands.specs.Migrate.{Leaves, WhyNotMigrated, migrated_line, old_left};
 ghost use Rattle.setup.specs.Ends.{EndsWriting};
 
 use agree_core::DeskId;
@@ -34,7 +34,7 @@ pub enum MigrateFault {
 }
 
 impl From<Refusal> for MigrateFault {
-    ghost use Rattle.migrate_command.specs.Migrate.{of_votes};
+    ghost use Rattle.commands.specs.Migrate.{of_votes};
 
     ghost from_gives = { λ why fault. fault ≡ of_votes why };
 
@@ -48,7 +48,7 @@ impl From<Refusal> for MigrateFault {
 }
 
 impl From<MigrateFault> for StopFault {
-    ghost use Rattle.migrate_command.specs.Migrate.{stop_of};
+    ghost use Rattle.commands.specs.Migrate.{stop_of};
 
     ghost from_gives = { λ why fault. fault ≡ stop_of why };
 

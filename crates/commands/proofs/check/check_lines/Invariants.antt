@@ -5,8 +5,8 @@ use Rattle.notation.specs.Lines.{lines_of}
 use Rattle.streams.specs.Watched.{stream_of, failures}
 use Rattle.books.specs.Table.{IsInStep, agreed_in, innings_in}
 use Rattle.books.specs.Taking.{book_after}
-use Rattle.check_command.specs.Check.{rejections, has_rejected}
-use Rattle.check_command.proofs.check.check_lines.Given as goal
+use Rattle.commands.specs.Check.{rejections, has_rejected}
+use Rattle.commands.proofs.check.check_lines.Given as goal
 
 -- what was taken and written so far, with what the lines that are left will make of it, is what the whole
 -- input makes

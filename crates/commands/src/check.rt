@@ -6,8 +6,8 @@ ghost use Rattle.streams.specs.Watched.{IsHandedOn, Prints, TellsFailure, stream
 ghost use Rattle.notation.specs.Lines.{lines_of};
 ghost use Rattle.books.specs.Table.{IsInStep, agreed_in, innings_in};
 ghost use Rattle.books.specs.Taking.{answer_to, with_taken};
-ghost use Rattle.check_command.specs.Check as texts;
-ghost use Rattle.check_command.specs.Check.{printed, is_rejected, has_rejected, output_of};
+ghost use Rattle.commands.specs.Check as texts;
+ghost use Rattle.commands.specs.Check.{printed, is_rejected, has_rejected, output_of};
 ghost use Rattle.setup.specs.Ends.{EndsReading, EndsWriting};
 
 use books::{Table, print_rejected};
@@ -30,7 +30,7 @@ pub enum CheckFault {
 }
 
 impl From<AllocError> for CheckFault {
-    ghost use Rattle.check_command.specs.declared.check.CheckFault.TheVariants.{NoMemory};
+    ghost use Rattle.commands.specs.declared.check.CheckFault.TheVariants.{NoMemory};
 
     ghost from_gives = { λ _ fault. fault ≡ NoMemory };
 
@@ -40,7 +40,7 @@ impl From<AllocError> for CheckFault {
 }
 
 impl From<InputFault> for CheckFault {
-    ghost use Rattle.check_command.specs.Check.{of_input};
+    ghost use Rattle.commands.specs.Check.{of_input};
 
     ghost from_gives = { λ why fault. fault ≡ of_input why };
 
@@ -53,7 +53,7 @@ impl From<InputFault> for CheckFault {
 }
 
 impl From<CheckFault> for StopFault {
-    ghost use Rattle.check_command.specs.Check.{stop_of};
+    ghost use Rattle.commands.specs.Check.{stop_of};
 
     ghost from_gives = { λ why fault. fault ≡ stop_of why };
 

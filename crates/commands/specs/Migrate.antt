@@ -9,8 +9,8 @@ use Rattle.vote_store.specs.Refusal.{not_empty}
 use Rattle.vote_store.specs.Sequence.{file_votes}
 use Rattle.entry_log.specs.declared.refusal.Refusal.TheVariants as files
 use Rattle.setup.specs.declared.fault.StopFault.{StopFault}
-use Rattle.migrate_command.specs.declared.migrate.MigrateFault.{MigrateFault}
-use Rattle.migrate_command.specs.declared.migrate.MigrateFault.TheVariants.{NoMemory, Write, Device, Votes}
+use Rattle.commands.specs.declared.migrate.MigrateFault.{MigrateFault}
+use Rattle.commands.specs.declared.migrate.MigrateFault.TheVariants.{NoMemory, Write, Device, Votes}
 
 -- the line that says how many votes the new file has
 abbrev pub migrated_line : ℕ → List ℕ

@@ -10,8 +10,8 @@ use Rattle.books.specs.Taking.{answer_to, book_after, with_taken}
 use Rattle.books.specs.Rejected.{rejection_line}
 use Rattle.streams.specs.declared.input.InputFault.{InputFault}
 use Rattle.setup.specs.declared.fault.StopFault.{StopFault}
-use Rattle.check_command.specs.declared.check.CheckFault.{CheckFault}
-use Rattle.check_command.specs.declared.check.CheckFault.TheVariants.{NoMemory, Read, Write}
+use Rattle.commands.specs.declared.check.CheckFault.{CheckFault}
+use Rattle.commands.specs.declared.check.CheckFault.TheVariants.{NoMemory, Read, Write}
 
 -- what is printed for line n
 abbrev pub printed : ℕ → Result Entry Rejected → List ℕ
