@@ -25,6 +25,11 @@ abbrev pub of_input : DeskId → InputFault → BothPrintFault
 of_input desk InputFault.NoMemory = NoMemory
 of_input desk InputFault.Read = Read desk
 
+-- printing met this one: out of memory, or else a write failed
+abbrev pub of_printing : StopFault → BothPrintFault
+of_printing StopFault.NoMemory = NoMemory
+of_printing why = Write
+
 -- both files have no book: being out of memory is its own
 abbrev pub of_book : BothFault → BothPrintFault
 of_book BothFault.NoMemory = NoMemory

@@ -8,10 +8,6 @@ use Rattle.books.specs.declared.rejected.Rejected.{Rejected}
 use Rattle.notation.specs.Lines.{lines_of}
 use Rattle.books.specs.Taking.{answer_to, book_after, with_taken}
 use Rattle.books.specs.Rejected.{rejection_line}
-use Rattle.streams.specs.declared.input.InputFault.{InputFault}
-use Rattle.setup.specs.declared.fault.StopFault.{StopFault}
-use Rattle.commands.specs.declared.check.CheckFault.{CheckFault}
-use Rattle.commands.specs.declared.check.CheckFault.TheVariants.{NoMemory, Read, Write}
 
 -- what is printed for line n
 abbrev pub printed : ℕ → Result Entry Rejected → List ℕ
@@ -48,14 +44,3 @@ board_of_book innings book = board (sheet innings) innings (history_of book)
 abbrev pub output_of : ℕ → List ℕ → List ℕ
 output_of innings input =
     rejections innings 1 [] (lines_of input) ++ board_of_book innings (book_after innings [] (lines_of input))
-
--- the fault of an input that isn't read to its end
-abbrev pub of_input : InputFault → CheckFault
-of_input InputFault.NoMemory = NoMemory
-of_input InputFault.Read = Read
-
--- what standard error is told, and the status, go by
-abbrev pub stop_of : CheckFault → StopFault
-stop_of NoMemory = StopFault.NoMemory
-stop_of Read = StopFault.Read
-stop_of Write = StopFault.Write

@@ -1,10 +1,9 @@
--- What the public calls claim: Product with Lines and PrintFault, and of both files BothFiles and Ends; Check;
+-- What the public calls claim: Product with Lines, and of both files BothFiles and Ends; Check;
 -- Migrate; SheetWord.
 pub mod BothFiles
 pub mod Check
 pub mod Ends
 pub mod Lines
 pub mod Migrate
-pub mod PrintFault
 pub mod Product
 pub mod SheetWord

@@ -4,18 +4,16 @@ ghost use Rattle.std.specs.Prelude.{IfErr, IfSome, OnOk};
 ghost use Rattle.books.specs.CardBook.{IsBookFrom};
 ghost use Rattle.streams.specs.Watched.{stream_of};
 ghost use Rattle.toml.specs.View.{table_view};
-ghost use Rattle.commands.specs.PrintFault.{WhyNotPrinted};
-ghost use Rattle.commands.specs.Product.{PrintsBook};
+ghost use Rattle.commands.specs.Product.{IsOfBook, PrintsBook, WhyNotPrinted};
 ghost use Rattle.setup.specs.Ends.{EndsReading, EndsWriting};
 
-use crate::printing::PrintFault;
 use crate::product::{Product, print_product};
 use books::{Source, book_from};
 use cards::MatchSheet;
 use export::document_of;
 use setup::{
-    NoSheet, StopFault, Stopped, open_input, output, short_sheet_at, short_sheet_bytes,
-    short_sheet_of, told_sheet_at,
+    StopFault, Stopped, open_input, output, short_sheet_at, short_sheet_bytes, short_sheet_of,
+    told_sheet_at,
 };
 use std::alloc::Global;
 use streams::{Feed, Sink, Watched, read_all};
@@ -31,14 +29,15 @@ pub fn book_run<R: Feed, W: Sink>(
     source: Source,
     reader: &mut Watched<R>,
     writer: &mut Watched<W>,
-) -> Result<(), PrintFault>
+) -> Result<(), StopFault>
     ensures written { OnOk result (IfSome (R.remaining (stream_of reader.old)) (λ input.
         PrintsBook W.contents writer.old writer.new product sheet.now (table_view document.now)
         (IsBookFrom source sheet.now input))) }
     ensures why { IfErr result (λ fault. IfSome (R.remaining (stream_of reader.old)) (λ input.
         WhyNotPrinted source sheet.now input fault)) }
-    ensures read { EndsReading R.remaining PrintFault.Read result reader.old reader.new }
-    ensures writes { EndsWriting W.calls PrintFault.Write result writer.old writer.new }
+    ensures only { IfErr result IsOfBook }
+    ensures read { EndsReading R.remaining StopFault.Read result reader.old reader.new }
+    ensures writes { EndsWriting W.calls StopFault.Write result writer.old writer.new }
 {
     let input = read_all(alloc, reader)?;
     let book = book_from(alloc, sheet, source, input.as_slice())?;
@@ -54,7 +53,7 @@ fn sheet_and_document<'a>(
     let sheet = short_sheet_of(rt, path, text.as_slice())?;
     match document_of(rt.alloc(), text.as_slice()) {
         Ok(document) => Ok((sheet, document)),
-        Err(why) => Err(Stopped::at(path, StopFault::from(NoSheet::from(why)))),
+        Err(why) => Err(Stopped::at(path, StopFault::from(why))),
     }
 }
 
@@ -93,6 +92,6 @@ pub fn start_book<'a>(
         &mut writer,
     ) {
         Ok(()) => Ok(false),
-        Err(fault) => Err(Stopped::at(from, StopFault::from(fault))),
+        Err(fault) => Err(Stopped::at(from, fault)),
     }
 }

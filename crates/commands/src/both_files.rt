@@ -14,7 +14,6 @@ ghost use Rattle.setup.specs.Ends.{EndsReading, EndsWriting};
 
 use crate::book_command::sheet_for;
 use crate::file_ends::{places_of, tell_ends};
-use crate::printing::PrintFault;
 use crate::product::{Product, print_product};
 use agree_core::DeskId;
 use books::{BothFault, book_of_both};
@@ -39,7 +38,7 @@ pub enum BothPrintFault {
 }
 
 impl BothPrintFault {
-    ghost use Rattle.commands.specs.BothFiles.{stop_of, of_input, is_of_second};
+    ghost use Rattle.commands.specs.BothFiles.{of_input, of_printing, is_of_second};
 
     /// The fault of a desk's file that isn't read to its end.
     pub fn of_input(desk: DeskId, why: InputFault) -> BothPrintFault
@@ -48,6 +47,16 @@ impl BothPrintFault {
         match why {
             InputFault::NoMemory => BothPrintFault::NoMemory,
             InputFault::Read => BothPrintFault::Read(desk),
+        }
+    }
+
+    /// The fault of a product that isn't printed: memory is refused, or else a write failed.
+    pub fn of_printing(why: StopFault) -> BothPrintFault
+        ensures { result ≡ of_printing why }
+    {
+        match why {
+            StopFault::NoMemory => BothPrintFault::NoMemory,
+            _ => BothPrintFault::Write,
         }
     }
 
@@ -208,11 +217,7 @@ pub fn book_both_run<R: Feed, W: Sink>(
     let placed = book_of_readers(alloc, sheet, a, b)?;
     match print_product(alloc, product, sheet, document, &placed.book, writer) {
         Ok(()) => Ok(placed.places),
-        Err(PrintFault::Write) => Err(BothPrintFault::Write),
-        // Printing meets no other one.
-        Err(PrintFault::NoMemory | PrintFault::Read | PrintFault::Book(_)) => {
-            Err(BothPrintFault::NoMemory)
-        }
+        Err(why) => Err(BothPrintFault::of_printing(why)),
     }
 }
 

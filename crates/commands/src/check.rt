@@ -1,7 +1,7 @@
 //! `ground check`: pen lines in, what isn't taken and the board out.
 
 ghost use Rattle.std.specs.Prelude.{◌≡◌, ◌≤◌, [], length, not, true};
-ghost use Rattle.std.specs.Prelude.{IfOk, IfSome, OnOk};
+ghost use Rattle.std.specs.Prelude.{IfErr, IfOk, IfSome, OnOk};
 ghost use Rattle.streams.specs.Watched.{IsHandedOn, Prints, TellsFailure, stream_of};
 ghost use Rattle.notation.specs.Lines.{lines_of};
 ghost use Rattle.books.specs.Table.{IsInStep, agreed_in, innings_in};
@@ -9,62 +9,15 @@ ghost use Rattle.books.specs.Taking.{answer_to, with_taken};
 ghost use Rattle.commands.specs.Check as texts;
 ghost use Rattle.commands.specs.Check.{printed, is_rejected, has_rejected, output_of};
 ghost use Rattle.setup.specs.Ends.{EndsReading, EndsWriting};
+ghost use Rattle.setup.specs.Fault.{IsOfStreams};
 
 use books::{Table, print_rejected};
 use cards::{MatchSheet, board_lines, plain_sheet};
 use corrections::BookOf;
 use notation::Lines;
 use setup::{StopFault, Stopped, output};
-use std::alloc::{AllocError, Global};
-use streams::{Feed, InputFault, LONGEST_INPUT, Sink, Watched, WriteFailed, read_all};
-
-/// Why `check` ends before its end.
-#[derive(Clone, Copy)]
-pub enum CheckFault {
-    /// Memory was refused.
-    NoMemory,
-    /// A read failed or was interrupted, or the input is longer than 16,777,216 bytes.
-    Read,
-    /// A write failed.
-    Write,
-}
-
-impl From<AllocError> for CheckFault {
-    ghost use Rattle.commands.specs.declared.check.CheckFault.TheVariants.{NoMemory};
-
-    ghost from_gives = { λ _ fault. fault ≡ NoMemory };
-
-    fn from(_why: AllocError) -> Self {
-        CheckFault::NoMemory
-    }
-}
-
-impl From<InputFault> for CheckFault {
-    ghost use Rattle.commands.specs.Check.{of_input};
-
-    ghost from_gives = { λ why fault. fault ≡ of_input why };
-
-    fn from(why: InputFault) -> Self {
-        match why {
-            InputFault::NoMemory => CheckFault::NoMemory,
-            InputFault::Read => CheckFault::Read,
-        }
-    }
-}
-
-impl From<CheckFault> for StopFault {
-    ghost use Rattle.commands.specs.Check.{stop_of};
-
-    ghost from_gives = { λ why fault. fault ≡ stop_of why };
-
-    fn from(why: CheckFault) -> Self {
-        match why {
-            CheckFault::NoMemory => StopFault::NoMemory,
-            CheckFault::Read => StopFault::Read,
-            CheckFault::Write => StopFault::Write,
-        }
-    }
-}
+use std::alloc::Global;
+use streams::{Feed, LONGEST_INPUT, Sink, Watched, WriteFailed, read_all};
 
 /// Takes one line, or prints why it isn't taken. The answer is whether it was taken.
 fn take_line<W: Sink>(
@@ -132,21 +85,22 @@ pub fn check_run<R: Feed, W: Sink>(
     innings: u32,
     reader: &mut Watched<R>,
     writer: &mut Watched<W>,
-) -> Result<bool, CheckFault>
+) -> Result<bool, StopFault>
     requires { (1 ≤ innings) × (innings ≤ 2) }
     ensures written { OnOk result (IfSome (R.remaining (stream_of reader.old)) (λ input.
         Prints W.contents writer.old writer.new (output_of innings input))) }
     ensures rejected { IfOk result (λ rejected. IfSome (R.remaining (stream_of reader.old)) (λ input.
         rejected ≡ has_rejected innings [] (lines_of input))) }
-    ensures read { EndsReading R.remaining CheckFault.Read result reader.old reader.new }
-    ensures writes { EndsWriting W.calls CheckFault.Write result writer.old writer.new }
+    ensures only { IfErr result IsOfStreams }
+    ensures read { EndsReading R.remaining StopFault.Read result reader.old reader.new }
+    ensures writes { EndsWriting W.calls StopFault.Write result writer.old writer.new }
 {
     let input = read_all(alloc, reader)?;
     let mut table = Table::new(alloc, innings)?;
     let sheet = plain_sheet(alloc, 0, innings)?;
     match check_lines(&mut table, &sheet, writer, input.as_slice()) {
         Ok(rejected) => Ok(rejected),
-        Err(_) => Err(CheckFault::Write),
+        Err(_) => Err(StopFault::Write),
     }
 }
 
@@ -158,7 +112,6 @@ pub fn start_check(rt: &HostRuntime, innings: u32) -> Result<bool, Stopped<'stat
     let mut writer = output(rt)?;
     let mut reader = Watched::new(rt.reader());
     check_run(rt.alloc(), innings, &mut reader, &mut writer).map_err(|fault| Stopped::at(
-        "-",
-        StopFault::from(fault),
+        "-", fault,
     ))
 }

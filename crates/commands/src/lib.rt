@@ -1,5 +1,5 @@
 //! The commands of the program that read books or a sheet, a module each: what a command does, over any reader, writer or disk,
-//! with a fault of its own; and how it is started on this machine.
+//! and how it is started on this machine.
 #![tactic(auto)]
 
 mod book_command;
@@ -9,15 +9,13 @@ mod compare_command;
 mod file_ends;
 mod lines;
 mod migrate;
-mod printing;
 mod product;
 mod sheet_command;
 
 pub use crate::book_command::{book_run, start_book};
 pub use crate::both_files::{BothPrintFault, book_both_run, start_book_of_both};
-pub use crate::check::{CheckFault, check_run, start_check};
+pub use crate::check::{check_run, start_check};
 pub use crate::compare_command::{compare_run, start_compare};
 pub use crate::migrate::{MigrateFault, migrate_run, start_migrate};
-pub use crate::printing::PrintFault;
 pub use crate::product::Product;
 pub use crate::sheet_command::{sheet_run, start_sheet};

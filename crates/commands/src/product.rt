@@ -5,18 +5,17 @@ ghost use Rattle.agree_core.specs.Books.{AllTaken};
 ghost use Rattle.corrections.specs.Refusal.{book_refusal};
 ghost use Rattle.streams.specs.Watched.{IsHandedOn, Prints, TellsFailure};
 ghost use Rattle.toml.specs.View.{table_view};
-ghost use Rattle.commands.specs.PrintFault.{IsOfPrinting};
-ghost use Rattle.commands.specs.Product.{PrintsProduct};
+ghost use Rattle.commands.specs.Product.{IsOfPrinting, PrintsProduct};
 ghost use Rattle.setup.specs.Ends.{EndsWriting};
 
 use crate::lines::print_lines;
-use crate::printing::PrintFault;
 use books::print_card;
 use cards::MatchSheet;
 use corrections::CheckedBook;
 use delivery_rows::{Table, table_of};
 use export::text_of;
 use page::print_page;
+use setup::StopFault;
 use std::alloc::Global;
 use streams::{Sink, Watched, WriteFailed};
 use toml::Table as Document;
@@ -65,13 +64,13 @@ pub fn print_product<W: Sink>(
     document: &Document,
     book: &CheckedBook,
     out: &mut Watched<W>,
-) -> Result<(), PrintFault>
+) -> Result<(), StopFault>
     requires same_match { book.now.innings_a_side ≡ sheet.now.innings }
     requires legal { AllTaken (book_refusal sheet.now.innings) [] book.now.entries }
     ensures written { OnOk result (PrintsProduct W.contents out.old out.new product sheet.now (table_view document.now)
         book.now.entries) }
     ensures only { IfErr result IsOfPrinting }
-    ensures writes { EndsWriting W.calls PrintFault.Write result out.old out.new }
+    ensures writes { EndsWriting W.calls StopFault.Write result out.old out.new }
 {
     match product {
         Product::Cards => Ok(print_card(sheet, book, out)?),
