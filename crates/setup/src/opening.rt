@@ -46,7 +46,7 @@ pub fn open_input<'a>(rt: &HostRuntime, path: &'a str) -> Result<Watched<File>, 
 /// The match sheet in a file.
 pub fn sheet_at<'a>(rt: &HostRuntime, path: &'a str) -> Result<MatchSheet, Stopped<'a>> {
     let mut reader = open_input(rt, path)?;
-    sheet_run(rt.alloc(), &mut reader).map_err(|fault| Stopped::at(path, StopFault::from(fault)))
+    sheet_run(rt.alloc(), &mut reader).map_err(|fault| Stopped::at(path, fault))
 }
 
 /// All bytes of a file.

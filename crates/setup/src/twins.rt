@@ -5,7 +5,6 @@ ghost use Rattle.setup.specs.SheetText.{IsSheetOf};
 
 use crate::fault::{StopFault, Stopped};
 use crate::opening::bytes_at;
-use crate::sheet::NoSheet;
 use crate::unfit_keys::tell_unfit_keys;
 use cards::{MatchSheet, read_sheet};
 use notation::{Player, Side};
@@ -73,7 +72,7 @@ pub fn told_sheet_of<'a>(
             let _ = tell_unfit_keys(&mut rt.stderr(), rt.alloc(), text);
             Ok(sheet)
         }
-        Err(why) => Err(Stopped::at(path, StopFault::from(NoSheet::from(why)))),
+        Err(why) => Err(Stopped::at(path, StopFault::from(why))),
     }
 }
 
