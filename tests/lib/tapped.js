@@ -4,6 +4,7 @@
 //   ["desk", state, rows]   the desk tells this state, the digest of that book, and these rows, hidden for the page
 //   ["book", value]         what /book.json answers from now on; null: the desk isn't reached
 //   ["between", old, new]   who is between puts the new text in place of the old one in what it answers
+//   ["again", number]       what it told under this number comes once more
 //   ["tap", within, text]   a tap at the button in there that has this text; without one at the first
 //   ["pass", milliseconds]  time goes on
 //   ["rest", isDown]        a finger comes down, and rests, or goes up
@@ -72,7 +73,7 @@ function documentOf() {
 // ---- A page in its time.
 const kept = new Map([["secret", SECRET.toString("hex")]]);
 let time = 1e6, timers = [], page = null, number = 0, fetched = 0, book = null, between = ["", ""];
-const posted = [];
+const posted = [], frames = [];
 // The digest of each book that the desk has in these steps, by how many entries it has.
 const sums = new Map(steps.filter(([name, value]) => name === "book" && value).map(([, value]) => [value.entries, crypto.createHash("sha256").update(JSON.stringify(value)).digest("hex")]));
 
@@ -149,7 +150,11 @@ const STEPS = {
     const sum = sums.get(state.news.entries) || "0".repeat(64);
     const hidden = turned(Buffer.from("page " + number), Buffer.from([JSON.stringify(state), sum, JSON.stringify(rows), ""].join("\n")));
     const tag = hmac(hmac(SECRET, "frame"), "page " + number + " ", hidden);
-    page.source.onmessage({ data: tag.toString("hex") + hidden.toString("hex"), lastEventId: String(number) });
+    frames.push(tag.toString("hex") + hidden.toString("hex"));
+    await STEPS.again(number);
+  },
+  async again(number) {
+    page.source.onmessage({ data: frames[number - 1], lastEventId: String(number) });
     await pass(400);
   },
   async book(value) { book = value; },

@@ -6,13 +6,14 @@ ghost use Rattle.viewers.specs.Replies.{SameOpenly, ShowsBook, ShowsOpenly};
 ghost use Rattle.sha2.specs.Sha256.{sha256};
 ghost use Rattle.viewers.specs.Veiled.{IsVeiled};
 
+use crate::guest::Guest;
 use crate::inbox::Inbox;
 use crate::listening::listener_at;
 use crate::own::Own;
 use crate::places::{Places, is_behind, network_of};
 use crate::shown::Shown;
 use crate::station::Station;
-use crate::viewer::{Guest, Viewer};
+use crate::viewer::Viewer;
 use agree_core::Position;
 use links::LineBuffer;
 use mio::net::{TcpListener, TcpStream};

@@ -2,7 +2,7 @@
 
 /// What may be run and loaded in the page: its own style and script, and what it asks of its station.
 pub const POLICY: &[u8] =
-    b"default-src 'none'; script-src 'sha256-k4V7YgiT3Nj7MUkEGDlLwjaHgeF4i3RikdiGFUSO3Yk='; style-src 'sha256-B84a2jJVt62bcn2KTCLvkTx9arKlmpNL4W/lapH/v/w='; connect-src 'self'; img-src data:; base-uri 'none'; form-action 'none'; frame-ancestors 'none'";
+    b"default-src 'none'; script-src 'sha256-o+fGu424Q+ZLV95BNfC27pb+tWyRc2vJD4ghS0IwYxE='; style-src 'sha256-B84a2jJVt62bcn2KTCLvkTx9arKlmpNL4W/lapH/v/w='; connect-src 'self'; img-src data:; base-uri 'none'; form-action 'none'; frame-ancestors 'none'";
 
 /// The page.
 pub const PAGE: &[u8] = b"<!DOCTYPE html>
@@ -412,26 +412,36 @@ const differs = () => state.round > 0 && state.pending === null;
 const standing = () => JSON.stringify([state.place, state.round, state.pending, state.held]);
 
 // ---- The secret, for which the ticket of a square is given once. Neither is sent: the ticket makes a tag, and turns the bits of what is answered.
-const KEPT = \"secret\";
+const KEPT = \"secret\", REACHED = \"newest\";
+
+// Keeps a text for when this tab is loaded again. Where a browser keeps nothing, that page needs a new square.
+function store(name, text) {
+  try {
+    if (text) sessionStorage.setItem(name, text);
+    else sessionStorage.removeItem(name);
+  } catch (why) {
+    // It keeps nothing.
+  }
+}
+
+function stored(name) {
+  try {
+    return sessionStorage.getItem(name) || \"\";
+  } catch (why) {
+    return \"\";
+  }
+}
+
+function reach(number) {
+  newest = number;
+  store(REACHED, String(number));
+}
 
 function keep(found) {
   secret = found;
-  newest = 0;
-  try {
-    if (found) sessionStorage.setItem(KEPT, hex(found));
-    else sessionStorage.removeItem(KEPT);
-  } catch (why) {
-    // A browser that keeps nothing: a page that is loaded again needs a new square.
-  }
+  store(KEPT, found && hex(found));
+  reach(0);
   later();
-}
-
-function keptSecret() {
-  try {
-    return bytesIn(sessionStorage.getItem(KEPT) || \"\");
-  } catch (why) {
-    return null;
-  }
 }
 
 // Takes the ticket out of the address, so that no history has it.
@@ -525,7 +535,7 @@ function takeTold(data, number) {
   const text = opened(number, data);
   isAltered = text === null || Number(number) < newest;
   if (isAltered) return dropTold();
-  newest = Number(number);
+  reach(Number(number));
   const [next, sum, rows] = text.trim().split(\"\\n\");
   bookSum = sum;
   takeBoth(JSON.parse(next), rows ? JSON.parse(rows) : []);
@@ -1281,7 +1291,7 @@ function secretView() {
 }
 
 function heldView() {
-  if (held) return { kind: \"go\", head: \"Writing: \" + held.label, detail: held.line, answers: [[\"Take back\", takeBack]] };
+  if (held) return { kind: \"go\", head: \"Writing: \" + held.label, detail: held.line, answers: [[\"Take back\", takeBack], [\"Write now\", flush]] };
   return sent ? { kind: sent.isQuestion ? \"\" : \"go\", head: (sent.isQuestion ? \"Asking: \" : \"Writing: \") + sent.label, detail: sent.isQuestion ? \"\" : sent.line } : null;
 }
 
@@ -1728,7 +1738,8 @@ function tick() {
 }
 
 setInterval(tick, 500);
-secret = keptSecret();
+secret = bytesIn(stored(KEPT));
+newest = secret ? Number(stored(REACHED)) : 0;
 readLink();
 listen();
 </script>
