@@ -37,7 +37,7 @@ pub struct BoardLife<'a> {
     told: Written,
     notices: Snapshot<NoticeLog>,
     shown: Snapshot<SightLog<CheckedBook>>,
-    pub ghost read: { IsSheetOf text.value.items sheet.value },
+    pub ghost read: { ∥ IsSheetOf text.value.items sheet.value ∥₁ },
     pub ghost kept: { ∥ WasKept (traces_of sheet.value passed.value carried.value told notices.value shown.value ended) ∥₁ },
 }
 
