@@ -1,8 +1,7 @@
 //! `ground board`: a scoreboard.
 
 ghost use Rattle.std.specs.Prelude.{◌≡◌, [], IfOk, IsOk, false};
-ghost use Rattle.live.specs.SightLogs.{sights_of};
-ghost use Rattle.board_command.specs.Keeping.{IsFresh, entries_in, innings_in};
+ghost use Rattle.board_command.specs.Keeping.{IsFresh};
 ghost use Rattle.board_command.specs.Lives.{sheet_path_of, traces_in};
 
 use crate::files::{Files, Kept, Shown};
@@ -60,9 +59,7 @@ impl<'a> Paths<'a> {
         &self,
         rt: &'a HostRuntime,
         errors: &'s RefCell<Errors<'a>>,
-    ) -> Result<BoardFiles<'s, 'a>, Stopped<'a>>
-        ensures { IfOk result (λ files. sights_of entries_in innings_in files.log ≡ []) }
-    {
+    ) -> Result<BoardFiles<'s, 'a>, Stopped<'a>> {
         let text = self.file_at(rt, self.text)?;
         let state = self.file_at(rt, self.state)?;
         let script = self.file_at(rt, self.script)?;

@@ -320,18 +320,13 @@ pub struct Files<'a, T, E, B> {
 }
 
 impl<'a, T: Replaces, E: Sink, B: BookOf> Files<'a, T, E, B> {
-    ghost use Rattle.std.specs.Prelude.{[]};
-    ghost use Rattle.live.specs.SightLogs.{sights_of};
-
     /// These files, of which none was written yet.
     pub fn new(
         alloc: Global,
         text: Option<Kept<'a, T, E>>,
         state: Option<Kept<'a, T, E>>,
         script: Option<Kept<'a, T, E>>,
-    ) -> Files<'a, T, E, B>
-        ensures { sights_of B.content B.innings_a_side result.log ≡ [] }
-    {
+    ) -> Files<'a, T, E, B> {
         Files {
             alloc,
             text,
@@ -339,13 +334,6 @@ impl<'a, T: Replaces, E: Sink, B: BookOf> Files<'a, T, E, B> {
             script,
             log: SightLog::Empty,
         }
-    }
-
-    /// What was handed to be shown, which clauses alone read.
-    pub fn log(&self) -> &SightLog<B>
-        ensures { result.now ≡ self.now.log }
-    {
-        &self.log
     }
 }
 

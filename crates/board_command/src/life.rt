@@ -6,18 +6,15 @@ ghost use Rattle.machine.specs.Screens.{written_of};
 ghost use Rattle.board_command.specs.Keeping.{IsFresh, WasKept, entries_in, innings_in, traces_of};
 ghost use Rattle.live.specs.SightLogs.{sights_of};
 
-use crate::files::{Files, Shown};
 use crate::hearing::Listening;
 use crate::notes::Notes;
-use board::{Board, Witness};
+use board::{Board, Trouble, Witness};
 use cards::MatchSheet;
 use corrections::CheckedBook;
 use links::{CarriedLog, Clock, Log};
-use live::{SightLog, keep_board};
-use machine::Written;
-use machine_files::Replaces;
+use live::{Shows, SightLog, keep_board};
+use machine::{Outlet, Screen, Written};
 use setup::{SheetFile, StationLink};
-use station_screens::Output;
 use station_texts::NoticeLog;
 use std::io::Write;
 use std::snapshot::Snapshot;
@@ -50,33 +47,58 @@ impl BoardLife<'_> {
     }
 }
 
+/// What shows a board's book, with all that it was handed.
+#[derive(Drop)]
+struct Noted<S> {
+    shows: S,
+    log: SightLog<CheckedBook>,
+}
+
+impl<S: Shows<CheckedBook>> Shows<CheckedBook> for Noted<S> {
+    ghost seen = { λ noted. sights_of entries_in innings_in noted.log };
+
+    ghost goes_on = { λ old sight now new. S.goes_on old.shows sight now new.shows };
+
+    ghost failed = { λ noted. S.failed noted.shows };
+
+    fn show(
+        &mut self,
+        sheet: &MatchSheet,
+        book: &CheckedBook,
+        trouble: Option<Trouble>,
+        now: u64,
+    ) -> Result<(), WriteFailed> {
+        let shown = self.shows.show(sheet, book, trouble, now);
+        self.log = self.log.handed(sheet, book, trouble);
+        shown
+    }
+}
+
 /// Keeps a board that has heard nothing, over a link at which nothing passed, until a write to its screen fails: its life.
 #[inline(never)]
 pub fn keep_on<
     'a,
-    'f,
-    T: Replaces + Drop,
-    P: Replaces + Drop,
     E: Sink + Drop,
     M: Write + Drop,
     N: Clock + Drop,
     C: Clock,
+    O: Outlet + Drop,
+    S: Shows<CheckedBook> + Drop,
 >(
     source: SheetFile<'a>,
     board: Board<CheckedBook>,
     witness: Witness,
     link: Listening<'_, StationLink<'_, M>, N>,
     clock: &mut C,
-    screen: Output<'_>,
+    screen: Screen<O>,
     errors: E,
-    shown: Shown<'_, '_, 'f, Files<'f, T, E, CheckedBook>, Files<'f, P, E, CheckedBook>>,
+    shows: S,
 ) -> BoardLife<'a>
     requires fresh { IsFresh source.sheet board }
     requires read { IsSheetOf (source.text).value.items source.sheet }
     requires witness { witness ≡ [] }
     requires unsaid { (link.link).above ≡ [] }
     requires untold { written_of screen ≡ [] }
-    requires unshown { sights_of entries_in innings_in (shown.files).log ≡ [] }
     ensures sheet { result.sheet_path.now ≡ source.entry.path.now }
 {
     let SheetFile {
@@ -86,7 +108,10 @@ pub fn keep_on<
     } = source;
     let mut board = board;
     let mut link = link;
-    let mut shown = shown;
+    let mut shown = Noted {
+        shows,
+        log: SightLog::Empty,
+    };
     let mut watch = Notes::watching(witness, errors);
     let mut out = Watched::new(screen);
     let ended = keep_board(
@@ -108,6 +133,6 @@ pub fn keep_on<
         carried: Snapshot::of(link.link().link().carrier().passed()),
         told: out.into_inner().written(),
         notices: Snapshot::of(watch.notices.log()),
-        shown: Snapshot::of(shown.files.log()),
+        shown: Snapshot::of(&shown.log),
     }
 }

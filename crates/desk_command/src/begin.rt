@@ -122,8 +122,8 @@ fn tell_dropped<K: Keys, C: Clock, W: Sink>(
 
 /// Waits until all that was written to a desk's screen is taken, and tells whether it is. Where a write of it failed, no other
 /// one is made.
-fn is_seen(screen: Watched<DeskScreen<'_, '_>>) -> bool {
-    !screen.has_failed() && screen.into_inner().output.end().is_ok()
+fn is_seen(screen: Watched<DeskScreen<'_, '_>>, had_failed: bool) -> bool {
+    !had_failed && !screen.has_failed() && screen.into_inner().output.end().is_ok()
 }
 
 /// The command's answer, where its screen was read whole or wasn't: it has no fault only where its scorer stopped the desk.
@@ -180,7 +180,10 @@ pub struct Ended<'a> {
 /// datagrams are sealed with the sheet and the key in a file, where one is named. Where it is refused before it begins, there
 /// is no life.
 #[inline(never)]
-pub fn start_desk<'a>(rt: &HostRuntime, setting: &DeskSetting<'a>) -> Result<Ended<'a>, Stopped<'a>>
+pub fn start_desk<'a>(
+    rt: &'a HostRuntime,
+    setting: &DeskSetting<'a>,
+) -> Result<Ended<'a>, Stopped<'a>>
     ensures desk { IfOk result (λ ended. desk_of ended.life ≡ setting.now.desk) }
     ensures sheet { IfOk result (λ ended. sheet_path_of ended.life ≡ setting.now.sheet.now) }
     ensures file { IfOk result (λ ended. path_of ended.life ≡ setting.now.file.now) }
@@ -188,12 +191,8 @@ pub fn start_desk<'a>(rt: &HostRuntime, setting: &DeskSetting<'a>) -> Result<End
     ensures answer { IfOk result (λ ended. IfOk ended.answer (λ refused.
         (refused ≡ false) × WasStopped (traces_in ended.life).ended)) }
 {
-    let DeskSetting {
-        desk,
-        file,
-        copy,
-        ..
-    } = *setting;
+    let file = setting.file;
+    let copy = setting.copy;
     let source = wide_sheet_at(rt, setting.sheet, setting.columns)?;
     let sheet = &source.sheet;
     let sealing = Sealing::of(rt, sheet, setting.sheet, setting.key)?;
@@ -216,7 +215,7 @@ pub fn start_desk<'a>(rt: &HostRuntime, setting: &DeskSetting<'a>) -> Result<End
     let width = sheet.columns();
     let lasts = [LastFault::new(None), LastFault::new(None)];
     let book = empty_book(rt, sheet)?;
-    let disk = desk_disk_at(rt, sheet, desk, file, copy, &lasts)?;
+    let disk = desk_disk_at(rt, sheet, setting.desk, file, copy, &lasts)?;
     let sealed = sealing.sealed_at(rt, setting.at, setting.peers, ends, Shared::of(&errors))?;
     let link = sealing.link_over(rt.alloc(), MonotonicClock::new(rt), sealed);
     let _ = sealing.tell_fingerprints(&mut Shared::of(&errors));
@@ -224,15 +223,24 @@ pub fn start_desk<'a>(rt: &HostRuntime, setting: &DeskSetting<'a>) -> Result<End
     let Kept {
         life,
         mut keys,
-        screen,
+        mut out,
         has_failed,
     } = keep_on(
-        rt, disk, desk, book, source, link, keys, screen, scorers, file, copy,
+        rt,
+        disk,
+        setting.desk,
+        book,
+        source,
+        link,
+        keys,
+        screen,
+        scorers,
+        file,
+        copy,
     );
     let ended = life.ended();
-    let mut out = Watched::new(screen);
     let _ = tell_dropped(&mut out, width, ended, &mut keys);
-    let is_seen = !has_failed && is_seen(out);
+    let is_seen = is_seen(out, has_failed);
     let keyboard_failed = keys.keys().keys().has_failed();
     drop(keys);
     let _ = errors.into_inner().end();

@@ -2,20 +2,19 @@
 
 ghost use Rattle.std.specs.Prelude.{◌≡◌, [], Some, option_copied};
 ghost use Rattle.ahead.specs.Ahead.{given_of};
-ghost use Rattle.machine.specs.Screens.{text_of, written_of};
+ghost use Rattle.machine.specs.Screens.{text_of};
 ghost use Rattle.streams.specs.Watched.{stream_of};
 ghost use Rattle.desk_command.specs.Keeping.{LivesOn, WasKept};
 ghost use Rattle.desk_command.specs.OnFiles.{IsOnFiles};
 ghost use Rattle.desk_command.specs.Traces.{IsWideSheetOf, traces_of};
 
 use crate::desk_disk::DeskDisk;
-use crate::desk_screen::DeskScreen;
 use agree_core::DeskId;
 use ahead::Ahead;
 use cards::MatchSheet;
 use corrections::CheckedBook;
 use entry_log::Slots;
-use links::{CarriedLog, Clock, InputLog, Keys, Link, Log};
+use links::{CarriedLog, Clock, InputLog, Keys, Link, Log, Window};
 use live::{LifeEnd, Outside, keep_desk};
 use machine::{MonotonicClock, Written};
 use setup::{SheetFile, StationLink};
@@ -87,42 +86,77 @@ fn keep<L: Link, K: Keys, C: Clock, W: Sink>(
     )
 }
 
-/// What comes of a desk's process that was kept: its life, its scorer's lines, and its screen, with whether a write of it failed.
+/// A link that tells what it said and heard, and what its socket carried for that. Clauses alone read both.
+pub trait Carries: Link {
+    ghost use Rattle.std.specs.Prelude.{◌≡◌};
+    ghost use Rattle.links.specs.Logs.{carried_of, passed_of};
+    ghost use Rattle.setup.specs.Carried.{WasCarried};
+
+    /// What it said and heard.
+    fn passed(&self) -> &Log
+        ensures { passed_of result.now ≡ Self.log self.now };
+
+    /// What its socket carried.
+    fn carried(&self) -> &CarriedLog
+        ensures { WasCarried (Self.log self.now) (carried_of result.now) };
+}
+
+impl<E: Write + Drop> Carries for StationLink<'_, E> {
+    fn passed(&self) -> &Log {
+        Window::passed(self)
+    }
+
+    fn carried(&self) -> &CarriedLog {
+        self.link().carrier().passed()
+    }
+}
+
+/// A screen that tells what was written to it.
+pub trait Recorded: Write {
+    ghost use Rattle.std.specs.Prelude.{◌≡◌, Some};
+    ghost use Rattle.machine.specs.Screens.{text_of};
+
+    /// What was written to it, which clauses alone read.
+    fn written(&self) -> Written
+        ensures { Self.contents self.now ≡ Some (text_of result) };
+}
+
+/// What comes of a desk's process that was kept: its life, its scorer's lines, and its screen, with whether a write of it has failed.
 /// Its socket is closed.
-pub struct Kept<'a, 's, 'r, K: Keys> {
+pub struct Kept<'a, K: Keys, W> {
     pub life: Life<'a>,
     pub keys: K,
-    pub screen: DeskScreen<'s, 'r>,
+    pub out: Watched<W>,
     pub has_failed: bool,
 }
 
 /// Keeps the process of a desk whose scorer types at a keyboard and in a page, and nothing yet: with the life that the desk had.
-pub fn keep_on<'a, 's, 'r, E: Write + Drop, K: Keys, S: Squares, C: Clock>(
+pub fn keep_on<'a, L: Carries + Drop, K: Keys, S: Squares, C: Clock, W: Recorded>(
     rt: &HostRuntime,
     disk: DeskDisk<'_>,
     desk: DeskId,
     book: CheckedBook,
     source: SheetFile<'a>,
-    link: StationLink<'_, E>,
+    link: L,
     keys: Ahead<PageWords<K, S>, C>,
-    screen: DeskScreen<'s, 'r>,
+    screen: W,
     page: Option<&RefCell<ScorersPage>>,
     file: &'a str,
     copy: Option<&'a str>,
-) -> Kept<'a, 's, 'r, Ahead<PageWords<K, S>, C>>
+) -> Kept<'a, Ahead<PageWords<K, S>, C>, W>
     requires empty { book.entries ≡ [] }
     requires innings { book.innings_a_side ≡ (source.sheet).innings }
     requires read { IsWideSheetOf (source.text).value.items source.sheet }
-    requires unsaid { link.above ≡ [] }
+    requires unsaid { L.log link ≡ [] }
     requires untyped { given_of (keys.queue).log ≡ [] }
-    requires untold { written_of screen.output ≡ [] }
+    requires untold { W.contents screen ≡ Some [] }
     requires on { IsOnFiles file.now (option_copied copy) disk }
     ensures desk { (result.life).desk ≡ desk }
     ensures file { (result.life).file.now ≡ file.now }
     ensures copy { option_copied (result.life).copy ≡ option_copied copy.entry }
     ensures sheet { (result.life).sheet_path.now ≡ source.entry.path.now }
     ensures typed { ((result.life).typed).value ≡ ((result.keys).keys).given }
-    ensures told { text_of (result.life).told ≡ written_of (result.screen).output }
+    ensures told { W.contents (stream_of result.out) ≡ Some (text_of (result.life).told) }
 {
     let SheetFile {
         path: sheet_path,
@@ -158,13 +192,13 @@ pub fn keep_on<'a, 's, 'r, E: Write + Drop, K: Keys, S: Squares, C: Clock>(
         sheet: Snapshot::of(&sheet),
         typed: Snapshot::of(keys.keys().given()),
         passed: Snapshot::of(link.passed()),
-        carried: Snapshot::of(link.link().carrier().passed()),
-        told: screen.output.written(),
+        carried: Snapshot::of(link.carried()),
+        told: screen.written(),
     };
     Kept {
         life,
         keys,
-        screen,
+        out: Watched::new(screen),
         has_failed,
     }
 }

@@ -157,7 +157,7 @@ fn desk_setting<'a>(
 /// table of stations has.
 #[inline(never)]
 pub fn start_desk_of<'a>(
-    rt: &HostRuntime,
+    rt: &'a HostRuntime,
     sheet: &'a str,
     desk: DeskId,
     named: &DeskOptions<'a>,

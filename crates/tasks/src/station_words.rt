@@ -96,18 +96,19 @@ fn is_address(text: Option<&str>) -> bool {
 
 /// The boards that are named, if they are addresses and not too many.
 fn boards_in<'a>(words: &ArgMatches<'a>) -> Option<BoardNames<'a>> {
-    let mut boards = [None; MOST_BOARDS];
     let Some(texts) = words.get_strs("board") else {
-        return Some(boards);
+        return Some([None; MOST_BOARDS]);
     };
     let are_fine = texts.iter().all(|text| is_address(Some(*text)));
     if !are_fine || texts.len() > MOST_BOARDS {
         return None;
     }
-    for (board, text) in boards.iter_mut().zip(texts) {
-        *board = Some(*text);
-    }
-    Some(boards)
+    Some([
+        texts.get(0).copied(),
+        texts.get(1).copied(),
+        texts.get(2).copied(),
+        texts.get(3).copied(),
+    ])
 }
 
 /// The task of a desk of the sheet's table, by its letter.

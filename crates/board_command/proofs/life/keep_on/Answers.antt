@@ -1,4 +1,4 @@
-use Rattle.std.proofs.Common.{◌∙◌, List, Some, ap, subst, sym}
+use Rattle.std.proofs.Common.{◌∙◌, Some, ap, refl, subst, sym}
 use Rattle.cards.specs.Sheet.{Sheet}
 use Rattle.links.specs.declared.log.CarriedLog.{CarriedLog}
 use Rattle.links.specs.Logs.{carried_of, passed_of}
@@ -34,6 +34,6 @@ invariant_of-result-clause-kept g c =
       lives = lives_so c.of.ensures (sym c.requires.unsaid) (said ∙ ap (λ (w : Windowed). w.above) c.link.ensures)
           (ap Some (sym (ap written_of c.new-out.ensures.stream ∙ c.requires.untold))) (ap Some (c.written.ensures ∙ ap written_of c.into_inner.ensures))
           (sym c.watching-watch.ensures.untold) (ap notices_of (c.of-4.ensures ∙ c.log.ensures))
-          (sym c.requires.unshown) (ap (sights_of entries_in innings_in) (c.of-5.ensures ∙ c.log-2.ensures))
+          refl (ap (sights_of entries_in innings_in) c.of-5.ensures)
           c.keep_board-ended.ensures.lives;
     } ∣₁
