@@ -1,5 +1,5 @@
 -- A desk's process that was kept.
-use Rattle.std.proofs.Common.{◌≡◌, ℕ, List, [], Option, Some, Result}
+use Rattle.std.proofs.Common.{◌≡◌, ℕ, Bool, false, List, [], Option, None, Some, Result, Ok, Err, IfOk}
 use Rattle.entry_log.specs.Format.{contents, room}
 use Rattle.entry_log.specs.Version2.{version_2}
 use Rattle.vote_store.specs.View.{file_view}
@@ -13,6 +13,7 @@ use Rattle.live.specs.Desks.{FitsLongest}
 use Rattle.live.specs.Runs.{Logs}
 use Rattle.desk_command.specs.declared.desk_disk.DeskDisk.{DeskDisk}
 use Rattle.desk_command.specs.Disks.{cap_of, faults_of, file_of, images_of}
+use Rattle.desk_command.specs.Ends.{WasStopped, stop_of}
 use Rattle.desk_command.specs.Keeping.{LivesOn}
 
 -- it began with a book of the sheet's match, and before anything had passed, was typed or was told
@@ -33,3 +34,10 @@ pub lives_so : {sheet same : Sheet} {desk : DeskId} {disk : DeskDisk} {passed lo
     {ended : Result (Unit {0}) LifeEnd} → same ≡ sheet → log ≡ passed → text ≡ told → LivesOn sheet desk disk passed given told ended
     → LivesOn same desk disk log given text ended
 lives_so is logged written lives = rw (is, logged, written) lives
+
+-- where an answer has no fault, and has none only where the desk's scorer stopped it
+pub was_stopped : {E : Type 0} (answer : Result Bool E) {ended life : Result (Unit {0}) LifeEnd} (failed : Bool) → ended ≡ life
+    → IfOk answer (λ refused. (refused ≡ false) × (stop_of ended failed ≡ None))
+    → IfOk answer (λ refused. (refused ≡ false) × WasStopped life)
+was_stopped (Ok refused) failed same holds = (holds.0, (failed, rw same at holds.1))
+was_stopped (Err why) failed same holds = tt
