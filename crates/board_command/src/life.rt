@@ -37,7 +37,7 @@ pub struct BoardLife<'a> {
     told: Written,
     notices: Snapshot<NoticeLog>,
     shown: Snapshot<SightLog<CheckedBook>>,
-    pub ghost read: { IsSheetOf text.value.items sheet.value },
+    pub ghost read: { ∥ IsSheetOf text.value.items sheet.value ∥₁ },
     pub ghost kept: { ∥ WasKept (traces_of sheet.value passed.value carried.value told notices.value shown.value ended) ∥₁ },
 }
 
@@ -55,11 +55,11 @@ impl BoardLife<'_> {
 pub fn keep_on<
     'a,
     'f,
-    T: Replaces,
-    P: Replaces,
+    T: Replaces + Drop,
+    P: Replaces + Drop,
     E: Sink + Drop,
     M: Write + Drop,
-    N: Clock,
+    N: Clock + Drop,
     C: Clock,
 >(
     source: SheetFile<'a>,
@@ -77,7 +77,7 @@ pub fn keep_on<
     requires unsaid { (link.link).above ≡ [] }
     requires untold { written_of screen ≡ [] }
     requires unshown { sights_of entries_in innings_in (shown.files).log ≡ [] }
-    ensures sheet { result.sheet_path.now ≡ source.path.now }
+    ensures sheet { result.sheet_path.now ≡ source.entry.path.now }
 {
     let SheetFile {
         path: sheet_path,

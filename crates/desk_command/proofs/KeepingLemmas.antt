@@ -1,10 +1,12 @@
 -- A desk's process that was kept.
-use Rattle.std.proofs.Common.{◌≡◌, ℕ, List, [], Some, Result}
+use Rattle.std.proofs.Common.{◌≡◌, ℕ, List, [], Option, Some, Result}
 use Rattle.entry_log.specs.Format.{contents, room}
 use Rattle.entry_log.specs.Version2.{version_2}
 use Rattle.vote_store.specs.View.{file_view}
 use Rattle.agree_core.specs.declared.messages.DeskId.{DeskId}
 use Rattle.cards.specs.Sheet.{Sheet}
+use Rattle.links.specs.Passed.{Passed}
+use Rattle.links.specs.Typing.{Input}
 use Rattle.live.specs.declared.desk_life.LifeEnd.{LifeEnd}
 use Rattle.live.specs.DeskLife.{DeskLives}
 use Rattle.live.specs.Desks.{FitsLongest}
@@ -25,3 +27,9 @@ lived sheet innings desk disk before after turns result same unsaid untyped unto
   turns = turns;
   lives = rw (same, unsaid, untyped, untold) at lives;
 }
+
+-- the same told otherwise
+pub lives_so : {sheet same : Sheet} {desk : DeskId} {disk : DeskDisk} {passed log : List Passed} {given : List Input} {told text : Option (List ℕ)}
+    {ended : Result (Unit {0}) LifeEnd} → same ≡ sheet → log ≡ passed → text ≡ told → LivesOn sheet desk disk passed given told ended
+    → LivesOn same desk disk log given text ended
+lives_so is logged written lives = rw (is, logged, written) lives

@@ -71,7 +71,7 @@ fn keep<L: Link, K: Keys, C: Clock, W: Sink>(
     requires unsaid { L.log outside.old.link ≡ [] }
     requires untyped { K.inputs outside.old.keys ≡ [] }
     requires untold { W.contents (stream_of outside.old.out) ≡ Some [] }
-    ensures { LivesOn sheet.now desk disk
+    ensures { LivesOn sheet.now desk disk.entry
         (L.log outside.new.link) (K.inputs outside.new.keys) (W.contents (stream_of outside.new.out)) result }
 {
     let mut sight = PageSight::new(rt.alloc(), desk, page);
@@ -120,7 +120,7 @@ pub fn keep_on<'a, 's, 'r, E: Write + Drop, K: Keys, S: Squares, C: Clock>(
     ensures desk { (result.life).desk ≡ desk }
     ensures file { (result.life).file.now ≡ file.now }
     ensures copy { option_copied (result.life).copy ≡ option_copied copy.entry }
-    ensures sheet { (result.life).sheet_path.now ≡ source.path.now }
+    ensures sheet { (result.life).sheet_path.now ≡ source.entry.path.now }
     ensures typed { ((result.life).typed).value ≡ ((result.keys).keys).given }
     ensures told { text_of (result.life).told ≡ written_of (result.screen).output }
 {

@@ -1,0 +1,2 @@
+-- A lemma on a board's process.
+mod KeepingLemmas
