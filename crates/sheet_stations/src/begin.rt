@@ -14,8 +14,8 @@ use desk_command::{Ended as EndedDesk, start_desk};
 use machine::{Address, MOST_PEERS, addresses_in};
 use setup::{Stopped, tell_station};
 use station_table::{
-    BoardNames, BoardOptions, BoardSetting, DeskOptions, DeskSetting, Showing, board_begun,
-    desk_begun,
+    BoardNames, BoardOptions, BoardSetting, DeskOptions, DeskSetting, MOST_BOARDS, Showing,
+    board_begun, desk_begun,
 };
 use std::net::SocketAddr;
 use toml::Table;
@@ -130,13 +130,13 @@ fn desk_setting<'a>(
     rt: &HostRuntime,
     sheet: &'a str,
     desk: DeskId,
-    begun: &DeskOptions<'a>,
+    begun: DeskOptions<'a>,
     serve: Option<Address<'a>>,
 ) -> Result<DeskSetting<'a>, Stopped<'a>>
     ensures desk { IfOk result (λ setting. setting.desk ≡ desk) }
     ensures sheet { IfOk result (λ setting. setting.sheet.now ≡ sheet.now) }
-    ensures file { IfOk result (λ setting. Some setting.file.now ≡ option_copied begun.now.file) }
-    ensures copy { IfOk result (λ setting. option_copied setting.copy ≡ option_copied begun.now.copy) }
+    ensures file { IfOk result (λ setting. Some setting.file.now ≡ option_copied begun.entry.file) }
+    ensures copy { IfOk result (λ setting. option_copied setting.copy ≡ option_copied begun.entry.copy) }
 {
     let (at, peers) = addresses_of(rt, sheet, desk, begun.at, begun.other, begun.boards)?;
     let file = present(rt, sheet, "stations, votes", begun.file)?;
@@ -172,7 +172,7 @@ pub fn start_desk_of<'a>(
         copy_of ended.life ≡ (begun.begun_with desk (begun.desk_of named.now) (table_view table.now)).copy) }
 {
     let begun = desk_begun(desk, named, table);
-    let setting = desk_setting(rt, sheet, desk, &begun, serve)?;
+    let setting = desk_setting(rt, sheet, desk, begun, serve)?;
     start_desk(rt, &setting)
 }
 
