@@ -125,34 +125,6 @@ fn addresses_of<'a>(
     found(rt, sheet, desk_addresses(at, other, &boards))
 }
 
-/// With what a desk of the table is kept, by what it begins with.
-fn desk_setting<'a>(
-    rt: &HostRuntime,
-    sheet: &'a str,
-    desk: DeskId,
-    begun: DeskOptions<'a>,
-    serve: Option<Address<'a>>,
-) -> Result<DeskSetting<'a>, Stopped<'a>>
-    ensures desk { IfOk result (λ setting. setting.desk ≡ desk) }
-    ensures sheet { IfOk result (λ setting. setting.sheet.now ≡ sheet.now) }
-    ensures file { IfOk result (λ setting. Some setting.file.now ≡ option_copied begun.entry.file) }
-    ensures copy { IfOk result (λ setting. option_copied setting.copy ≡ option_copied begun.entry.copy) }
-{
-    let (at, peers) = addresses_of(rt, sheet, desk, begun.at, begun.other, begun.boards)?;
-    let file = present(rt, sheet, "stations, votes", begun.file)?;
-    Ok(DeskSetting {
-        sheet,
-        desk,
-        file,
-        copy: begun.copy,
-        key: begun.key,
-        at,
-        peers,
-        serve,
-        columns: begun.columns,
-    })
-}
-
 /// `ground desk` with a letter: keeps that desk with what its words name, and for what they don't with what its sheet's
 /// table of stations has.
 #[inline(never)]
@@ -172,7 +144,19 @@ pub fn start_desk_of<'a>(
         copy_of ended.life ≡ (begun.begun_with desk (begun.desk_of named.now) (table_view table.now)).copy) }
 {
     let begun = desk_begun(desk, named, table);
-    let setting = desk_setting(rt, sheet, desk, begun, serve)?;
+    let (at, peers) = addresses_of(rt, sheet, desk, begun.at, begun.other, begun.boards)?;
+    let file = present(rt, sheet, "stations, votes", begun.file)?;
+    let setting = DeskSetting {
+        sheet,
+        desk,
+        file,
+        copy: begun.copy,
+        key: begun.key,
+        at,
+        peers,
+        serve,
+        columns: begun.columns,
+    };
     start_desk(rt, &setting)
 }
 
