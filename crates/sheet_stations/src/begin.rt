@@ -7,15 +7,14 @@ ghost use Rattle.station_table.specs.Begun as begun;
 ghost use Rattle.toml.specs.View.{table_view};
 
 use agree_core::DeskId;
-use arrayvec::ArrayVec;
 use board_command::{Ended as EndedBoard, start_board};
 use cards::SheetFault;
 use desk_command::{Ended as EndedDesk, start_desk};
 use machine::{Address, MOST_PEERS, addresses_in};
 use setup::{Stopped, tell_station};
 use station_table::{
-    BoardNames, BoardOptions, BoardSetting, DeskOptions, DeskSetting, MOST_BOARDS, Showing,
-    board_begun, desk_begun,
+    BoardNames, BoardOptions, BoardSetting, DeskOptions, DeskSetting, Showing, board_begun,
+    desk_begun,
 };
 use std::net::SocketAddr;
 use toml::Table;
@@ -38,8 +37,11 @@ fn is_address(text: Option<&str>) -> bool {
 }
 
 /// Whether all boards that are named are addresses.
-fn are_addresses(boards: &BoardNames<'_>) -> bool {
-    boards.iter().all(|board| is_address(*board))
+fn are_addresses(boards: BoardNames<'_>) -> bool {
+    is_address(boards.first)
+        && is_address(boards.second)
+        && is_address(boards.third)
+        && is_address(boards.fourth)
 }
 
 /// A text that a station can't begin without, which has this place in the sheet.
@@ -72,13 +74,21 @@ fn address<'a>(
     }
 }
 
-/// The addresses of a desk and of its peers: the other desk, and these boards.
-fn desk_addresses<'a>(at: &'a str, other: &str, boards: &BoardNames<'_>) -> Option<Addresses<'a>> {
-    let mut named = ArrayVec::<&str, MOST_BOARDS>::new();
-    for board in boards.iter().flatten() {
-        named.try_push(*board).ok()?;
+/// The addresses of a desk and of its peers, of which there are so many boards.
+fn desk_addresses<'a>(at: &'a str, other: &str, boards: BoardNames<'_>) -> Option<Addresses<'a>> {
+    let Some(first) = boards.first else {
+        return addresses_in(at, other, &[]);
+    };
+    let Some(second) = boards.second else {
+        return addresses_in(at, other, &[first]);
+    };
+    let Some(third) = boards.third else {
+        return addresses_in(at, other, &[first, second]);
+    };
+    match boards.fourth {
+        Some(fourth) => addresses_in(at, other, &[first, second, third, fourth]),
+        None => addresses_in(at, other, &[first, second, third]),
     }
-    addresses_in(at, other, named.as_slice())
 }
 
 /// The addresses, or that there are none such.
@@ -113,7 +123,7 @@ fn addresses_of<'a>(
     let (own, others) = places(desk);
     let at = address(rt, sheet, own, at)?;
     let other = address(rt, sheet, others, other)?;
-    if !are_addresses(&boards) {
+    if !are_addresses(boards) {
         return Err(tell_station(
             rt,
             sheet,
@@ -122,7 +132,7 @@ fn addresses_of<'a>(
             NO_ADDRESS,
         ));
     }
-    found(rt, sheet, desk_addresses(at, other, &boards))
+    found(rt, sheet, desk_addresses(at, other, boards))
 }
 
 /// `ground desk` with a letter: keeps that desk with what its words name, and for what they don't with what its sheet's

@@ -1,12 +1,11 @@
 -- What a station begins with: what its words name, and for what they don't what the sheet's table of stations has. ms is the sheet's own
 -- table.
-use Rattle.std.specs.Prelude.{ℕ, List, [], ◌∷◌, map, Option, Some, None, option_map, codes}
-use Rattle.std.specs.Borrow.{Bor}
+use Rattle.std.specs.Prelude.{ℕ, List, [], ◌∷◌, Option, Some, None, option_map, codes}
 use Rattle.agree_core.specs.declared.messages.DeskId.{DeskId}
 use Rattle.agree_core.specs.declared.messages.DeskId.TheVariants.{A, B}
 use Rattle.toml.specs.Data.{Members}
 use Rattle.station_table.specs.Stations.{board_in, columns_in, text_in}
-use Rattle.station_table.specs.declared.{board_options.BoardOptions.BoardOptions, desk_options.DeskOptions.DeskOptions}
+use Rattle.station_table.specs.declared.{board_options.BoardOptions.BoardOptions, desk_options.BoardNames.BoardNames, desk_options.DeskOptions.DeskOptions}
 
 -- what is named first, or else the other
 abbrev pub or_else : Option (List ℕ) → Option (List ℕ) → Option (List ℕ)
@@ -87,8 +86,10 @@ board_begun_with n named ms = record {
 
 -- ---- the same of what the program keeps
 
-abbrev pub boards_of : List (Option (Bor (List ℕ))) → List (Option (List ℕ))
-boards_of boards = map (option_map (λ text. text.now)) boards
+abbrev pub boards_of : BoardNames → List (Option (List ℕ))
+boards_of b =
+    option_map (λ text. text.now) b.first ∷ option_map (λ text. text.now) b.second
+    ∷ option_map (λ text. text.now) b.third ∷ option_map (λ text. text.now) b.fourth ∷ []
 
 abbrev pub desk_of : DeskOptions → Desk
 desk_of o = record {

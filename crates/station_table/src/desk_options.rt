@@ -13,7 +13,13 @@ use toml::Table;
 pub const MOST_BOARDS: usize = 4;
 
 /// The addresses of a desk's boards, the first ones first.
-pub type BoardNames<'a> = [Option<&'a str>; MOST_BOARDS];
+#[derive(Clone, Copy)]
+pub struct BoardNames<'a> {
+    pub first: Option<&'a str>,
+    pub second: Option<&'a str>,
+    pub third: Option<&'a str>,
+    pub fourth: Option<&'a str>,
+}
 
 /// What a desk's words name, or what it begins with: the files of its votes, of their copy and of the key; its address, the
 /// other desk's, and the boards'; and how wide its scorer's rows are.
@@ -73,14 +79,14 @@ fn boards_or<'a>(named: BoardNames<'a>, sheet: &'a Table) -> BoardNames<'a>
     ensures { begun.boards_of result
         ≡ begun.boards_or (begun.boards_of named.entry) (begun.boards_in (table_view sheet.now)) }
 {
-    match named[0] {
+    match named.first {
         Some(_) => named,
-        None => [
-            board_in(sheet, 0),
-            board_in(sheet, 1),
-            board_in(sheet, 2),
-            board_in(sheet, 3),
-        ],
+        None => BoardNames {
+            first: board_in(sheet, 0),
+            second: board_in(sheet, 1),
+            third: board_in(sheet, 2),
+            fourth: board_in(sheet, 3),
+        },
     }
 }
 

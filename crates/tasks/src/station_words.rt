@@ -16,6 +16,14 @@ use std::net::SocketAddr;
 /// The sheet of a station whose words name none: that of the folder.
 const SHEET: &str = "sheet.toml";
 
+/// No boards, where none are named.
+const NO_BOARDS: BoardNames<'static> = BoardNames {
+    first: None,
+    second: None,
+    third: None,
+    fourth: None,
+};
+
 /// The address of a page, if the text is one with a port of its own.
 fn place_in(text: &str) -> Option<Address<'_>> {
     match text.parse::<SocketAddr>() {
@@ -94,27 +102,21 @@ fn is_address(text: Option<&str>) -> bool {
     }
 }
 
-/// Whether the boards that are named are addresses and not too many.
-fn are_boards_fine<'a>(words: &ArgMatches<'a>) -> bool {
-    match words.get_strs("board") {
-        Some(texts) => {
-            texts.len() <= MOST_BOARDS && texts.iter().all(|text| is_address(Some(*text)))
-        }
-        None => true,
+/// The boards that are named, if they are addresses and not too many.
+fn boards_in<'a>(words: &ArgMatches<'a>) -> Option<BoardNames<'a>> {
+    let Some(texts) = words.get_strs("board") else {
+        return Some(NO_BOARDS);
+    };
+    let are_fine = texts.iter().all(|text| is_address(Some(*text)));
+    if !are_fine || texts.len() > MOST_BOARDS {
+        return None;
     }
-}
-
-/// The boards that are named, without those past the last that there may be.
-fn boards_in<'a>(words: &ArgMatches<'a>) -> BoardNames<'a> {
-    match words.get_strs("board") {
-        Some(texts) => [
-            texts.get(0).copied(),
-            texts.get(1).copied(),
-            texts.get(2).copied(),
-            texts.get(3).copied(),
-        ],
-        None => [None; MOST_BOARDS],
-    }
+    Some(BoardNames {
+        first: texts.get(0).copied(),
+        second: texts.get(1).copied(),
+        third: texts.get(2).copied(),
+        fourth: texts.get(3).copied(),
+    })
 }
 
 /// The task of a desk of the sheet's table, by its letter.
@@ -125,11 +127,10 @@ fn desk_of_sheet<'a>(letter: &str, words: &ArgMatches<'a>) -> Option<DeskTask<'a
         key: words.get_str("key"),
         at: words.get_str("at"),
         other: words.get_str("other"),
-        boards: boards_in(words),
+        boards: boards_in(words)?,
         columns: columns_in(words)?,
     };
-    let is_named = words.get_str("desk").is_some();
-    if is_named || !are_boards_fine(words) || !is_address(named.at) || !is_address(named.other) {
+    if words.get_str("desk").is_some() || !is_address(named.at) || !is_address(named.other) {
         return None;
     }
     Some(DeskTask::OfSheet {
