@@ -13,30 +13,21 @@ pub struct Notes<E> {
 }
 
 impl<E: Sink + Drop> Notes<E> {
-    ghost use Rattle.std.specs.Prelude.{◌≡◌, []};
-    ghost use Rattle.station_texts.specs.NoticeLogs.{notices_of};
-
     /// Nothing was told yet.
-    pub fn new(errors: E) -> Notes<E>
-        ensures { notices_of result.log ≡ [] }
-    {
+    pub fn new(errors: E) -> Notes<E> {
         Notes {
             errors: Watched::new(errors),
             log: NoticeLog::Empty,
         }
     }
+}
 
-    /// What was told, which clauses alone read.
-    pub fn log(&self) -> &NoticeLog
-        ensures { result.now ≡ self.now.log }
-    {
-        &self.log
-    }
+impl<E: Sink + Drop> Notes<E> {
+    ghost use Rattle.std.specs.Prelude.{◌≡◌};
 
     /// Nothing was told yet by a board that remembers so much.
     pub fn watching(witness: Witness, errors: E) -> Watch<Notes<E>>
-        ensures witness { result.witness ≡ witness }
-        ensures untold { notices_of (result.notices).log ≡ [] }
+        ensures { result.witness ≡ witness }
     {
         Watch {
             notices: Notes::new(errors),

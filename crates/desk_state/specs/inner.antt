@@ -1,4 +1,2 @@
 -- What serves private functions only.
-pub mod Before
-pub mod Corrected
 pub mod Items

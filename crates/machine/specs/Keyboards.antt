@@ -1,8 +1,6 @@
 -- What a keyboard gives of what it reads.
-use Rattle.std.specs.Prelude.{◌≡◌, ◌⊎◌, ◌==◌, ⊤, ℕ, Bool, true, false, nat_lt, List, [], ◌∷◌, ◌++◌, length, take, Option, None, Some, MatchOption, option_map, if◌then◌else◌}
+use Rattle.std.specs.Prelude.{◌≡◌, ◌==◌, ⊤, ℕ, Bool, true, false, nat_lt, List, [], ◌∷◌, ◌++◌, length, take, Option, None, Some, MatchOption, option_map, if◌then◌else◌}
 use Rattle.std.specs.List.{position_or_len}
-use Rattle.links.specs.declared.keys.Typed.{Typed}
-use Rattle.links.specs.declared.keys.Typed.TheVariants.{Aside, Ended, Line, Nothing}
 use Rattle.machine.specs.declared.keyboard.Keyboard.{Keyboard}
 
 -- The lines of bytes of which these stand open before them: what stands before each newline, and of what is longer the first
@@ -51,11 +49,3 @@ GivesLine count buffer old new = MatchOption count (KeepsLines old new) (λ n. L
 abbrev pub HasNoLines : Option (List (List ℕ)) → Type 0
 HasNoLines None = ⊤
 HasNoLines (Some xs) = xs ≡ []
-
--- What it gives is the next line that was read, or, where none was, one from elsewhere. It ends once no line is left, or a read
--- failed.
-abbrev pub Gives : Typed → List ℕ → Bool → Option (List (List ℕ)) → Option (List (List ℕ)) → Type 0
-Gives (Line count) buffer failed old new = GivesLine (Some count) buffer old new ⊎ KeepsLines old new
-Gives Ended buffer failed old new = KeepsLines old new × (failed ≡ false → HasNoLines new)
-Gives Nothing buffer failed old new = KeepsLines old new
-Gives (Aside aside) buffer failed old new = ⊥

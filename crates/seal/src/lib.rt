@@ -4,7 +4,7 @@
 mod datagram;
 mod laws;
 
-pub use datagram::{Opener, Seal, Sealed, hmac};
+pub use datagram::{Seal, Sealed, hmac};
 pub use laws::{
     sealed_share_no_bytes, what_is_given_was_brought, what_opens_was_sent, worked_tags,
 };

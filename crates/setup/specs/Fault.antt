@@ -1,5 +1,5 @@
 -- Why a command ended: the lines that standard error has of it, and whether something is refused.
-use Rattle.std.specs.Prelude.{ℕ, ⊤, List, ◌++◌, codes, decimal, Bool, true, false, Option, Some, None}
+use Rattle.std.specs.Prelude.{ℕ, List, ◌++◌, codes, decimal, Bool, true, false, Option, Some, None}
 use Rattle.streams.specs.declared.input.InputFault.{InputFault}
 use Rattle.cards.specs.SheetFault as sheet
 use Rattle.cards.specs.declared.fault.SheetFault.{SheetFault}
@@ -24,23 +24,6 @@ use Rattle.setup.specs.declared.fault.StopFault.TheVariants.{NoMemory, Read, Wri
 abbrev pub of_input : InputFault → StopFault
 of_input InputFault.NoMemory = NoMemory
 of_input InputFault.Read = Read
-
--- a sheet is refused: being out of memory is its own
-abbrev pub of_sheet : SheetFault → StopFault
-of_sheet SheetFault.NoMemory = NoMemory
-of_sheet why = Sheet why
-
--- a schedule is refused: being out of memory is its own
-abbrev pub of_schedule : ScheduleFault → StopFault
-of_schedule ScheduleFault.NoMemory = NoMemory
-of_schedule why = Schedule why
-
--- out of memory, or a read or a write failed
-abbrev pub IsOfStreams : StopFault → Type 0
-IsOfStreams NoMemory = ⊤
-IsOfStreams Read = ⊤
-IsOfStreams Write = ⊤
-IsOfStreams fault = ⊥
 
 -- a votes file is refused: being out of memory is its own, and so is a failing disk, which is told as a failed write
 abbrev pub of_votes : Refusal → StopFault

@@ -16,8 +16,8 @@ use streams::{InputFault, Sink, Watched, WriteFailed};
 /// How many turns each station of a match has for a place at most.
 pub const TURNS: usize = 50;
 
-/// Why a command ends before its end, whichever it is: what standard error is told, and the status, go by it. A command that
-/// has to tell apart more has a fault of its own.
+/// Why a command ends before its end, whichever it is. Each command has a fault of its own, which says what it can meet;
+/// what standard error is told, and the status, go by this one.
 #[derive(Clone, Copy)]
 pub enum StopFault {
     /// Memory was refused.
@@ -109,42 +109,6 @@ impl From<InputFault> for StopFault {
         match why {
             InputFault::NoMemory => StopFault::NoMemory,
             InputFault::Read => StopFault::Read,
-        }
-    }
-}
-
-impl From<WriteFailed> for StopFault {
-    ghost use Rattle.setup.specs.declared.fault.StopFault.TheVariants.{Write};
-
-    ghost from_gives = { λ _ fault. fault ≡ Write };
-
-    fn from(_why: WriteFailed) -> Self {
-        StopFault::Write
-    }
-}
-
-impl From<SheetFault> for StopFault {
-    ghost use Rattle.setup.specs.Fault.{of_sheet};
-
-    ghost from_gives = { λ why fault. fault ≡ of_sheet why };
-
-    fn from(why: SheetFault) -> Self {
-        match why {
-            SheetFault::NoMemory => StopFault::NoMemory,
-            _ => StopFault::Sheet(why),
-        }
-    }
-}
-
-impl From<ScheduleFault> for StopFault {
-    ghost use Rattle.setup.specs.Fault.{of_schedule};
-
-    ghost from_gives = { λ why fault. fault ≡ of_schedule why };
-
-    fn from(why: ScheduleFault) -> Self {
-        match why {
-            ScheduleFault::NoMemory => StopFault::NoMemory,
-            _ => StopFault::Schedule(why),
         }
     }
 }

@@ -21,11 +21,10 @@ pub use crate::fault::{StopFault, Stopped, TURNS, print_fault, printable};
 pub use crate::gaps::{Gaps, fill_gaps};
 pub use crate::key_fault::KeyFault;
 pub use crate::opening::{Output, bytes_at, old_votes_at, open_input, output, sheet_at};
-pub use crate::sealing::{Sealing, StationLink, key_in};
-pub use crate::sheet::sheet_run;
+pub use crate::sealing::{Sealing, key_in};
+pub use crate::sheet::{NoSheet, sheet_run};
 pub use crate::short_sheet::{
-    LONGEST_SHEET, SheetFile, sheet_file_at, short_sheet_at, short_sheet_bytes, short_sheet_of,
-    stations_at, tell_station,
+    LONGEST_SHEET, short_sheet_at, short_sheet_bytes, short_sheet_of, stations_at, tell_station,
 };
 pub use crate::twins::{tell_twins, told_sheet_at};
 pub use crate::votes_file::{

@@ -230,7 +230,7 @@ impl Sealing {
         ensures seal { IfOk result (λ sealed. sealed.seal ≡ self.now.seal) }
         ensures log { IfOk result (λ sealed. carried_of sealed.carrier.log ≡ []) }
     {
-        let peers = peers_at(rt, at, peers, ends, self.seal.opener(), errors)?;
+        let peers = peers_at(rt, at, peers, ends, self.seal.copied(), errors)?;
         Ok(Sealed::new(peers, self.seal.copied()))
     }
 

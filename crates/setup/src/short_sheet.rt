@@ -1,7 +1,6 @@
 //! The sheet of a word that takes no long one, and tells in words what is wrong with one.
 
-ghost use Rattle.std.specs.Prelude.{◌≡◌, ◌≤◌, IfOk, vec_len};
-ghost use Rattle.setup.specs.SheetText.{IsSheetOf};
+ghost use Rattle.std.specs.Prelude.{◌≤◌, IfOk, vec_len};
 
 use crate::fault::{StopFault, Stopped};
 use crate::opening::bytes_at;
@@ -9,7 +8,6 @@ use crate::twins::told_sheet_of;
 use cards::{MatchSheet, SheetFault};
 use sheet_check::{faults_of, first_line, report_of};
 use std::io::Write;
-use std::snapshot::Snapshot;
 use toml::Table;
 
 /// How many bytes the sheet of such a word has at most.
@@ -48,9 +46,7 @@ pub fn short_sheet_of<'a>(
     rt: &HostRuntime,
     path: &'a str,
     text: &[u8],
-) -> Result<MatchSheet, Stopped<'a>>
-    ensures { IfOk result (IsSheetOf text.now) }
-{
+) -> Result<MatchSheet, Stopped<'a>> {
     match told_sheet_of(rt, path, text) {
         Err(
             Stopped {
@@ -66,28 +62,6 @@ pub fn short_sheet_of<'a>(
 pub fn short_sheet_at<'a>(rt: &HostRuntime, path: &'a str) -> Result<MatchSheet, Stopped<'a>> {
     let text = short_sheet_bytes(rt, path)?;
     short_sheet_of(rt, path, text.as_slice())
-}
-
-/// The match sheet of a file, with where it was read, and what was read there, which clauses alone read.
-#[derive(Drop)]
-pub struct SheetFile<'a> {
-    pub path: &'a str,
-    pub text: Snapshot<Vec<u8>>,
-    pub sheet: MatchSheet,
-}
-
-/// The match sheet in a file, with what it was read of.
-pub fn sheet_file_at<'a>(rt: &HostRuntime, path: &'a str) -> Result<SheetFile<'a>, Stopped<'a>>
-    ensures path { IfOk result (λ file. file.path.now ≡ path.now) }
-    ensures sheet { IfOk result (λ file. IsSheetOf (file.text).value.items file.sheet) }
-{
-    let text = short_sheet_bytes(rt, path)?;
-    let sheet = short_sheet_of(rt, path, text.as_slice())?;
-    Ok(SheetFile {
-        path,
-        text: Snapshot::of(&text),
-        sheet,
-    })
 }
 
 /// Why nothing begins with a sheet's table, if something is wrong with it or with its stations. Standard error is told of the

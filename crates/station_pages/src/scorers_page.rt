@@ -1,8 +1,7 @@
 //! The page of a desk.
 
 ghost use Rattle.std.specs.Prelude.{◌≡◌, ◌≤◌, IfSome};
-ghost use Rattle.sha2.specs.Sha256.{sha256};
-ghost use Rattle.viewers.specs.Replies.{ShowsBook, ShowsOpenly};
+ghost use Rattle.viewers.specs.Replies.{ShowsOpenly};
 
 use crate::attended::Attends;
 use crate::rows::Rows;
@@ -75,14 +74,6 @@ impl ScorersPage {
     {
         self.viewers.put_state(openly);
         self.viewers.put_own_state(whole);
-    }
-
-    /// This is what stands in the book from here on.
-    pub fn show_book(&mut self, book: Vec<u8>)
-        ensures shown { ShowsBook book.items self.old.viewers.shown self.new.viewers.shown }
-        ensures digest { self.new.viewers.own.digest ≡ sha256 book.items }
-    {
-        self.viewers.put_book(book);
     }
 
     /// The desk is at this position from here on. Lines that were typed here for another one are dropped, and told.

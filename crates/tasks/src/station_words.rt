@@ -8,9 +8,7 @@ use crate::words::{desk_in, number_in};
 use cards::Columns;
 use clap::ArgMatches;
 use machine::{Address, addresses_in};
-use station_table::{
-    BoardNames, BoardOptions, BoardSetting, DeskOptions, DeskSetting, MOST_BOARDS, Showing,
-};
+use station_table::{BoardNames, BoardOptions, DeskOptions, MOST_BOARDS};
 use std::net::SocketAddr;
 
 /// The sheet of a station whose words name none: that of the folder.
@@ -56,26 +54,16 @@ fn full_desk_task<'a>(words: &ArgMatches<'a>) -> Option<DeskTask<'a>> {
         Some(boards) => addresses_in(at, other, boards)?,
         None => addresses_in(at, other, &[])?,
     };
-    Some(DeskTask::Named(DeskSetting {
+    Some(DeskTask::Named {
         sheet: words.get_str("sheet")?,
         desk: desk_in(words.get_str("desk")?)?,
         file: words.get_str("file")?,
         copy: words.get_str("copy"),
-        key: words.get_str("key"),
         at,
         peers,
         serve: served_in(words)?,
+        key: words.get_str("key"),
         columns: columns_in(words)?,
-    }))
-}
-
-/// Where the words say that a board shows its book.
-fn showing_in<'a>(words: &ArgMatches<'a>) -> Option<Showing<'a>> {
-    Some(Showing {
-        text: words.get_str("text"),
-        json: words.get_str("json"),
-        script: words.get_str("script"),
-        serve: served_in(words)?,
     })
 }
 
@@ -85,13 +73,16 @@ fn full_board_task<'a>(words: &ArgMatches<'a>) -> Option<BoardTask<'a>>
 {
     let other = words.get_str("desk-b")?;
     let (at, peers) = addresses_in(words.get_str("at")?, words.get_str("desk-a")?, &[other])?;
-    Some(BoardTask::Named(BoardSetting {
+    Some(BoardTask::Named {
         sheet: words.get_str("sheet")?,
-        key: words.get_str("key"),
         at,
         peers,
-        shows: showing_in(words)?,
-    }))
+        text: words.get_str("text"),
+        json: words.get_str("json"),
+        script: words.get_str("script"),
+        serve: served_in(words)?,
+        key: words.get_str("key"),
+    })
 }
 
 /// Whether a text is an address, if there is one.
@@ -179,7 +170,10 @@ fn board_of_sheet<'a>(number: &str, words: &ArgMatches<'a>) -> Option<BoardTask<
         sheet: words.get_str("sheet").unwrap_or(SHEET),
         index: index_in(number)?,
         named,
-        shows: showing_in(words)?,
+        text: words.get_str("text"),
+        json: words.get_str("json"),
+        script: words.get_str("script"),
+        serve: served_in(words)?,
     })
 }
 

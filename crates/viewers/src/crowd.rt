@@ -2,18 +2,16 @@
 
 ghost use Rattle.std.specs.Prelude.{◌≡◌, ◌⊎◌, ◌≤◌, IfSome};
 ghost use Rattle.viewers.specs.Places.{HasNoSigned, KeepsSigned, KeepsUnsigned};
-ghost use Rattle.viewers.specs.Replies.{SameOpenly, ShowsBook, ShowsOpenly};
-ghost use Rattle.sha2.specs.Sha256.{sha256};
+ghost use Rattle.viewers.specs.Replies.{SameOpenly, ShowsOpenly};
 ghost use Rattle.viewers.specs.Veiled.{IsVeiled};
 
-use crate::guest::Guest;
 use crate::inbox::Inbox;
 use crate::listening::listener_at;
 use crate::own::Own;
 use crate::places::{Places, is_behind, network_of};
 use crate::shown::Shown;
 use crate::station::Station;
-use crate::viewer::Viewer;
+use crate::viewer::{Guest, Viewer};
 use agree_core::Position;
 use links::LineBuffer;
 use mio::net::{TcpListener, TcpStream};
@@ -218,15 +216,6 @@ impl Viewers {
         ensures openly { ShowsOpenly state.items self.old.shown self.new.shown }
     {
         self.shown.put_state(state);
-    }
-
-    /// This is what stands in a desk's book from here on, and its scorer alone is told the digest of that.
-    pub fn put_book(&mut self, book: Vec<u8>)
-        ensures shown { ShowsBook book.items self.old.shown self.new.shown }
-        ensures digest { self.new.own.digest ≡ sha256 book.items }
-    {
-        self.own.put_book(book.as_slice());
-        self.shown.put_book(book);
     }
 
     /// This is the whole state of a desk from here on: its scorer alone reads it.

@@ -1,2 +1,0 @@
--- A lemma on a board's process.
-mod KeepingLemmas

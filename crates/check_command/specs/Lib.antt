@@ -1,0 +1,2 @@
+-- What the public calls claim: Check.
+pub mod Check

@@ -1,0 +1,2 @@
+-- What the public calls claim: Migrate.
+pub mod Migrate

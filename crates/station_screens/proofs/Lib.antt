@@ -1,2 +1,0 @@
--- A lemma on what passes at a station.
-pub mod CarriedLemmas
