@@ -1,6 +1,7 @@
--- What a board's files are given: Files. What its page is given: Served. When it heard its desks: Hearing, and before that: Waiting. inner: for private functions only.
+-- What a board's files are given: Files. When it heard its desks: Hearing, and before that: Waiting. Its process, Keeping, and what its life tells of it, Lives. inner: for private functions only.
 pub mod Files
 pub mod Hearing
-pub mod Served
+pub mod Keeping
+pub mod Lives
 pub mod Waiting
 pub mod inner

@@ -1,23 +1,25 @@
 //! `ground board`: a scoreboard.
 
-ghost use Rattle.std.specs.Prelude.{◌≡◌, [], IfOk};
+ghost use Rattle.std.specs.Prelude.{◌≡◌, [], IfOk, IsOk, false};
+ghost use Rattle.board_command.specs.Keeping.{IsFresh};
+ghost use Rattle.board_command.specs.Lives.{sheet_path_of, traces_in};
 
 use crate::files::{Files, Kept, Shown};
 use crate::hearing::{Listening, Silence};
-use crate::notes::Notes;
+use crate::life::{BoardLife, keep_on};
 use crate::page::Page;
+use agree_core::Asker;
 use board::{Board, Witness};
 use cards::MatchSheet;
 use corrections::CheckedBook;
-use live::keep_board;
-use machine::{Address, MOST_PEERS, MonotonicClock, Pieces, StandardStream};
+use machine::{MonotonicClock, Pieces, StandardStream};
 use machine_files::{Cause, Name, TextFile, WholeText, WriteFault};
-use setup::{Sealing, StopFault, Stopped, short_sheet_at};
+use setup::{Sealing, StopFault, Stopped, sheet_file_at};
 use station_screens::{Errors, Shared, errors_at, output_at};
+use station_table::BoardSetting;
 use std::cell::RefCell;
-use std::net::SocketAddr;
 use std::rt::Stderr;
-use streams::Watched;
+use streams::WriteFailed;
 
 /// Where a board tells what it can't take, and which file it can't write.
 pub type Told<'s, 'a> = Shared<'s, Pieces<StandardStream<'a, Stderr>>>;
@@ -103,7 +105,9 @@ fn kept<'s, 'a>(
 }
 
 /// A board of the sheet's match, whose book is empty.
-fn board_of(rt: &HostRuntime, sheet: &MatchSheet) -> Result<Board<CheckedBook>, Stopped<'static>> {
+fn board_of(rt: &HostRuntime, sheet: &MatchSheet) -> Result<Board<CheckedBook>, Stopped<'static>>
+    ensures { IfOk result (IsFresh sheet.now) }
+{
     match CheckedBook::new(rt.alloc(), sheet.innings()) {
         Ok(book) => Ok(Board::new(sheet.game(), book)),
         Err(why) => Err(Stopped::at("-", StopFault::from(why))),
@@ -120,66 +124,73 @@ fn witness_of(rt: &HostRuntime) -> Result<Witness, Stopped<'static>>
     }
 }
 
+/// What comes of a board that was kept: its life, and its command's answer.
+#[derive(Drop)]
+pub struct Ended<'a> {
+    pub life: BoardLife<'a>,
+    pub answer: Result<bool, Stopped<'a>>,
+}
+
+/// The command's answer, by how its board ended.
+fn answer_of<'a>(ended: Result<(), WriteFailed>) -> Result<bool, Stopped<'a>>
+    ensures { IfOk result (λ refused. (refused ≡ false) × IsOk ended) }
+{
+    match ended {
+        Ok(()) => Ok(false),
+        Err(_) => Err(Stopped::at("-", StopFault::Write)),
+    }
+}
+
 /// `ground board`: keeps a board that listens at an address, shows its six lines at the start and whenever they
 /// change, and tells standard error what it can't take, and that no desk is heard. Its text is also put into a file, its state
 /// as JSON into another one, and the same as a script into a third, where they are named, once it has heard a desk; a failed
 /// write of these ends no board. A page shows text and state at an address, where one is given. Its datagrams are sealed with
-/// the sheet and the key in a file, where one is named.
+/// the sheet and the key in a file, where one is named. Where it is refused before it begins, there is no life.
 #[inline(never)]
 pub fn start_board<'a>(
     rt: &'a HostRuntime,
-    sheet_path: &'a str,
-    at: Address<'a>,
-    peers: [Option<SocketAddr>; MOST_PEERS],
-    text: Option<&'a str>,
-    json: Option<&'a str>,
-    script: Option<&'a str>,
-    serve: Option<Address<'a>>,
-    key: Option<&'a str>,
-) -> Result<bool, Stopped<'a>> {
-    let sheet = short_sheet_at(rt, sheet_path)?;
-    let sealing = Sealing::of(rt, &sheet, sheet_path, key)?;
-    let mut out = Watched::new(output_at(rt)?);
+    setting: &BoardSetting<'a>,
+) -> Result<Ended<'a>, Stopped<'a>>
+    ensures sheet { IfOk result (λ ended. sheet_path_of ended.life ≡ setting.now.sheet.now) }
+    ensures answer { IfOk result (λ ended. IfOk ended.answer (λ refused.
+        (refused ≡ false) × IsOk (traces_in ended.life).ended)) }
+{
+    let source = sheet_file_at(rt, setting.sheet)?;
+    let sheet = &source.sheet;
+    let sealing = Sealing::of(rt, sheet, setting.sheet, Asker::Board, setting.key)?;
+    let output = output_at(rt)?;
     let errors = RefCell::new(errors_at(rt)?);
     let paths = Paths {
-        sheet: sheet_path,
-        key,
-        text,
-        state: json,
-        script,
+        sheet: setting.sheet,
+        key: setting.key,
+        text: setting.shows.text,
+        state: setting.shows.json,
+        script: setting.shows.script,
     };
     let files = paths.files(rt, &errors)?;
-    let page = Page::at(rt, serve)?;
-    let mut board = board_of(rt, &sheet)?;
+    let page = Page::at(rt, setting.shows.serve)?;
+    let board = board_of(rt, sheet)?;
     let witness = witness_of(rt)?;
-    page.wait(rt, &sheet, board.book(), json);
-    let sealed = sealing.sealed_at(rt, at, peers, page.wait_ends(), Shared::of(&errors))?;
+    page.wait(rt, sheet, board.book(), paths.state);
+    let ends = page.wait_ends();
+    let sealed = sealing.sealed_at(rt, setting.at, setting.peers, ends, Shared::of(&errors))?;
     let link = sealing.link_over(rt.alloc(), MonotonicClock::new(rt), sealed);
-    let mut link = Listening::over(link, MonotonicClock::new(rt), page.hearing());
+    let link = Listening::over(link, MonotonicClock::new(rt), page.hearing());
     let _ = sealing.tell_fingerprints(&mut Shared::of(&errors));
     page.tell(rt, &mut Shared::of(&errors));
-    let mut clock = page.clock(rt);
-    let mut watch = Notes::watching(witness, Shared::of(&errors));
-    let heard = page.hearing().get();
-    let mut shown = Shown {
+    let shown = Shown {
         files,
         page: page.panes(rt.alloc(), &errors),
         errors: &errors,
         audience: page.audience(),
-        heard,
+        heard: page.hearing().get(),
         silence: Silence::NOTHING,
     };
-    match keep_board(
-        &mut board,
-        &sheet,
-        &mut link,
-        &mut clock,
-        &mut watch,
-        &mut out,
-        &mut shown,
-        u64::MAX,
-    ) {
-        Ok(()) => Ok(false),
-        Err(_) => Err(Stopped::at("-", StopFault::Write)),
-    }
+    let told = Shared::of(&errors);
+    let mut clock = page.clock(rt);
+    let life = keep_on(
+        source, board, witness, link, &mut clock, output, told, shown,
+    );
+    let answer = answer_of(life.ended());
+    Ok(Ended { life, answer })
 }

@@ -22,11 +22,11 @@ use live::{Shows, SightLog};
 use machine_files::Replaces;
 use scoreboard::board_text;
 use setup::{StopFault, print_fault, printable};
+use station_pages::BoardPage;
 use station_screens::{Errors, Shared, retry};
 use std::alloc::{AllocError, Global};
 use std::cell::RefCell;
 use streams::{Sink, Watched, WriteFailed};
-use viewers::Viewers;
 use waits::{FILE_RETRY_WAIT, LONGEST_STATE_AGE, SHORTEST_FILE_AGE};
 
 /// A text stands as long as its book does.
@@ -390,11 +390,11 @@ pub struct Shown<'e, 'v, 'a, F, P> {
 }
 
 /// Tells those who look at a page what it shows now, where there is one.
-fn tell(viewers: Option<&RefCell<Viewers>>, now: u64) {
-    if let Some(viewers) = viewers
-        && let Ok(mut viewers) = viewers.try_borrow_mut()
+fn tell(page: Option<&RefCell<BoardPage>>, now: u64) {
+    if let Some(page) = page
+        && let Ok(mut page) = page.try_borrow_mut()
     {
-        viewers.tell(now);
+        page.tell(now);
     }
 }
 
@@ -425,7 +425,7 @@ impl<'a, T: Replaces, P: Replaces, E: Sink, B: BookOf + Drop> Shows<B>
         self.silence.tell(heard, now, &mut Shared::of(self.errors));
         self.page.show(sheet, book, trouble, heard, now);
         self.files.show(sheet, book, trouble, heard, now);
-        tell(self.audience.viewers, now);
+        tell(self.audience.page, now);
         Ok(())
     }
 }

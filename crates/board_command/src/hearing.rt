@@ -157,6 +157,13 @@ impl<'h, L: Link, C: Clock> Listening<'h, L, C> {
             shown,
         }
     }
+
+    /// The link itself.
+    pub fn link(&self) -> &L
+        ensures { result.now ≡ self.now.link }
+    {
+        &self.link
+    }
 }
 
 impl<L: Link, C: Clock> Link for Listening<'_, L, C> {

@@ -4,9 +4,11 @@
 mod begin;
 mod files;
 mod hearing;
+mod life;
 mod notes;
 mod page;
 mod pane;
 mod waiting;
 
-pub use crate::begin::start_board;
+pub use crate::begin::{Ended, start_board};
+pub use crate::life::BoardLife;

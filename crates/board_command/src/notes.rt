@@ -13,21 +13,30 @@ pub struct Notes<E> {
 }
 
 impl<E: Sink + Drop> Notes<E> {
+    ghost use Rattle.std.specs.Prelude.{◌≡◌, []};
+    ghost use Rattle.station_texts.specs.NoticeLogs.{notices_of};
+
     /// Nothing was told yet.
-    pub fn new(errors: E) -> Notes<E> {
+    pub fn new(errors: E) -> Notes<E>
+        ensures { notices_of result.log ≡ [] }
+    {
         Notes {
             errors: Watched::new(errors),
             log: NoticeLog::Empty,
         }
     }
-}
 
-impl<E: Sink + Drop> Notes<E> {
-    ghost use Rattle.std.specs.Prelude.{◌≡◌};
+    /// What was told, which clauses alone read.
+    pub fn log(&self) -> &NoticeLog
+        ensures { result.now ≡ self.now.log }
+    {
+        &self.log
+    }
 
     /// Nothing was told yet by a board that remembers so much.
     pub fn watching(witness: Witness, errors: E) -> Watch<Notes<E>>
-        ensures { result.witness ≡ witness }
+        ensures witness { result.witness ≡ witness }
+        ensures untold { notices_of (result.notices).log ≡ [] }
     {
         Watch {
             notices: Notes::new(errors),

@@ -9,7 +9,7 @@ use cards::MatchSheet;
 use corrections::CheckedBook;
 use machine::{Address, MonotonicClock, WaitEnds};
 use setup::{StopFault, Stopped};
-use station_pages::Attended;
+use station_pages::{Attended, BoardPage};
 use station_screens::{Errors, Shared};
 use std::alloc::Global;
 use std::cell::{Cell, RefCell};
@@ -26,7 +26,7 @@ struct Served<'a> {
     at: Address<'a>,
     /// What ends a wait where somebody looks at it.
     ends: RawFd,
-    viewers: RefCell<Viewers>,
+    page: RefCell<BoardPage>,
 }
 
 /// The page of a board, where there is one.
@@ -37,10 +37,10 @@ pub struct Page<'a> {
     hearing: Cell<HeardAt>,
 }
 
-/// Who looks at a page, if there is one, and when the board's link heard the desks.
+/// The page, if there is one, and when the board's link heard the desks.
 #[derive(Clone, Copy)]
 pub struct Audience<'v> {
-    pub viewers: Option<&'v RefCell<Viewers>>,
+    pub page: Option<&'v RefCell<BoardPage>>,
     pub hearing: &'v Cell<HeardAt>,
 }
 
@@ -60,7 +60,7 @@ impl<'a> Page<'a> {
                     served: Some(Served {
                         at,
                         ends,
-                        viewers: RefCell::new(viewers),
+                        page: RefCell::new(BoardPage::new(viewers)),
                     }),
                     hearing: Cell::new(HeardAt::begun(0)),
                 })
@@ -74,18 +74,18 @@ impl<'a> Page<'a> {
         &self.hearing
     }
 
-    /// Who looks at it, and that.
+    /// What is seen to, and that.
     pub fn audience(&self) -> Audience<'_> {
         Audience {
-            viewers: self.viewers(),
+            page: self.shown(),
             hearing: &self.hearing,
         }
     }
 
-    /// Who looks at it.
-    pub fn viewers(&self) -> Option<&RefCell<Viewers>> {
+    /// What is shown there.
+    fn shown(&self) -> Option<&RefCell<BoardPage>> {
         match &self.served {
-            Some(served) => Some(&served.viewers),
+            Some(served) => Some(&served.page),
             None => None,
         }
     }
@@ -102,10 +102,10 @@ impl<'a> Page<'a> {
     pub fn clock<'c>(
         &self,
         machine: &'c HostRuntime,
-    ) -> Attended<'_, MonotonicClock<'c, HostRuntime>, Viewers> {
+    ) -> Attended<'_, MonotonicClock<'c, HostRuntime>, BoardPage> {
         Attended {
             clock: MonotonicClock::new(machine),
-            page: self.viewers(),
+            page: self.shown(),
         }
     }
 
@@ -127,12 +127,12 @@ impl<'a> Page<'a> {
         path: Option<&str>,
     ) {
         if let Some(served) = &self.served
-            && let Ok(state) = waiting_state(rt, sheet, book, path)
+            && let Ok(waiting) = waiting_state(rt, sheet, book, path)
             && let Ok(lines) = copy_of(rt.alloc(), LINES)
-            && let Ok(mut viewers) = served.viewers.try_borrow_mut()
+            && let Ok(mut page) = served.page.try_borrow_mut()
         {
-            viewers.put_lines(lines);
-            viewers.put_state(state);
+            page.put_lines(lines);
+            page.put_state(waiting.state);
         }
     }
 
@@ -146,8 +146,8 @@ impl<'a> Page<'a> {
             return Files::new(alloc, None, None, None);
         };
         let place = served.at.text;
-        let lines = Pane::of(alloc, &served.viewers, Kind::Lines);
-        let state = Pane::of(alloc, &served.viewers, Kind::State);
+        let lines = Pane::of(alloc, &served.page, Kind::Lines);
+        let state = Pane::of(alloc, &served.page, Kind::State);
         Files::new(
             alloc,
             Some(Kept::new(lines, place, Shared::of(errors))),

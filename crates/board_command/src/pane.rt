@@ -1,29 +1,12 @@
 //! What a page shows of a board.
 
-ghost use Rattle.std.specs.Prelude.{◌≡◌, ◌∷◌, ◌++◌, [], IfOk, Some};
-ghost use Rattle.board_command.specs.Served.{texts_in};
+ghost use Rattle.std.specs.Prelude.{◌≡◌, [], IfOk, Some};
+ghost use Rattle.station_pages.specs.Handed.{texts_in};
 
 use machine_files::{Cause, Name, Replaces, WriteFault};
+use station_pages::{BoardPage, HandedLog};
 use std::alloc::{AllocError, Global};
 use std::cell::RefCell;
-use std::snapshot::Snapshot;
-use viewers::Viewers;
-
-/// The texts that were handed over, in order. Clauses alone read it.
-#[derive(Drop)]
-enum TextLog {
-    Empty,
-    Given(Snapshot<TextLog>, Snapshot<Vec<u8>>),
-}
-
-impl TextLog {
-    /// These, and then this one.
-    fn given(&self, text: &Vec<u8>) -> TextLog
-        ensures { texts_in result ≡ texts_in self.now ++ text.now.items ∷ [] }
-    {
-        TextLog::Given(Snapshot::of(self), Snapshot::of(text))
-    }
-}
 
 /// Which of a board's texts it is.
 #[derive(Clone, Copy)]
@@ -36,9 +19,9 @@ pub enum Kind {
 #[derive(Drop)]
 pub struct Pane<'v> {
     alloc: Global,
-    viewers: &'v RefCell<Viewers>,
+    page: &'v RefCell<BoardPage>,
     kind: Kind,
-    log: TextLog,
+    log: HandedLog,
 }
 
 /// A copy of a text.
@@ -60,25 +43,25 @@ fn fault(why: Cause) -> WriteFault {
 
 impl<'v> Pane<'v> {
     /// Of this page, which wasn't given any yet.
-    pub fn of(alloc: Global, viewers: &'v RefCell<Viewers>, kind: Kind) -> Pane<'v>
+    pub fn of(alloc: Global, page: &'v RefCell<BoardPage>, kind: Kind) -> Pane<'v>
         ensures { texts_in result.log ≡ [] }
     {
         Pane {
             alloc,
-            viewers,
+            page,
             kind,
-            log: TextLog::Empty,
+            log: HandedLog::Empty,
         }
     }
 
     /// Has the page show this text.
     fn show(&self, text: Vec<u8>) -> Result<(), WriteFault> {
-        let Ok(mut viewers) = self.viewers.try_borrow_mut() else {
+        let Ok(mut page) = self.page.try_borrow_mut() else {
             return Err(fault(Cause::System));
         };
         match self.kind {
-            Kind::Lines => viewers.put_lines(text),
-            Kind::State => viewers.put_state(text),
+            Kind::Lines => page.put_lines(text),
+            Kind::State => page.put_state(text),
         }
         Ok(())
     }
@@ -91,7 +74,7 @@ impl Replaces for Pane<'_> {
         let Ok(copy) = copy_of(self.alloc, text) else {
             return Err(fault(Cause::NoMemory));
         };
-        let log = self.log.given(&copy);
+        let log = self.log.handed(&copy);
         self.show(copy)?;
         self.log = log;
         Ok(())

@@ -17,7 +17,6 @@ use Rattle.agree_core.proofs.Taken.{taken_push}
 use Rattle.vote_store.specs.declared.refusal.Refusal.{Refusal}
 use Rattle.cards.specs.Columns.{lines_from}
 use Rattle.cards.specs.Sheet.{Sheet}
-use Rattle.books.specs.BothFiles.{IsBookOfBoth}
 use Rattle.books.specs.CardBook.{IsBookFrom, IsBookOfLines, IsBookOfVotes, first_rejected, votes_in_file}
 use Rattle.books.specs.Taking.{answer_to, book_after, with_taken}
 use Rattle.books.specs.declared.rejected.Rejected.{Rejected}
@@ -96,7 +95,8 @@ module _ (innings : ℕ) where
       let later = all_taken (n + 1) (book ++ e ∷ []) lines es rest may.1 (omega (arith, few, length-append book (e ∷ []))) in
       (rw (first_rejected, next) later.0, rw next (rw (append_assoc book (e ∷ [])) at later.1))
 
-  again : (book : List Entry) → AreReadAgain book → AllTaken (book_refusal innings) [] book → IsBookOfLines innings (lines_text book) book
+  -- the lines of a legal book are that book again
+  pub again : (book : List Entry) → AreReadAgain book → AllTaken (book_refusal innings) [] book → IsBookOfLines innings (lines_text book) book
   again book m may = let all = all_taken 1 [] (lines_of (lines_text book)) book m.said may (omega (arith, m.places)) in record { taken = all.0; entries = sym all.1 }
 
   -- what was taken of lines may come next, entry by entry
@@ -125,15 +125,7 @@ file_allowed : (innings : ℕ) (shown : Result (List Ballot) Refusal) (book : Li
 file_allowed innings (Ok votes) book made = rw (made.entries) (votes_allowed innings votes made.taken)
 file_allowed innings (Err why) book made = absurd made
 
-input_allowed : (source : Source) (s : Sheet) (input : List ℕ) (book : List Entry) → IsBookFrom source s input book → AllTaken (book_refusal s.innings) [] book
+-- the entries of an input's book may come next, one by one
+pub input_allowed : (source : Source) (s : Sheet) (input : List ℕ) (book : List Entry) → IsBookFrom source s input book → AllTaken (book_refusal s.innings) [] book
 input_allowed Lines s input book made = rw (made.entries) (lines_allowed s.innings [] (lines_of input) tt)
 input_allowed (Source.Votes desk) s input book made = file_allowed s.innings (votes_in_file desk s.game input) book made
-
--- the lines of an input's book are that book again
-pub again_from : (source : Source) (s : Sheet) (input : List ℕ) (book : List Entry) → IsBookFrom source s input book → AreReadAgain book →
-    IsBookFrom Lines s (lines_text book) book
-again_from source s input book made m = again s.innings book m (input_allowed source s input book made)
-
--- and so are those of both files' book
-pub again_of_both : (s : Sheet) (a b : List ℕ) (book : List Entry) → IsBookOfBoth s a b book → AreReadAgain book → IsBookFrom Lines s (lines_text book) book
-again_of_both s a b book made m = again s.innings book m made.taken

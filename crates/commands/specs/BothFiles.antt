@@ -1,49 +1,34 @@
--- What `card`, `export` and `compare` print of both desks' votes files, and why they don't: s is the sheet, a and b are the files.
--- The document is the table that the sheet's text is.
-use Rattle.std.specs.Prelude.{◌≡◌, is_some, ℕ, Bool, true, false, List, ◌++◌, Option, codes}
-use Rattle.notation.specs.declared.entry.Entry.{Entry}
+-- What `compare` prints of both desks' votes files, and why nothing is printed of both: s is the sheet, a and b are the files.
+use Rattle.std.specs.Prelude.{◌≡◌, is_some, ℕ, Bool, true, false, List, Option}
 use Rattle.agree_core.specs.declared.messages.DeskId.{DeskId}
 use Rattle.agree_core.specs.declared.messages.DeskId.TheVariants.{B}
 use Rattle.cards.specs.Sheet.{Sheet}
-use Rattle.toml.specs.Data.{Members}
 use Rattle.streams.specs.declared.{input.InputFault.InputFault, watched.Watched.Watched}
 use Rattle.streams.specs.Watched.{Prints}
-use Rattle.books.specs.BothFiles.{IsBookOfBoth, WhyNoBookOfBoth, WhyNotOpened}
-use Rattle.books.specs.Card.{card_text}
+use Rattle.books.specs.BothFiles.{WhyNoBookOfBoth, WhyNotOpened}
 use Rattle.books.specs.Comparing.{IsComparison, comparison_text}
 use Rattle.books.specs.declared.{compare.Comparison.Comparison, fault.BothFault.BothFault}
-use Rattle.archive_deliveries.specs.Names.{told_apart}
-use Rattle.export.specs.Value.{IsExport}
 use Rattle.setup.specs.declared.fault.StopFault.{StopFault}
 use Rattle.commands.specs.declared.both_files.BothPrintFault.{BothPrintFault}
 use Rattle.commands.specs.declared.both_files.BothPrintFault.TheVariants.{NoMemory, Read, Write, Book}
 
-module _ {S : Type 0} (contents : S → Option (List ℕ)) (old new : Watched S) (s : Sheet) (a b : List ℕ) where
-  -- the cards of both files' book are written
-  pub record PrintsCardOfBoth : Type 0 where
-    pub book : List Entry
-    pub made : IsBookOfBoth s a b book
-    pub written : Prints contents old new (card_text s book)
-
-  -- the comparison of both files is written, and whether they are refused as not of one history
-  pub record PrintsComparison (refused : Bool) : Type 0 where
-    pub comparison : Comparison
-    pub made : IsComparison s.game a b comparison
-    pub written : Prints contents old new (comparison_text comparison.agreed comparison.differences.items comparison.torn)
-    pub torn : refused ≡ is_some comparison.torn
-
-  -- the export of both files' book is written, with the sides told apart, and a newline
-  pub record PrintsExportOfBoth (document : Members) : Type 0 where
-    pub book : List Entry
-    pub made : IsBookOfBoth s a b book
-    pub text : List ℕ
-    pub exported : IsExport (told_apart s) document book text
-    pub written : Prints contents old new (text ++ codes "\n")
+-- the comparison of both files is written, and whether they are refused as not of one history
+pub record PrintsComparison
+    {S : Type 0} (contents : S → Option (List ℕ)) (old new : Watched S) (s : Sheet) (a b : List ℕ) (refused : Bool) : Type 0 where
+  pub comparison : Comparison
+  pub made : IsComparison s.game a b comparison
+  pub written : Prints contents old new (comparison_text comparison.agreed comparison.differences.items comparison.torn)
+  pub torn : refused ≡ is_some comparison.torn
 
 -- a desk's file isn't read to its end
 abbrev pub of_input : DeskId → InputFault → BothPrintFault
 of_input desk InputFault.NoMemory = NoMemory
 of_input desk InputFault.Read = Read desk
+
+-- printing met this one: out of memory, or else a write failed
+abbrev pub of_printing : StopFault → BothPrintFault
+of_printing StopFault.NoMemory = NoMemory
+of_printing why = Write
 
 -- both files have no book: being out of memory is its own
 abbrev pub of_book : BothFault → BothPrintFault

@@ -1,11 +1,9 @@
--- What the public calls claim: Card and Export with PrintFault, and of both files BothFiles and Ends; Lines; Page; Rows;
--- SheetWord.
+-- What the public calls claim: Product with Lines, and of both files BothFiles and Ends; Check;
+-- Migrate; SheetWord.
 pub mod BothFiles
-pub mod Card
+pub mod Check
 pub mod Ends
-pub mod Export
 pub mod Lines
-pub mod Page
-pub mod PrintFault
-pub mod Rows
+pub mod Migrate
+pub mod Product
 pub mod SheetWord

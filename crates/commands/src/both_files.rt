@@ -1,27 +1,30 @@
-//! The record of a match from both desks' votes files: `ground card` and `ground export` of their agreed list.
+//! The record of a match from both desks' votes files: what is printed of their agreed list.
 
-ghost use Rattle.std.specs.Prelude.{◌≡◌, ◌≢◌, IfErr, IfOk, IfSome, OnOk};
+ghost use Rattle.std.specs.Prelude.{◌≡◌, ◌≢◌, [], IfErr, IfOk, IfSome, OnOk};
+ghost use Rattle.agree_core.specs.Books.{AllTaken};
 ghost use Rattle.agree_core.specs.declared.messages.DeskId.TheVariants.{A, B};
 ghost use Rattle.streams.specs.Watched.{stream_of};
 ghost use Rattle.toml.specs.View.{table_view};
 ghost use Rattle.books.specs.BothFiles.{IsBookOfBoth};
-ghost use Rattle.commands.specs.BothFiles.{IsOfReading, PrintsCardOfBoth, PrintsExportOfBoth, WhyNotBoth};
+ghost use Rattle.corrections.specs.Refusal.{book_refusal};
+ghost use Rattle.commands.specs.BothFiles.{IsOfReading, WhyNotBoth};
 ghost use Rattle.commands.specs.Ends.{HavePlaces};
+ghost use Rattle.commands.specs.Product.{PrintsBook};
 ghost use Rattle.setup.specs.Ends.{EndsReading, EndsWriting};
 
-use crate::export_command::{print_text, sheet_and_document};
+use crate::book_command::sheet_for;
 use crate::file_ends::{places_of, tell_ends};
+use crate::product::{Product, print_product};
 use agree_core::DeskId;
-use books::{BothFault, book_of_both, print_card};
+use books::{BothFault, book_of_both};
 use cards::MatchSheet;
 use corrections::CheckedBook;
-use export::text_of;
-use setup::{StopFault, Stopped, open_input, output, short_sheet_at};
-use std::alloc::{AllocError, Global};
+use setup::{StopFault, Stopped, open_input, output};
+use std::alloc::Global;
 use streams::{Feed, InputFault, Sink, Watched, read_all};
 use toml::Table;
 
-/// Why `card`, `export` and `compare` of both files end before their end.
+/// Why a command on both desks' votes files ends before its end.
 #[derive(Clone, Copy)]
 pub enum BothPrintFault {
     /// Memory was refused.
@@ -35,7 +38,7 @@ pub enum BothPrintFault {
 }
 
 impl BothPrintFault {
-    ghost use Rattle.commands.specs.BothFiles.{stop_of, of_input, is_of_second};
+    ghost use Rattle.commands.specs.BothFiles.{of_input, of_printing, is_of_second};
 
     /// The fault of a desk's file that isn't read to its end.
     pub fn of_input(desk: DeskId, why: InputFault) -> BothPrintFault
@@ -44,6 +47,16 @@ impl BothPrintFault {
         match why {
             InputFault::NoMemory => BothPrintFault::NoMemory,
             InputFault::Read => BothPrintFault::Read(desk),
+        }
+    }
+
+    /// The fault of a product that isn't printed: memory is refused, or else a write failed.
+    pub fn of_printing(why: StopFault) -> BothPrintFault
+        ensures { result ≡ of_printing why }
+    {
+        match why {
+            StopFault::NoMemory => BothPrintFault::NoMemory,
+            _ => BothPrintFault::Write,
         }
     }
 
@@ -61,16 +74,6 @@ impl BothPrintFault {
             ) => true,
             _ => false,
         }
-    }
-}
-
-impl From<AllocError> for BothPrintFault {
-    ghost use Rattle.commands.specs.declared.both_files.BothPrintFault.TheVariants.{NoMemory};
-
-    ghost from_gives = { λ _ fault. fault ≡ NoMemory };
-
-    fn from(_why: AllocError) -> Self {
-        BothPrintFault::NoMemory
     }
 }
 
@@ -148,6 +151,7 @@ fn placed_book(
     ensures book { IfOk result (λ placed. IsBookOfBoth sheet.now first.now second.now placed.book.entries) }
     ensures places { IfOk result (λ placed. HavePlaces sheet.now.game first.now second.now placed.places.0 placed.places.1) }
     ensures same_match { IfOk result (λ placed. placed.book.innings_a_side ≡ sheet.now.innings) }
+    ensures legal { IfOk result (λ placed. AllTaken (book_refusal sheet.now.innings) [] placed.book.entries) }
     ensures why { IfErr result (WhyNotBoth sheet.now first.now second.now) }
     ensures unread { IfErr result (λ fault. fault ≢ BothPrintFault.Write) }
     ensures read_first { IfErr result (λ fault. fault ≢ BothPrintFault.Read A) }
@@ -175,6 +179,7 @@ pub fn book_of_readers<R: Feed>(
         IfSome (R.remaining (stream_of b.old)) (λ second.
         HavePlaces sheet.now.game first second placed.places.0 placed.places.1))) }
     ensures same_match { IfOk result (λ placed. placed.book.innings_a_side ≡ sheet.now.innings) }
+    ensures legal { IfOk result (λ placed. AllTaken (book_refusal sheet.now.innings) [] placed.book.entries) }
     ensures why { IfErr result (λ fault. IfSome (R.remaining (stream_of a.old)) (λ first.
         IfSome (R.remaining (stream_of b.old)) (λ second. WhyNotBoth sheet.now first second fault))) }
     ensures read_first { EndsReading R.remaining (BothPrintFault.Read A) result a.old a.new }
@@ -185,38 +190,12 @@ pub fn book_of_readers<R: Feed>(
     placed_book(alloc, sheet, first.as_slice(), second.as_slice())
 }
 
-/// `ground card` of both files: reads both desks' votes files to the end, and prints both cards of each innings of the
-/// agreed list of their votes, the last entry too, and then its page. Where a file is refused, the votes aren't of one
-/// history, or the agreed list is no legal book, nothing is written. It answers how many places each file has.
-pub fn card_both_run<R: Feed, W: Sink>(
+/// Reads both desks' votes files to the end, and prints a product of the agreed list of their votes, the last entry too. Where a
+/// file is refused, the votes aren't of one history, or the agreed list is no legal book, nothing is written. It answers how many
+/// places each file has.
+pub fn book_both_run<R: Feed, W: Sink>(
     alloc: Global,
-    sheet: &MatchSheet,
-    a: &mut Watched<R>,
-    b: &mut Watched<R>,
-    writer: &mut Watched<W>,
-) -> Result<(u32, u32), BothPrintFault>
-    ensures written { OnOk result (IfSome (R.remaining (stream_of a.old)) (λ first.
-        IfSome (R.remaining (stream_of b.old)) (λ second.
-        PrintsCardOfBoth W.contents writer.old writer.new sheet.now first second))) }
-    ensures places { IfOk result (λ places. IfSome (R.remaining (stream_of a.old)) (λ first.
-        IfSome (R.remaining (stream_of b.old)) (λ second. HavePlaces sheet.now.game first second places.0 places.1))) }
-    ensures why { IfErr result (λ fault. IfSome (R.remaining (stream_of a.old)) (λ first.
-        IfSome (R.remaining (stream_of b.old)) (λ second. WhyNotBoth sheet.now first second fault))) }
-    ensures read_first { EndsReading R.remaining (BothPrintFault.Read A) result a.old a.new }
-    ensures read_second { EndsReading R.remaining (BothPrintFault.Read B) result b.old b.new }
-    ensures writes { EndsWriting W.calls BothPrintFault.Write result writer.old writer.new }
-{
-    let placed = book_of_readers(alloc, sheet, a, b)?;
-    match print_card(sheet, &placed.book, writer) {
-        Ok(()) => Ok(placed.places),
-        Err(_) => Err(BothPrintFault::Write),
-    }
-}
-
-/// `ground export` of both files: as `card_both_run`, but the agreed list as one JSON value, with what the sheet's document
-/// hands on.
-pub fn export_both_run<R: Feed, W: Sink>(
-    alloc: Global,
+    product: Product,
     sheet: &MatchSheet,
     document: &Table,
     a: &mut Watched<R>,
@@ -225,7 +204,8 @@ pub fn export_both_run<R: Feed, W: Sink>(
 ) -> Result<(u32, u32), BothPrintFault>
     ensures written { OnOk result (IfSome (R.remaining (stream_of a.old)) (λ first.
         IfSome (R.remaining (stream_of b.old)) (λ second.
-        PrintsExportOfBoth W.contents writer.old writer.new sheet.now first second (table_view document.now)))) }
+        PrintsBook W.contents writer.old writer.new product sheet.now (table_view document.now)
+        (IsBookOfBoth sheet.now first second)))) }
     ensures places { IfOk result (λ places. IfSome (R.remaining (stream_of a.old)) (λ first.
         IfSome (R.remaining (stream_of b.old)) (λ second. HavePlaces sheet.now.game first second places.0 places.1))) }
     ensures why { IfErr result (λ fault. IfSome (R.remaining (stream_of a.old)) (λ first.
@@ -235,10 +215,9 @@ pub fn export_both_run<R: Feed, W: Sink>(
     ensures writes { EndsWriting W.calls BothPrintFault.Write result writer.old writer.new }
 {
     let placed = book_of_readers(alloc, sheet, a, b)?;
-    let text = text_of(alloc, sheet, document, &placed.book)?;
-    match print_text(text.as_str(), writer) {
+    match print_product(alloc, product, sheet, document, &placed.book, writer) {
         Ok(()) => Ok(placed.places),
-        Err(_) => Err(BothPrintFault::Write),
+        Err(why) => Err(BothPrintFault::of_printing(why)),
     }
 }
 
@@ -248,41 +227,22 @@ pub fn stopped_at<'a>(fault: BothPrintFault, a: &'a str, b: &'a str) -> Stopped<
     Stopped::at(path, StopFault::from(fault))
 }
 
-/// Runs `card` over both desks' votes files.
+/// Prints a product of the agreed list of both desks' votes files.
 #[inline(never)]
-pub fn start_card_of_both<'a>(
+pub fn start_book_of_both<'a>(
     rt: &HostRuntime,
+    product: Product,
     sheet: &'a str,
     a: &'a str,
     b: &'a str,
 ) -> Result<bool, Stopped<'a>> {
-    let sheet = short_sheet_at(rt, sheet)?;
+    let (sheet, document) = sheet_for(rt, product, sheet)?;
     let mut first = open_input(rt, a)?;
     let mut second = open_input(rt, b)?;
     let mut writer = output(rt)?;
-    match card_both_run(rt.alloc(), &sheet, &mut first, &mut second, &mut writer) {
-        Ok(places) => {
-            tell_ends(rt, a, b, places);
-            Ok(false)
-        }
-        Err(fault) => Err(stopped_at(fault, a, b)),
-    }
-}
-
-/// Runs `export` over both desks' votes files.
-#[inline(never)]
-pub fn start_export_of_both<'a>(
-    rt: &HostRuntime,
-    sheet: &'a str,
-    a: &'a str,
-    b: &'a str,
-) -> Result<bool, Stopped<'a>> {
-    let (sheet, document) = sheet_and_document(rt, sheet)?;
-    let mut first = open_input(rt, a)?;
-    let mut second = open_input(rt, b)?;
-    let mut writer = output(rt)?;
-    match export_both_run(
+    match book_both_run(
         rt.alloc(),
+        product,
         &sheet,
         &document,
         &mut first,

@@ -1,36 +1,28 @@
 //! `ground sheet`: a match sheet as it was read, or all that is wrong with it.
 
-ghost use Rattle.std.specs.Prelude.{◌≡◌, [], true, IfOk, OnOk};
+ghost use Rattle.std.specs.Prelude.{◌≡◌, [], true, IfErr, IfOk, OnOk};
 ghost use Rattle.sheet_check.specs.Shown.{shown_sheet};
-ghost use Rattle.streams.specs.Watched.{IsHandedOn, Prints, TellsFailure};
+ghost use Rattle.streams.specs.Watched.{Prints};
+ghost use Rattle.commands.specs.Product.{IsOfPrinting};
 ghost use Rattle.commands.specs.SheetWord.{PrintsSheet};
 ghost use Rattle.setup.specs.Ends.{EndsWriting};
 
-use crate::printing::PrintFault;
+use crate::product::print_whole;
 use cards::{MatchSheet, SheetFault, read_sheet};
 use setup::{StopFault, Stopped, output, short_sheet_bytes, tell_twins};
 use sheet_check::{report_of, shown_sheet};
 use std::alloc::Global;
-use streams::{Sink, Watched, WriteFailed};
-
-/// Prints a text, and hands it on.
-fn print_whole<W: Sink>(text: &str, out: &mut Watched<W>) -> Result<(), WriteFailed>
-    ensures text { OnOk result (Prints W.contents out.old out.new text.now) }
-    ensures failed { TellsFailure result out.old out.new }
-    ensures handed_on { OnOk result (IsHandedOn W.calls out.new) }
-{
-    write!(out, "{text}")?;
-    out.flush()
-}
+use streams::{Sink, Watched};
 
 /// Prints a text, or answers that it can't be printed.
-fn printed<W: Sink>(text: &str, writer: &mut Watched<W>) -> Result<(), PrintFault>
+fn printed<W: Sink>(text: &str, writer: &mut Watched<W>) -> Result<(), StopFault>
     ensures text { OnOk result (Prints W.contents writer.old writer.new text.now) }
-    ensures writes { EndsWriting W.calls PrintFault.Write result writer.old writer.new }
+    ensures only { IfErr result IsOfPrinting }
+    ensures writes { EndsWriting W.calls StopFault.Write result writer.old writer.new }
 {
     match print_whole(text, writer) {
         Ok(()) => Ok(()),
-        Err(_) => Err(PrintFault::Write),
+        Err(_) => Err(StopFault::Write),
     }
 }
 
@@ -39,9 +31,10 @@ fn print_sheet<W: Sink>(
     alloc: Global,
     sheet: &MatchSheet,
     writer: &mut Watched<W>,
-) -> Result<(), PrintFault>
+) -> Result<(), StopFault>
     ensures text { OnOk result (Prints W.contents writer.old writer.new (shown_sheet sheet.now)) }
-    ensures writes { EndsWriting W.calls PrintFault.Write result writer.old writer.new }
+    ensures only { IfErr result IsOfPrinting }
+    ensures writes { EndsWriting W.calls StopFault.Write result writer.old writer.new }
 {
     let text = shown_sheet(alloc, sheet)?;
     printed(text.as_str(), writer)
@@ -60,9 +53,10 @@ pub fn sheet_run<W: Sink>(
     alloc: Global,
     text: &[u8],
     writer: &mut Watched<W>,
-) -> Result<bool, PrintFault>
+) -> Result<bool, StopFault>
     ensures written { IfOk result (λ refused. PrintsSheet W.contents writer.old writer.new text.now refused) }
-    ensures writes { EndsWriting W.calls PrintFault.Write result writer.old writer.new }
+    ensures only { IfErr result IsOfPrinting }
+    ensures writes { EndsWriting W.calls StopFault.Write result writer.old writer.new }
 {
     let report = report_of(alloc, text)?;
     let told = report.as_str();
@@ -71,7 +65,7 @@ pub fn sheet_run<W: Sink>(
             print_sheet(alloc, &sheet, writer)?;
             Ok(false)
         }
-        Err(SheetFault::NoMemory) => Err(PrintFault::NoMemory),
+        Err(SheetFault::NoMemory) => Err(StopFault::NoMemory),
         _ => {
             printed(told, writer)?;
             Ok(true)
@@ -88,5 +82,5 @@ pub fn start_sheet<'a>(rt: &HostRuntime, sheet: &'a str) -> Result<bool, Stopped
     if let Ok(sheet) = read_sheet(rt.alloc(), text.as_slice()) {
         let _ = tell_twins(&mut rt.stderr(), &sheet);
     }
-    answer.map_err(|fault| Stopped::at("-", StopFault::from(fault)))
+    answer.map_err(|fault| Stopped::at("-", fault))
 }

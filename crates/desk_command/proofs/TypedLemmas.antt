@@ -1,5 +1,5 @@
 -- The votes of a desk's processes are for lines that were typed.
-use Rattle.std.proofs.Common.{◌≡◌, ℕ, List, [], ◌∷◌, Result, subst, sym}
+use Rattle.std.proofs.Common.{◌≡◌, ℕ, List, [], ◌∷◌, Result, refl, subst, sym}
 use Rattle.std.specs.Prelude.{flat_map}
 use Rattle.agree_core.specs.declared.messages.DeskId.{DeskId}
 use Rattle.agree_core.specs.FileView.{FileView}
@@ -16,10 +16,7 @@ use Rattle.live.specs.DeskLife.{BeginsOn, DeskLives, Follows, fresh}
 use Rattle.live.specs.Desks.{DiskView}
 use Rattle.live.specs.Runs.{Logs}
 use Rattle.live.proofs.BeforeLemmas.{votes_typed}
-use Rattle.desk_command.specs.declared.desk_disk.DeskDisk.{DeskDisk}
-use Rattle.desk_command.specs.declared.desk_disk.DeskDisk.TheVariants.{One, Two}
-use Rattle.desk_command.specs.Keeping.{LivesOnDisk}
-use Rattle.desk_command.specs.Typed.{Process, VotesWereTyped, calls_of, kept_in, said_in, said_on, typed_in}
+use Rattle.desk_command.specs.Typed.{Process, VotesWereTyped, calls_of, kept_in, said_in, typed_in}
 
 module _
     {Disk : Type 0} {view : FileView Disk} {seen : Disk → List ℕ} {disks : DiskView Disk} {sheet : Sheet} {innings : ℕ} {d : DeskId} {disk : Disk}
@@ -38,11 +35,6 @@ module _
           votes_typed view disks sheet sheet.game innings (fresh k) goes.moments log goes.run (sym (rw (given, none) at goes.logs.inputs)) order
       of (NotOpened cause left) begins follows = tt
 
-on_disk : (sheet : Sheet) (desk : DeskId) (disk : DeskDisk) (log : AheadLog) → CastsInOrder log → (process : LivesOnDisk sheet desk disk (given_of log))
-    → AreAmong (said_on sheet desk disk (given_of log) process) (kept_of log)
-on_disk sheet desk (One disk) log order process = lived_typed log order process.untyped process.was_given process.lives
-on_disk sheet desk (Two disk) log order process = lived_typed log order process.untyped process.was_given process.lives
-
 -- what is so of each is so of all, one after the other
 all_among : {X : Type 0} (f g : X → List (List ℕ)) → ((x : X) → AreAmong (f x) (g x)) → (xs : List X) → AreAmong (flat_map f xs) (flat_map g xs)
 all_among f g each [] = tt
@@ -50,7 +42,7 @@ all_among f g each (x ∷ xs) = among_joined (f x) (g x) (flat_map f xs) (flat_m
 
 pub were_typed : (desk : DeskId) (life : List (Process desk)) → VotesWereTyped life
 were_typed desk life = record {
-  said = all_among said_in kept_in (λ p. on_disk (p.kept).sheet desk (p.kept).disk (p.kept).log (p.kept).in_order (p.kept).lives) life;
+  said = all_among said_in kept_in (λ p. lived_typed (p.kept).log (p.kept).in_order refl refl ((p.kept).lives).lives) life;
   kept = all_among kept_in typed_in
       (λ p. subst (λ (inputs : List Input). AreAmong (kept_of (p.kept).log) (lines_of inputs)) (sym (p.kept).of_typed) ((p.kept).in_order).kept) life;
 }

@@ -1,5 +1,5 @@
 -- How `desk` ends.
-use Rattle.std.specs.Prelude.{ℕ, Bool, true, false, List, [], Option, None, Some, Result, Ok, Err}
+use Rattle.std.specs.Prelude.{◌≡◌, ℕ, Bool, true, false, List, [], Option, None, Some, Result, Ok, Err}
 use Rattle.ahead.specs.declared.log.AheadLog.{AheadLog}
 use Rattle.ahead.specs.Ahead.{held_of, lost_of}
 use Rattle.live.specs.declared.desk_life.LifeEnd.{LifeEnd}
@@ -19,6 +19,10 @@ stop_of (Err (Ended NoMoreLines)) true = Some StopFault.Read
 stop_of (Err (Ended NoMoreLines)) false = None
 stop_of (Err (Ended Write)) failed = Some StopFault.Write
 stop_of (Err (Ended Device)) failed = Some StopFault.Disk
+
+-- its scorer stopped it, or its turns were over: then there is no fault, of a keyboard that failed or not
+abbrev pub WasStopped : Result (Unit {0}) LifeEnd → Type 0
+WasStopped ended = (failed : Bool) × (stop_of ended failed ≡ None)
 
 -- The last that is told, in rows of so many columns, by how its desk's process ended: where it ended by itself, which lines are
 -- dropped. Where its scorer stopped that was told before, and where it can't write nothing is.

@@ -1,11 +1,11 @@
 -- The process of a desk on this machine.
-use Rattle.std.specs.Prelude.{◌≡◌, ℕ, List, [], Option, Result}
-use Rattle.entry_log.specs.Disk.{Faults, Images}
+use Rattle.std.specs.Prelude.{◌≡◌, ℕ, List, [], Option, Some, Result}
 use Rattle.entry_log.specs.Format.{contents, room}
 use Rattle.entry_log.specs.Version2.{version_2}
 use Rattle.vote_store.specs.View.{file_view}
 use Rattle.agree_core.specs.declared.messages.DeskId.{DeskId}
 use Rattle.cards.specs.Sheet.{Sheet}
+use Rattle.links.specs.Passed.{Passed}
 use Rattle.links.specs.Typing.{Input}
 use Rattle.ahead.specs.declared.log.AheadLog.{AheadLog}
 use Rattle.ahead.specs.Ahead.{given_of, typed_of}
@@ -14,41 +14,34 @@ use Rattle.live.specs.declared.desk_life.LifeEnd.{LifeEnd}
 use Rattle.live.specs.DeskLife.{DeskLives}
 use Rattle.live.specs.Desks.{FitsLongest}
 use Rattle.live.specs.Runs.{Logs}
-use Rattle.machine_files.specs.FileDisk as alone
-use Rattle.machine_files.specs.Pairs as both
+use Rattle.setup.specs.Carried.{WasCarried}
 use Rattle.desk_command.specs.declared.desk_disk.DeskDisk.{DeskDisk}
-use Rattle.desk_command.specs.declared.desk_disk.DeskDisk.TheVariants.{One, Two}
+use Rattle.desk_command.specs.Disks.{cap_of, faults_of, file_of, images_of}
 use Rattle.desk_command.specs.OnFiles.{IsOnFiles}
+use Rattle.desk_command.specs.Traces.{Traces}
 
--- The process of this desk on a disk, which shows this of itself, with an empty book of the sheet's match to begin with, that
--- was given just these lines from its beginning on: so many turns of it, its logs, and how it ended.
+-- The process of this desk on a disk, with an empty book of the sheet's match to begin with: from when nothing had passed, was
+-- typed or was told, until just this had passed, was given and was told, and it ended so.
 pub record LivesOn
-    {Disk : Type 0} (seen : Disk → List ℕ) (images : Disk → Images) (faults : Disk → Faults) (cap : Disk → ℕ)
-    (sheet : Sheet) (desk : DeskId) (disk : Disk) (given : List Input) : Type 0 where
-  pub before : Logs
-  pub after : Logs
-  pub untyped : before.typed ≡ []
-  pub was_given : after.typed ≡ given
+    (sheet : Sheet) (desk : DeskId) (disk : DeskDisk) (passed : List Passed) (given : List Input) (told : Option (List ℕ))
+    (ended : Result (Unit {0}) LifeEnd) : Type 0 where
+  pub before : List ℕ
+  pub after : List ℕ
   pub turns : ℕ
-  pub result : Result (Unit {0}) LifeEnd
-  pub lives : DeskLives (file_view (contents version_2) seen images desk sheet.game) seen
-      (record { faults = faults; FitsLongest = FitsLongest (room version_2) (cap disk) })
-      sheet sheet.innings desk disk before after turns result
+  pub lives : DeskLives (file_view (contents version_2) file_of images_of desk sheet.game) file_of
+      (record { faults = faults_of; FitsLongest = FitsLongest (room version_2) (cap_of disk) })
+      sheet sheet.innings desk disk
+      (record { passed = []; typed = []; readings = before; told = Some [] })
+      (record { passed = passed; typed = given; readings = after; told = told }) turns ended
 
--- the same on the disk of its file alone, or of that and its copy
-abbrev pub LivesOnDisk : Sheet → DeskId → DeskDisk → List Input → Type 0
-LivesOnDisk sheet desk (One disk) given =
-    LivesOn alone.file_of alone.images_of alone.faults_of alone.cap_of sheet desk disk given
-LivesOnDisk sheet desk (Two disk) given =
-    LivesOn both.file_of both.images_of both.faults_of both.cap_of sheet desk disk given
-
--- This desk was kept on the file of this path, and on a copy of it where its path is named. By the log of what became of all
--- that was typed, it was given that, and what may be cast of it in order.
-pub record WasKept (desk : DeskId) (path : List ℕ) (copy : Option (List ℕ)) (typed : List Input) : Type 0 where
-  pub sheet : Sheet
+-- This desk was kept on the file of this path, and on a copy of it where its path is named, and all that it had to do with are
+-- these traces. By the log of what became of all that was typed, it was given that, and what may be cast of it in order; what it
+-- said and heard is what passed at its socket, what it told is what was written to its screen, and it ended as they say.
+pub record WasKept (desk : DeskId) (path : List ℕ) (copy : Option (List ℕ)) (traces : Traces) : Type 0 where
   pub disk : DeskDisk
   pub log : AheadLog
   pub on : IsOnFiles path copy disk
-  pub of_typed : typed ≡ typed_of log
+  pub of_typed : traces.typed ≡ typed_of log
   pub in_order : CastsInOrder log
-  pub lives : LivesOnDisk sheet desk disk (given_of log)
+  pub carried : WasCarried traces.passed traces.carried
+  pub lives : LivesOn traces.sheet desk disk traces.passed (given_of log) (Some traces.told) traces.ended

@@ -1,7 +1,9 @@
--- How `desk` ends, Ends; on which files a desk's disk is, OnFiles; its process there, Keeping; what its life tells, Lives; and
+-- How `desk` ends, Ends; what a desk's disk shows, Disks, and on which files it is, OnFiles; its process there, Keeping, and what it leaves to be seen, Traces; what its life tells, Lives; and
 -- that its votes are for lines that were typed, Typed.
+pub mod Disks
 pub mod Ends
 pub mod Keeping
 pub mod Lives
 pub mod OnFiles
+pub mod Traces
 pub mod Typed

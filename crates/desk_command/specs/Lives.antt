@@ -1,14 +1,18 @@
 -- What the life of a desk tells.
 use Rattle.std.specs.Prelude.{◌≡◌, ℕ, List, Option, option_copied}
 use Rattle.agree_core.specs.declared.messages.DeskId.{DeskId}
-use Rattle.links.specs.Logs.{inputs_of}
-use Rattle.links.specs.Typing.{Input}
 use Rattle.desk_command.specs.declared.life.Life.{Life}
+use Rattle.desk_command.specs.Traces.{Traces, traces_of}
 use Rattle.desk_command.specs.Typed.{Process}
+use Rattle.posts.specs.declared.posted_log.PostedLog.{PostedLog}
 
 -- its letter
 abbrev pub desk_of : Life → DeskId
 desk_of life = life.desk
+
+-- the path of its sheet
+abbrev pub sheet_path_of : Life → List ℕ
+sheet_path_of life = life.sheet_path.now
 
 -- the path of its votes file, and that of the copy, where it has one
 abbrev pub path_of : Life → List ℕ
@@ -17,12 +21,16 @@ path_of life = life.file.now
 abbrev pub copy_of : Life → Option (List ℕ)
 copy_of life = option_copied life.copy
 
--- what was typed, at its keyboard and in its page
-abbrev pub inputs_in : Life → List Input
-inputs_in life = inputs_of (life.typed).value
+-- what its process left to be seen
+abbrev pub traces_in : Life → Traces
+traces_in life = traces_of (life.sheet).value (life.typed).value (life.passed).value (life.carried).value life.told life.ended
+
+-- the lines of its page
+abbrev pub posted_in : Life → PostedLog
+posted_in life = (life.posted).value
 
 -- this is its process
 pub record IsOf (life : Life) (process : Process (desk_of life)) : Type 0 where
   pub path : process.path ≡ path_of life
   pub copy : process.copy ≡ copy_of life
-  pub typed : process.typed ≡ inputs_in life
+  pub traces : process.traces ≡ traces_in life

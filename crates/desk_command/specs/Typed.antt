@@ -5,16 +5,15 @@ use Rattle.agree_core.specs.FileView.{FileView}
 use Rattle.agree_core.specs.Openings.{NotOpened, Opened}
 use Rattle.cards.specs.Sheet.{Sheet}
 use Rattle.links.specs.Typing.{Input}
-use Rattle.ahead.specs.Ahead.{given_of, kept_of}
+use Rattle.ahead.specs.Ahead.{kept_of}
 use Rattle.ahead.specs.Order.{AreAmong, lines_of}
 use Rattle.live.specs.declared.desk_life.LifeEnd.{LifeEnd}
 use Rattle.live.specs.Before.{lines_said}
 use Rattle.live.specs.DeskLife.{DeskLives, Follows}
 use Rattle.live.specs.Desks.{DeskCall, DeskProcess, DiskView}
 use Rattle.live.specs.Runs.{Logs, Moment}
-use Rattle.desk_command.specs.declared.desk_disk.DeskDisk.{DeskDisk}
-use Rattle.desk_command.specs.declared.desk_disk.DeskDisk.TheVariants.{One, Two}
-use Rattle.desk_command.specs.Keeping.{LivesOnDisk, WasKept}
+use Rattle.desk_command.specs.Keeping.{WasKept}
+use Rattle.desk_command.specs.Traces.{Traces}
 
 module _
     {Disk : Type 0} {view : FileView Disk} {seen : Disk → List ℕ} {disks : DiskView Disk} {sheet : Sheet} {innings : ℕ}
@@ -28,24 +27,17 @@ module _
         | NotOpened cause left ↦ λ follows. []
       ]) lives.follows
 
--- the lines for which votes were cast or refused in a process that was given these lines
-abbrev pub said_on :
-    (sheet : Sheet) (desk : DeskId) (disk : DeskDisk) (given : List Input) → LivesOnDisk sheet desk disk given
-    → List (List ℕ)
-said_on sheet desk (One disk) given process = lines_said (calls_of process.lives)
-said_on sheet desk (Two disk) given process = lines_said (calls_of process.lives)
-
--- a process of this desk: what was typed in it, and on which files it was kept
+-- a process of this desk: on which files it was kept, and what it left to be seen
 pub record Process (desk : DeskId) : Type 0 where
   pub path : List ℕ
   pub copy : Option (List ℕ)
-  pub typed : List Input
-  pub kept : WasKept desk path copy typed
+  pub traces : Traces
+  pub kept : WasKept desk path copy traces
 
 module _ {desk : DeskId} where
   -- the lines for which votes were cast or refused in a process
   abbrev pub said_in : Process desk → List (List ℕ)
-  said_in p = said_on (p.kept).sheet desk (p.kept).disk (given_of (p.kept).log) (p.kept).lives
+  said_in p = lines_said (calls_of ((p.kept).lives).lives)
 
   -- those for which one may be cast, that were typed and weren't taken back
   abbrev pub kept_in : Process desk → List (List ℕ)
@@ -53,7 +45,7 @@ module _ {desk : DeskId} where
 
   -- all that were typed
   abbrev pub typed_in : Process desk → List (List ℕ)
-  typed_in p = lines_of p.typed
+  typed_in p = lines_of (p.traces).typed
 
   -- In a desk's processes, one after the other, the lines for which votes were cast or refused are among those that weren't
   -- taken back, and these among all that were typed, each at most once, in their order: so none is used in two of them.

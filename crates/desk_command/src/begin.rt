@@ -4,27 +4,30 @@ ghost use Rattle.std.specs.Prelude.{◌≡◌, ◌≤◌, false, option_copied, 
 ghost use Rattle.cards.specs.Sheet.{most_columns};
 ghost use Rattle.streams.specs.Watched.{Prints, TellsFailure};
 ghost use Rattle.desk_command.specs.Ends as ends;
-ghost use Rattle.desk_command.specs.Lives.{copy_of, desk_of, path_of};
+ghost use Rattle.desk_command.specs.Ends.{WasStopped};
+ghost use Rattle.desk_command.specs.Lives.{copy_of, desk_of, path_of, sheet_path_of, traces_in};
+ghost use Rattle.desk_command.specs.Traces.{IsWideSheetOf};
 
 use crate::desk_disk::{desk_disk_at, empty_book};
 use crate::desk_screen::DeskScreen;
 use crate::life::{Kept, Life, keep_on};
 use crate::page::{Page, PageSquares};
-use agree_core::DeskId;
 use ahead::Ahead;
-use cards::{Columns, MatchSheet};
+use cards::Columns;
 use links::{Clock, Keys};
 use live::{DeskEnd, LifeEnd};
-use machine::{Address, Keyboard, MOST_PEERS, MonotonicClock};
+use machine::{Keyboard, MonotonicClock};
 use machine_files::{LastFault, WriteFault};
-use setup::{Sealing, StopFault, Stopped, short_sheet_at, with_cause, with_copys_cause};
+use setup::{
+    Sealing, SheetFile, StopFault, Stopped, sheet_file_at, station_of, with_cause, with_copys_cause,
+};
 use station_pages::{PageLines, PageWord, PageWords};
 use station_screens::{Shared, errors_at, output_at};
+use station_table::DeskSetting;
 use station_texts::asides::print_all_dropped;
 use std::cell::RefCell;
 use std::env::Env;
 use std::mem::drop;
-use std::net::SocketAddr;
 use streams::{Sink, Watched, WriteFailed};
 
 /// Why the command ends with a fault, by how its desk's process ended and whether its keyboard failed. Where its scorer
@@ -121,11 +124,11 @@ fn tell_dropped<K: Keys, C: Clock, W: Sink>(
 
 /// Waits until all that was written to a desk's screen is taken, and tells whether it is. Where a write of it failed, no other
 /// one is made.
-fn is_seen(screen: Watched<DeskScreen<'_, '_>>) -> bool {
-    !screen.has_failed() && screen.into_inner().output.end().is_ok()
+fn is_seen(screen: Watched<DeskScreen<'_, '_>>, had_failed: bool) -> bool {
+    !had_failed && !screen.has_failed() && screen.into_inner().output.end().is_ok()
 }
 
-/// The command's answer, where its screen was read whole or wasn't.
+/// The command's answer, where its screen was read whole or wasn't: it has no fault only where its scorer stopped the desk.
 fn answer_of<'a>(
     ended: Result<(), LifeEnd>,
     keyboard_failed: bool,
@@ -133,7 +136,9 @@ fn answer_of<'a>(
     file: &'a str,
     copy: Option<&'a str>,
     lasts: &[LastFault; 2],
-) -> Result<bool, Stopped<'a>> {
+) -> Result<bool, Stopped<'a>>
+    ensures { IfOk result (λ refused. (refused ≡ false) × (ends.stop_of ended keyboard_failed ≡ None)) }
+{
     match answer(ended, keyboard_failed, file) {
         Ok(_) if !is_seen => Err(Stopped::at("-", StopFault::Write)),
         Ok(refused) => Ok(refused),
@@ -154,75 +159,96 @@ fn wide_sheet_at<'a>(
     rt: &HostRuntime,
     path: &'a str,
     columns: Option<Columns>,
-) -> Result<MatchSheet, Stopped<'a>> {
-    let mut sheet = short_sheet_at(rt, path)?;
+) -> Result<SheetFile<'a>, Stopped<'a>>
+    ensures path { IfOk result (λ file. file.path.now ≡ path.now) }
+    ensures sheet { IfOk result (λ file. IsWideSheetOf (file.text).value.items file.sheet) }
+{
+    let mut file = sheet_file_at(rt, path)?;
     if let Some(columns) = columns.or(terminals_columns(rt)) {
-        sheet.set_columns(columns);
+        file.sheet.set_columns(columns);
     }
-    Ok(sheet)
+    Ok(file)
+}
+
+/// What comes of a desk that was kept: its life, and its command's answer.
+#[derive(Drop)]
+pub struct Ended<'a> {
+    pub life: Life<'a>,
+    pub answer: Result<bool, Stopped<'a>>,
 }
 
 /// `ground desk`: keeps a scorer's desk with its votes in a file, and in a copy, where one is named, listening at an address,
 /// until the scorer types `quit` or no more. Then, with its files and its address free, it waits until its screen is read. Its
-/// datagrams are sealed with the sheet and the key in a file, where one is named. The scorer has a page at an address, where
-/// one is given, and rows of so many columns, or else of the terminal's, or of 80.
+/// datagrams are sealed with the sheet and the key in a file, where one is named. Where it is refused before it begins, there
+/// is no life.
 #[inline(never)]
 pub fn start_desk<'a>(
-    rt: &HostRuntime,
-    sheet_path: &'a str,
-    desk: DeskId,
-    file: &'a str,
-    copy: Option<&'a str>,
-    at: Address<'a>,
-    peers: [Option<SocketAddr>; MOST_PEERS],
-    serve: Option<Address<'a>>,
-    key: Option<&'a str>,
-    columns: Option<Columns>,
-) -> Result<Life<'a>, Stopped<'a>>
-    ensures desk { IfOk result (λ life. desk_of life ≡ desk) }
-    ensures file { IfOk result (λ life. path_of life ≡ file.now) }
-    ensures copy { IfOk result (λ life. copy_of life ≡ option_copied copy.entry) }
+    rt: &'a HostRuntime,
+    setting: &DeskSetting<'a>,
+) -> Result<Ended<'a>, Stopped<'a>>
+    ensures desk { IfOk result (λ ended. desk_of ended.life ≡ setting.now.desk) }
+    ensures sheet { IfOk result (λ ended. sheet_path_of ended.life ≡ setting.now.sheet.now) }
+    ensures file { IfOk result (λ ended. path_of ended.life ≡ setting.now.file.now) }
+    ensures copy { IfOk result (λ ended. copy_of ended.life ≡ option_copied setting.now.copy) }
+    ensures answer { IfOk result (λ ended. IfOk ended.answer (λ refused.
+        (refused ≡ false) × WasStopped (traces_in ended.life).ended)) }
 {
-    let sheet = wide_sheet_at(rt, sheet_path, columns)?;
-    let sealing = Sealing::of(rt, &sheet, sheet_path, key)?;
+    let file = setting.file;
+    let copy = setting.copy;
+    let source = wide_sheet_at(rt, setting.sheet, setting.columns)?;
+    let sheet = &source.sheet;
+    let sealing = Sealing::of(
+        rt,
+        sheet,
+        setting.sheet,
+        station_of(setting.desk),
+        setting.key,
+    )?;
     let errors = RefCell::new(errors_at(rt)?);
-    let page = Page::at(rt, serve)?;
+    let page = Page::at(rt, setting.serve)?;
     let scorers = page.scorers();
-    let out = Watched::new(DeskScreen {
+    let screen = DeskScreen {
         output: output_at(rt)?,
         errors: &errors,
         page: scorers,
-    });
-    let lines = PageLines {
-        page: scorers,
-        errors: Shared::of(&errors),
     };
+    let lines = PageLines::of(scorers, Shared::of(&errors));
     let keyboard = Keyboard::of_standard_input(rt, lines);
     let ends = page.ends_with(keyboard.descriptor());
     let squares = PageSquares::of(rt, &page, Shared::of(&errors));
     let keys = Ahead::new(PageWords::of(keyboard, squares), MonotonicClock::new(rt));
+    let width = sheet.columns();
     let lasts = [LastFault::new(None), LastFault::new(None)];
-    let book = empty_book(rt, &sheet)?;
-    let disk = desk_disk_at(rt, &sheet, desk, file, copy, &lasts)?;
-    let sealed = sealing.sealed_at(rt, at, peers, ends, Shared::of(&errors))?;
+    let book = empty_book(rt, sheet)?;
+    let disk = desk_disk_at(rt, sheet, setting.desk, file, copy, &lasts)?;
+    let sealed = sealing.sealed_at(rt, setting.at, setting.peers, ends, Shared::of(&errors))?;
     let link = sealing.link_over(rt.alloc(), MonotonicClock::new(rt), sealed);
     let _ = sealing.tell_fingerprints(&mut Shared::of(&errors));
     page.tell(rt, PageWord::Square, &mut Shared::of(&errors));
     let Kept {
-        ended,
         life,
-        link,
         mut keys,
         mut out,
+        has_failed,
     } = keep_on(
-        rt, disk, desk, book, &sheet, link, keys, out, scorers, file, copy,
+        rt,
+        disk,
+        setting.desk,
+        book,
+        source,
+        link,
+        keys,
+        screen,
+        scorers,
+        file,
+        copy,
     );
-    drop(link);
-    let _ = tell_dropped(&mut out, sheet.columns(), ended, &mut keys);
-    let is_seen = is_seen(out);
+    let ended = life.ended();
+    let _ = tell_dropped(&mut out, width, ended, &mut keys);
+    let is_seen = is_seen(out, has_failed);
     let keyboard_failed = keys.keys().keys().has_failed();
     drop(keys);
     let _ = errors.into_inner().end();
-    let _ = answer_of(ended, keyboard_failed, is_seen, file, copy, &lasts)?;
-    Ok(life)
+    let answer = answer_of(ended, keyboard_failed, is_seen, file, copy, &lasts);
+    Ok(Ended { life, answer })
 }

@@ -1,6 +1,7 @@
 //! The disk of a desk's votes: on which files it is, and what was read of them.
 
 ghost use Rattle.std.specs.Prelude.{◌≡◌, [], IfOk, option_copied};
+ghost use Rattle.desk_command.specs.Disks as shows;
 ghost use Rattle.desk_command.specs.OnFiles.{AreOnFiles, IsOnFile, IsOnFiles};
 ghost use Rattle.setup.specs.Files.{WasRead};
 
@@ -8,7 +9,7 @@ use agree_core::DeskId;
 use cards::MatchSheet;
 use corrections::CheckedBook;
 use desk::restore::Restoring;
-use entry_log::Slots;
+use entry_log::{Disk, DiskFault, Slots};
 use machine_files::{Cause, FileDisk, LastFault, Name, NoFile, WriteFault, is_same_file};
 use setup::{
     CopiedDisk, Kept, StopFault, Stopped, VotesDisk, compared, empty_disk, kept_votes, paired_disk,
@@ -135,6 +136,53 @@ fn copied_disk_at<'r, 'a>(
 pub enum DeskDisk<'r> {
     One(VotesDisk<'r>),
     Two(CopiedDisk<'r>),
+}
+
+impl Disk for DeskDisk<'_> {
+    ghost seen = { shows.file_of };
+
+    ghost images = { shows.images_of };
+
+    ghost faults = { shows.faults_of };
+
+    ghost cap = { shows.cap_of };
+
+    ghost seen_is_image = { shows.is_image };
+
+    fn len(&mut self) -> Result<usize, DiskFault> {
+        match self {
+            DeskDisk::One(disk) => disk.len(),
+            DeskDisk::Two(disk) => disk.len(),
+        }
+    }
+
+    fn read_at(&mut self, at: usize, buffer: &mut [u8]) -> Result<(), DiskFault> {
+        match self {
+            DeskDisk::One(disk) => disk.read_at(at, buffer),
+            DeskDisk::Two(disk) => disk.read_at(at, buffer),
+        }
+    }
+
+    fn write_at(&mut self, at: usize, bytes: &[u8]) -> Result<(), DiskFault> {
+        match self {
+            DeskDisk::One(disk) => disk.write_at(at, bytes),
+            DeskDisk::Two(disk) => disk.write_at(at, bytes),
+        }
+    }
+
+    fn cut(&mut self, len: usize) -> Result<(), DiskFault> {
+        match self {
+            DeskDisk::One(disk) => disk.cut(len),
+            DeskDisk::Two(disk) => disk.cut(len),
+        }
+    }
+
+    fn sync(&mut self) -> Result<(), DiskFault> {
+        match self {
+            DeskDisk::One(disk) => disk.sync(),
+            DeskDisk::Two(disk) => disk.sync(),
+        }
+    }
 }
 
 /// The disk of a desk's votes, where one file's calls leave why they failed, and the other's.

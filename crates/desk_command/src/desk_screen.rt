@@ -3,6 +3,8 @@
 ghost use Rattle.std.specs.Prelude.{Some};
 ghost use Rattle.machine.specs.Screens.{written_of};
 
+use crate::life::Recorded;
+use machine::Written;
 use station_pages::ScorersPage;
 use station_screens::{Errors, Output, retry};
 use std::cell::RefCell;
@@ -50,5 +52,11 @@ impl Write for DeskScreen<'_, '_> {
         show(self.page);
         retry(self.errors);
         self.output.flush()
+    }
+}
+
+impl Recorded for DeskScreen<'_, '_> {
+    fn written(&self) -> Written {
+        self.output.written()
     }
 }

@@ -1,41 +1,70 @@
 //! The process of a desk on this machine: there is a life of a desk only where its process was kept.
 
-ghost use Rattle.std.specs.Prelude.{◌≡◌, [], option_copied};
-ghost use Rattle.links.specs.Logs.{inputs_of};
+ghost use Rattle.std.specs.Prelude.{◌≡◌, [], Some, option_copied};
 ghost use Rattle.ahead.specs.Ahead.{given_of};
-ghost use Rattle.desk_command.specs.Keeping.{LivesOn, LivesOnDisk, WasKept};
+ghost use Rattle.machine.specs.Screens.{text_of};
+ghost use Rattle.streams.specs.Watched.{stream_of};
+ghost use Rattle.desk_command.specs.Keeping.{LivesOn, WasKept};
 ghost use Rattle.desk_command.specs.OnFiles.{IsOnFiles};
+ghost use Rattle.desk_command.specs.Traces.{IsWideSheetOf, WasEntered, traces_of};
 
 use crate::desk_disk::DeskDisk;
 use agree_core::DeskId;
 use ahead::Ahead;
 use cards::MatchSheet;
 use corrections::CheckedBook;
-use entry_log::{Disk, Slots};
-use links::{Clock, InputLog, Keys, Link};
+use entry_log::Slots;
+use links::{Clock, InputLog, Keys, Link, Log, Window};
 use live::{LifeEnd, Outside, keep_desk};
-use machine::MonotonicClock;
-use station_pages::{Attended, PageSight, PageWords, ScorersPage, Squares};
+use machine::{Keyboard, MonotonicClock, Written};
+use posts::PostedLog;
+use seal::CarriedLog;
+use setup::{SheetFile, StationLink};
+use station_pages::{Attended, PageLines, PageSight, PageWords, ScorersPage, Squares};
 use std::cell::RefCell;
+use std::io::{Read, Write};
 use std::snapshot::Snapshot;
 use streams::{Sink, Watched};
 
-/// The life of a desk: its letter, the paths of its votes file and of its copy, where it has one, and what was typed at its
-/// keyboard and in its page but for the words of that, which clauses alone read.
+/// The life of a desk: its letter, the paths of its sheet, of its votes file and of its copy, where it has one, and how it ended.
+/// Of what it had to do with clauses alone read: the bytes of its sheet, what was read of them, what was typed but for the words of
+/// its page, all that its scorer entered with those, the lines of it that were posted in the page, what it said and heard, what
+/// passed for that at its socket, and what was written to its screen.
 #[derive(Drop)]
 pub struct Life<'a> {
     desk: DeskId,
+    sheet_path: &'a str,
     file: &'a str,
     copy: Option<&'a str>,
+    ended: Result<(), LifeEnd>,
+    text: Snapshot<Vec<u8>>,
+    sheet: Snapshot<MatchSheet>,
     typed: Snapshot<InputLog>,
-    pub ghost kept: { ∥ WasKept desk file.now (option_copied copy) (inputs_of typed.value) ∥₁ },
+    entered: Snapshot<InputLog>,
+    posted: Snapshot<PostedLog>,
+    passed: Snapshot<Log>,
+    carried: Snapshot<CarriedLog>,
+    told: Written,
+    pub ghost read: { ∥ IsWideSheetOf text.value.items sheet.value ∥₁ },
+    pub ghost entries: { WasEntered typed.value entered.value posted.value },
+    pub ghost kept: { ∥ WasKept desk file.now (option_copied copy)
+        (traces_of sheet.value typed.value passed.value carried.value told ended) ∥₁ },
+}
+
+impl Life<'_> {
+    /// How it ended.
+    pub fn ended(&self) -> Result<(), LifeEnd>
+        ensures { result ≡ self.now.ended }
+    {
+        self.ended
+    }
 }
 
 /// Keeps the desk's process on this disk, until it ends.
 #[inline(never)]
-fn keep<D: Disk + Drop, L: Link, K: Keys, C: Clock, W: Sink>(
+fn keep<L: Link, K: Keys, C: Clock, W: Sink>(
     rt: &HostRuntime,
-    disk: D,
+    disk: DeskDisk<'_>,
     desk: DeskId,
     book: CheckedBook,
     sheet: &MatchSheet,
@@ -44,11 +73,14 @@ fn keep<D: Disk + Drop, L: Link, K: Keys, C: Clock, W: Sink>(
 ) -> Result<(), LifeEnd>
     requires empty { book.entries ≡ [] }
     requires innings { book.innings_a_side ≡ sheet.now.innings }
+    requires unsaid { L.log outside.old.link ≡ [] }
     requires untyped { K.inputs outside.old.keys ≡ [] }
-    ensures { LivesOn D.seen D.images D.faults D.cap sheet.now desk disk (K.inputs outside.new.keys) }
+    requires untold { W.contents (stream_of outside.old.out) ≡ Some [] }
+    ensures { LivesOn sheet.now desk disk.entry
+        (L.log outside.new.link) (K.inputs outside.new.keys) (W.contents (stream_of outside.new.out)) result }
 {
     let mut sight = PageSight::new(rt.alloc(), desk, page);
-    keep_desk::<Slots<D>, CheckedBook, _, _, _, _, _>(
+    keep_desk::<Slots<DeskDisk<'_>>, CheckedBook, _, _, _, _, _>(
         rt.alloc(),
         disk,
         desk,
@@ -60,59 +92,102 @@ fn keep<D: Disk + Drop, L: Link, K: Keys, C: Clock, W: Sink>(
     )
 }
 
-/// The same, on the disk of a desk's file alone or on that of it and its copy.
-fn keep_on_disk<L: Link, K: Keys, C: Clock, W: Sink>(
-    rt: &HostRuntime,
-    disk: DeskDisk<'_>,
-    desk: DeskId,
-    book: CheckedBook,
-    sheet: &MatchSheet,
-    outside: &mut Outside<L, K, C, W>,
-    page: Option<&RefCell<ScorersPage>>,
-) -> Result<(), LifeEnd>
-    requires empty { book.entries ≡ [] }
-    requires innings { book.innings_a_side ≡ sheet.now.innings }
-    requires untyped { K.inputs outside.old.keys ≡ [] }
-    ensures { LivesOnDisk sheet.now desk disk.entry (K.inputs outside.new.keys) }
-{
-    match disk {
-        DeskDisk::One(disk) => keep(rt, disk, desk, book, sheet, outside, page),
-        DeskDisk::Two(disk) => keep(rt, disk, desk, book, sheet, outside, page),
+/// A link that tells what it said and heard, and what its socket carried for that. Clauses alone read both.
+pub trait Carries: Link {
+    ghost use Rattle.std.specs.Prelude.{◌≡◌};
+    ghost use Rattle.links.specs.Logs.{passed_of};
+    ghost use Rattle.seal.specs.Carried.{carried_of};
+    ghost use Rattle.setup.specs.Carried.{WasCarried};
+
+    /// What it said and heard.
+    fn passed(&self) -> &Log
+        ensures { passed_of result.now ≡ Self.log self.now };
+
+    /// What its socket carried.
+    fn carried(&self) -> &CarriedLog
+        ensures { WasCarried (Self.log self.now) (carried_of result.now) };
+}
+
+impl<E: Write + Drop> Carries for StationLink<'_, E> {
+    fn passed(&self) -> &Log {
+        Window::passed(self)
+    }
+
+    fn carried(&self) -> &CarriedLog {
+        self.link().carrier().passed()
     }
 }
 
-/// What comes of a desk's process that was kept: how it ended, its life, and what it worked with.
-pub struct Kept<'a, L: Link, K: Keys, W: Sink> {
-    pub ended: Result<(), LifeEnd>,
-    pub life: Life<'a>,
-    pub link: L,
-    pub keys: K,
-    pub out: Watched<W>,
+/// A scorer's keys that tell all that was entered, and which lines of it were posted in the page. Clauses alone read both.
+pub trait Enters: Keys {
+    ghost use Rattle.std.specs.Prelude.{◌≡◌};
+    ghost use Rattle.links.specs.Logs.{elsewhere_of, inputs_of};
+    ghost use Rattle.posts.specs.PostedLogs.{lines_of};
+
+    /// All that was entered, and the lines of the page in it.
+    fn entered(&self) -> (&InputLog, &PostedLog)
+        ensures inputs { inputs_of result.0.now ≡ Self.inputs self.now }
+        ensures posted { elsewhere_of result.0.now ≡ lines_of result.1.now };
 }
 
-/// The same, of a scorer who types at a keyboard and in a page, and nothing yet: with the life that the desk had.
-pub fn keep_on<'a, L: Link, K: Keys, S: Squares, C: Clock, W: Sink>(
+impl<R: Read, E: Write> Enters for Keyboard<R, PageLines<'_, E>> {
+    fn entered(&self) -> (&InputLog, &PostedLog) {
+        (self.given(), self.more().posted())
+    }
+}
+
+/// A screen that tells what was written to it.
+pub trait Recorded: Write {
+    ghost use Rattle.std.specs.Prelude.{◌≡◌, Some};
+    ghost use Rattle.machine.specs.Screens.{text_of};
+
+    /// What was written to it, which clauses alone read.
+    fn written(&self) -> Written
+        ensures { Self.contents self.now ≡ Some (text_of result) };
+}
+
+/// What comes of a desk's process that was kept: its life, its scorer's lines, and its screen, with whether a write of it has failed.
+/// Its socket is closed.
+pub struct Kept<'a, K: Keys, W> {
+    pub life: Life<'a>,
+    pub keys: K,
+    pub out: Watched<W>,
+    pub has_failed: bool,
+}
+
+/// Keeps the process of a desk whose scorer types at a keyboard and in a page, and nothing yet: with the life that the desk had.
+pub fn keep_on<'a, L: Carries + Drop, K: Enters, S: Squares, C: Clock, W: Recorded>(
     rt: &HostRuntime,
     disk: DeskDisk<'_>,
     desk: DeskId,
     book: CheckedBook,
-    sheet: &MatchSheet,
+    source: SheetFile<'a>,
     link: L,
     keys: Ahead<PageWords<K, S>, C>,
-    out: Watched<W>,
+    screen: W,
     page: Option<&RefCell<ScorersPage>>,
     file: &'a str,
     copy: Option<&'a str>,
-) -> Kept<'a, L, Ahead<PageWords<K, S>, C>, W>
+) -> Kept<'a, Ahead<PageWords<K, S>, C>, W>
     requires empty { book.entries ≡ [] }
-    requires innings { book.innings_a_side ≡ sheet.now.innings }
+    requires innings { book.innings_a_side ≡ (source.sheet).innings }
+    requires read { IsWideSheetOf (source.text).value.items source.sheet }
+    requires unsaid { L.log link ≡ [] }
     requires untyped { given_of (keys.queue).log ≡ [] }
+    requires untold { W.contents screen ≡ Some [] }
     requires on { IsOnFiles file.now (option_copied copy) disk }
     ensures desk { (result.life).desk ≡ desk }
     ensures file { (result.life).file.now ≡ file.now }
     ensures copy { option_copied (result.life).copy ≡ option_copied copy.entry }
+    ensures sheet { (result.life).sheet_path.now ≡ source.entry.path.now }
     ensures typed { ((result.life).typed).value ≡ ((result.keys).keys).given }
+    ensures told { W.contents (stream_of result.out) ≡ Some (text_of (result.life).told) }
 {
+    let SheetFile {
+        path: sheet_path,
+        text,
+        sheet,
+    } = source;
     let clock = Attended {
         clock: MonotonicClock::new(rt),
         page,
@@ -121,27 +196,37 @@ pub fn keep_on<'a, L: Link, K: Keys, S: Squares, C: Clock, W: Sink>(
         link,
         keys,
         clock,
-        out,
+        out: Watched::new(screen),
     };
-    let ended = keep_on_disk(rt, disk, desk, book, sheet, &mut outside, page);
+    let ended = keep(rt, disk, desk, book, &sheet, &mut outside, page);
     let Outside {
         link,
         keys,
         clock: _clock,
         out,
     } = outside;
-    let typed = Snapshot::of(keys.keys().given());
+    let has_failed = out.has_failed();
+    let screen = out.into_inner();
+    let (entered, posted) = keys.keys().keys().entered();
     let life = Life {
         desk,
+        sheet_path,
         file,
         copy,
-        typed,
+        ended,
+        text,
+        sheet: Snapshot::of(&sheet),
+        typed: Snapshot::of(keys.keys().given()),
+        entered: Snapshot::of(entered),
+        posted: Snapshot::of(posted),
+        passed: Snapshot::of(link.passed()),
+        carried: Snapshot::of(link.carried()),
+        told: screen.written(),
     };
     Kept {
-        ended,
         life,
-        link,
         keys,
-        out,
+        out: Watched::new(screen),
+        has_failed,
     }
 }

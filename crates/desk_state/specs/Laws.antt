@@ -1,6 +1,6 @@
--- What a desk's state shows of its book, and that the Laws take what it offers. s is the sheet, n the innings a side and h
+-- What a desk's state shows of its book, what its news are, and that the Laws take what it offers. s is the sheet, n the innings a side and h
 -- the history.
-use Rattle.std.specs.Prelude.{◌≡◌, ◌⊎◌, ℕ, ◌<◌, ◌≤◌, true, false, None, List, map, reverse}
+use Rattle.std.specs.Prelude.{◌≡◌, ◌⊎◌, ℕ, ◌<◌, ◌≤◌, true, false, None, List, [], ◌∷◌, ◌++◌, map, reverse, take, drop}
 use Rattle.notation.specs.declared.entry.{TheConstants.PLACES, Plain.Plain, Entry.Entry}
 use Rattle.notation.specs.declared.entry.Side.TheVariants.{Home, Away}
 use Rattle.ball_laws.specs.History.{History}
@@ -15,10 +15,17 @@ use Rattle.desk_state.specs.declared.wants.Wants.{Wants}
 use Rattle.desk_state.specs.Wants.{wants}
 use Rattle.desk_state.specs.Players.{dot_of, may_bowl, may_come_in}
 use Rattle.desk_state.specs.Over.{over_shown}
+use Rattle.desk_state.specs.Book.{book_items, news_from}
 
 -- The deliveries of `over` are those of the over in which the last delivery of the innings was bowled, in their order.
 abbrev pub ShowsTheOver : List Entry → Type 0
 ShowsTheOver book = map (λ d. d.ball) (over_shown book) ≡ reverse (over_now (history_of book))
+
+-- Who has what stood in a book, and puts the news of its next entry in the stead of all from there on, has what stands then.
+abbrev pub IsSpliced : List Entry → Entry → Type 0
+IsSpliced book e =
+    take (news_from (book ++ e ∷ [])) (book_items book) ++ drop (news_from (book ++ e ∷ [])) (book_items (book ++ e ∷ []))
+    ≡ book_items (book ++ e ∷ [])
 
 -- Who may come in isn't refused; nor is, with both batters in, a delivery of who may bowl. While the match has room, the call
 -- of over isn't refused where it is wanted, and where an innings is wanted a side may begin one.

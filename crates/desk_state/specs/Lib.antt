@@ -2,6 +2,7 @@
 pub mod Wants
 pub mod Players
 pub mod Over
+pub mod Book
 pub mod Sides
 pub mod Head
 pub mod Value

@@ -15,6 +15,7 @@ use Rattle.scoreboard.specs.Value.{board_value}
 use Rattle.desk_state.specs.Wants.{wants, wants_text}
 use Rattle.desk_state.specs.Players.{batters, bowlers, numbers_value}
 use Rattle.desk_state.specs.Over.{over_shown, over_field}
+use Rattle.desk_state.specs.Book.{news_field}
 use Rattle.desk_state.specs.Sides.{sides_field}
 use Rattle.desk_state.specs.Head.{head_fields, whose_fields}
 
@@ -30,6 +31,7 @@ abbrev pub book_fields : Sheet → ℕ → List Entry → List Field
 book_fields s n book =
     next_fields s n (history_of book)
     ++ over_field (over_shown book) ∷ []
+    ++ news_field book ∷ []
     ++ sides_field s ∷ []
     ++ (codes "board", board_value s n book) ∷ []
 

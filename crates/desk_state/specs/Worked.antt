@@ -1,6 +1,6 @@
 -- Worked rows, computed from the overs of limits' scorecard: 7 bowls the first over and the third, 8 and 9 the second, of two
 -- that a bowler may have; Away need 12 more after an over of their innings.
-use Rattle.std.specs.Prelude.{◌≡◌, ℕ, List, [], ◌∷◌, map}
+use Rattle.std.specs.Prelude.{◌≡◌, ℕ, List, [], ◌∷◌, ◌++◌, map, codes}
 use Rattle.notation.specs.declared.entry.Side.TheVariants.{Home}
 use Rattle.notation.specs.declared.entry.Kind.TheVariants.{Bat}
 use Rattle.notation.specs.declared.entry.How.TheVariants.{Bowled}
@@ -19,6 +19,7 @@ use Rattle.desk_state.specs.declared.wants.Wants.{Wants}
 use Rattle.desk_state.specs.Wants.{wants}
 use Rattle.desk_state.specs.Players.{batters, bowlers}
 use Rattle.desk_state.specs.Over.{over_shown}
+use Rattle.desk_state.specs.Book.{book_text, news_from}
 
 abbrev pub begun : History
 begun = Innings Home ∷ []
@@ -70,6 +71,20 @@ abbrev pub called_book : List Entry
 called_book =
     Write (Innings Home) ∷ Write (Come 1) ∷ Write (Come 2) ∷ Write (run 7 1) ∷ Write (dot 7) ∷ Late 3 (run 7 2) ∷ Write Over
     ∷ Fix 3 Plain.Void ∷ []
+
+-- what a page has of the first of them, and of its correction: 1 runs one, and so 2 faces what follows
+abbrev pub late_text : List ℕ
+late_text =
+    codes "{\"entries\":7,\"items\":[{\"place\":0,\"line\":\"innings home\",\"by\":null},"
+    ++ codes "{\"place\":1,\"line\":\"in 1\",\"by\":null},{\"place\":2,\"line\":\"in 2\",\"by\":null},"
+    ++ codes "{\"place\":3,\"line\":\"ball 7 bat 1\",\"innings\":1,\"over\":1,\"ball\":1,\"batter\":1,\"bowler\":7,\"mark\":\"1\",\"by\":null},"
+    ++ codes "{\"place\":5,\"line\":\"ball 7 bat 2\",\"innings\":1,\"over\":1,\"ball\":2,\"batter\":2,\"bowler\":7,\"mark\":\"2\",\"by\":null},"
+    ++ codes "{\"place\":4,\"line\":\"ball 7 bat 0 four\",\"innings\":1,\"over\":1,\"ball\":3,\"batter\":2,\"bowler\":7,\"mark\":\"4\",\"by\":6}]}\n"
+
+pub record WorkedBook : Type 0 where
+  pub text : book_text late_book ≡ late_text
+  pub empty : book_text [] ≡ codes "{\"entries\":0,\"items\":[]}\n"
+  pub news : news_from [] ∷ news_from late_book ∷ news_from called_book ∷ [] ≡ 0 ∷ 5 ∷ 3 ∷ []
 
 abbrev pub places : List Entry → List ℕ
 places book = map (λ d. d.place) (over_shown book)

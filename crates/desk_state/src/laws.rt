@@ -1,16 +1,23 @@
-//! What a desk's state shows of its book, and that the Laws take what it offers.
+//! What a desk's state shows of its book, what its news are, and that the Laws take what it offers.
 //!
 //! These functions do nothing: they stand for the laws that they ensure.
 
-ghost use Rattle.std.specs.Prelude.{ℕ, List};
+ghost use Rattle.std.specs.Prelude.{◌≡◌, ℕ, List, None};
 ghost use Rattle.notation.specs.declared.entry.Entry.{Entry};
 ghost use Rattle.ball_laws.specs.History.{History};
+ghost use Rattle.corrections.specs.Legal.{IsLegalBook};
+ghost use Rattle.corrections.specs.Refusal.{book_refusal};
 ghost use Rattle.cards.specs.Sheet.{Sheet};
-ghost use Rattle.desk_state.specs.Laws.{IsTaken, ShowsTheOver};
+ghost use Rattle.desk_state.specs.Laws.{IsSpliced, IsTaken, ShowsTheOver};
 
 /// The deliveries that are shown with their places are those of the Laws' over.
 pub fn the_over_is_shown()
     ensures { (book : List Entry) → ShowsTheOver book }
+{}
+
+/// The news of an entry that is taken, put behind what comes before them of what stood, are what stands with it.
+pub fn news_are_spliced()
+    ensures { (n : ℕ) (book : List Entry) (e : Entry) → IsLegalBook n book → book_refusal n book e ≡ None → IsSpliced book e }
 {}
 
 /// What a state offers, the Laws take: a batter, a bowler's delivery, the call of over, an innings.

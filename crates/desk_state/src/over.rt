@@ -14,7 +14,7 @@ use json_fields::{
 use std::alloc::{AllocError, Global};
 
 /// The text of a mark.
-fn text_of(alloc: Global, mark: Mark) -> Result<String, AllocError>
+pub fn text_of(alloc: Global, mark: Mark) -> Result<String, AllocError>
     ensures { IfOk result (λ text. string_bytes text ≡ marks.mark_text mark) }
 {
     match mark {

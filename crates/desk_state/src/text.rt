@@ -2,9 +2,10 @@
 
 ghost use Rattle.std.specs.Prelude.{◌≡◌, IfOk, IfSome};
 ghost use Rattle.notation.specs.Written.{IsEntry};
+ghost use Rattle.desk_state.specs.Book as book_laws;
 ghost use Rattle.desk_state.specs.Value as laws;
 
-use crate::value::{put_open, put_state};
+use crate::value::{put_all, put_open, put_state};
 use agree_core::{DeskId, Position};
 use cards::MatchSheet;
 use corrections::BookOf;
@@ -50,6 +51,19 @@ pub fn open_text<B: BookOf>(
 {
     let mut out = Compact::new(alloc);
     put_open(&mut out, alloc, sheet, book, desk, at)?;
+    let mut text = out.into_inner();
+    text.push(b'\n')?;
+    Ok(text)
+}
+
+/// All that stands in a book as one JSON value, and a newline: how many entries the book has, and in the order of the match
+/// each item with the place where it was entered, its line, and the place of what corrects it; a delivery with its innings,
+/// over and number there, who faces and who bowls, and its mark.
+pub fn book_text<B: BookOf>(alloc: Global, book: &B) -> Result<Vec<u8>, AllocError>
+    ensures { IfOk result (λ text. text.items ≡ book_laws.book_text (B.content book.now)) }
+{
+    let mut out = Compact::new(alloc);
+    put_all(&mut out, alloc, book)?;
     let mut text = out.into_inner();
     text.push(b'\n')?;
     Ok(text)

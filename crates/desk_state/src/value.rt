@@ -3,18 +3,21 @@
 ghost use Rattle.std.specs.Prelude.{◌≡◌, ◌∷◌, [], IfSome};
 ghost use Rattle.notation.specs.Written.{IsEntry};
 ghost use Rattle.json_fields.specs.Values.{PutsFields, PutsValues};
+ghost use Rattle.desk_state.specs.Book.{book_value};
 ghost use Rattle.desk_state.specs.Value as laws;
 
 use crate::board_field::put_board_field;
 use crate::deliveries::over_shown;
 use crate::head::{put_head, put_whose};
+use crate::items::put_items;
+use crate::news::{put_entries, put_news};
 use crate::next::put_next;
 use crate::over::put_over;
 use crate::sides::put_sides;
 use agree_core::{DeskId, Position};
 use cards::MatchSheet;
 use corrections::BookOf;
-use json_fields::{Compact, begin_object, end_object};
+use json_fields::{Compact, begin_array, begin_object, end_array, end_object};
 use links::HeldLine;
 use notation::Entry;
 use std::alloc::{AllocError, Global};
@@ -32,6 +35,7 @@ fn put_book<B: BookOf>(
     let over = over_shown(alloc, book)?;
     put_next(out, sheet, book)?;
     put_over(out, alloc, over.as_slice())?;
+    put_news(out, alloc, book)?;
     put_sides(out, sheet)?;
     put_board_field(out, alloc, sheet, book)
 }
@@ -72,5 +76,17 @@ pub fn put_open<B: BookOf>(
     begin_object(out)?;
     put_whose(out, sheet, desk, at)?;
     put_book(out, alloc, sheet, book)?;
+    end_object(out)
+}
+
+/// Puts all that stands in a book.
+pub fn put_all<B: BookOf>(out: &mut Compact, alloc: Global, book: &B) -> Result<(), AllocError>
+    ensures { PutsValues result out.old out.new (book_value (B.content book.now) ∷ []) }
+{
+    begin_object(out)?;
+    put_entries(out, book)?;
+    begin_array(out, "items")?;
+    put_items(out, alloc, book, 0)?;
+    end_array(out)?;
     end_object(out)
 }

@@ -81,7 +81,8 @@ rows Key =
     codes "" ∷
     codes "  ./ground key --to key.txt" ∷
     codes "" ∷
-    codes "  --to K  the file, which must not be there yet" ∷ []
+    codes "  --to K  the file, which must not be there yet; or a folder, for a.key, b.key" ∷
+    codes "          and board.key: each desk's own, and one for boards" ∷ []
 rows Check =
     codes "check: reads full lines from standard input, says which aren't taken and why," ∷
     codes "and prints the six lines of a board. It has no sheet, so players are numbers." ∷

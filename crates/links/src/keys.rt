@@ -1,7 +1,7 @@
 //! What a scorer types.
 
-ghost use Rattle.std.specs.Prelude.{◌≤◌, IfSome, List};
-ghost use Rattle.links.specs.Typing.{Input, IsTyped};
+ghost use Rattle.std.specs.Prelude.{ℕ, List};
+ghost use Rattle.links.specs.Typing.{GivesMore, Input, IsTyped};
 
 use crate::aside::{Aside, HeldLine};
 use crate::stand::Stand;
@@ -42,9 +42,12 @@ pub trait Keys {
 
 /// A scorer's lines from elsewhere than a keyboard, as from a page.
 pub trait MoreLines {
+    /// What it gave, the oldest first.
+    ghost given: { Self → List (List ℕ) };
+
     /// The next line for a desk that stands so, if there is one: the front of the buffer.
     fn next_line(&mut self, at: Stand, buffer: &mut LineBuffer) -> Option<usize>
-        ensures { IfSome result (λ count. count ≤ 128) };
+        ensures { GivesMore result buffer.new (given self.old) (given self.new) };
 
     /// Whether there is one.
     fn has_lines(&self) -> bool;

@@ -21,10 +21,9 @@ pub use aside::{Aside, HeldLine, HeldLines};
 pub use clock::Clock;
 pub use keys::{Keys, LINE_ROOM, LineBuffer, MoreLines, Typed};
 pub use link::{
-    Arrival, DatagramBuffer, Link, MOST_TAKEN, PeerLink, ROOM, Receivers, SEALED_ROOM,
-    SealedBuffer, SealedBytes, SealedCarrier, SharedLink, Taken,
+    Arrival, DatagramBuffer, Link, MOST_TAKEN, PeerLink, ROOM, Receivers, SharedLink, Taken,
 };
-pub use log::{CarriedLog, ClockLog, InputLog, Log};
+pub use log::{ClockLog, InputLog, Log};
 pub use sending::send_each;
 pub use stand::Stand;
 pub use window::{Window, what_passes_is_kept};

@@ -2,7 +2,7 @@
 
 ghost use Rattle.std.specs.Prelude.{◌≡◌, ◌∷◌, ◌++◌, List, []};
 ghost use Rattle.wire.specs.Layout.{Says};
-ghost use Rattle.links.specs.Passed.{Passed, Sent, IsRead, IsTaken, IsTakenUpTo, taken_of};
+ghost use Rattle.links.specs.Passed.{Passed, Sent, IsRead, IsTaken, taken_of};
 ghost use Rattle.links.specs.declared.link.Receivers.TheVariants.{ToAll, ToOne};
 
 use agree_core::{Asker, Message};
@@ -13,15 +13,6 @@ pub const ROOM: usize = 64;
 
 /// Room for a datagram that is taken.
 pub type DatagramBuffer = [u8; ROOM];
-
-/// A sealed datagram: a message's bytes, and the 16 of its tag.
-pub type SealedBytes = [u8; 64];
-
-/// How many bytes of a sealed datagram are taken at most: more than it has, so that a longer one is seen as such.
-pub const SEALED_ROOM: usize = 65;
-
-/// Room for a sealed datagram that is taken.
-pub type SealedBuffer = [u8; SEALED_ROOM];
 
 /// How many datagrams a station takes in a turn at most.
 pub const MOST_TAKEN: usize = 8;
@@ -119,33 +110,6 @@ pub trait PeerLink: Link {
 
     /// Which peer's datagram was taken last, as a number of its own.
     fn last_peer(&self) -> usize;
-}
-
-/// Carries sealed datagrams between a station and its peers. Nothing is known of what it loses, changes or makes up; only
-/// what was handed to it and what it gave is told.
-pub trait SealedCarrier {
-    /// What passed, as it was, the oldest first.
-    ghost carried: { Self → List Passed };
-
-    /// Sends a sealed datagram to every peer. What can't be sent is lost.
-    fn carry(&mut self, bytes: &SealedBytes)
-        ensures { carried self.new ≡ carried self.old ++ Sent ToAll bytes.now ∷ [] };
-
-    /// Sends a sealed datagram to the peer whose datagram was taken last, if to no other. What can't be sent is lost.
-    fn carry_back(&mut self, bytes: &SealedBytes)
-        ensures { carried self.new ≡ carried self.old ++ Sent ToOne bytes.now ∷ [] };
-
-    /// Sends a sealed datagram to the peer of this number, if there is one. What can't be sent is lost.
-    fn carry_to(&mut self, peer: usize, bytes: &SealedBytes)
-        ensures { carried self.new ≡ carried self.old ++ Sent ToOne bytes.now ∷ [] };
-
-    /// Which peer's datagram was taken last, as a number of its own.
-    fn last_peer(&self) -> usize;
-
-    /// Takes the next datagram that came from a peer: the front of the buffer. One is waited for, so many milliseconds at
-    /// most, and no longer than until a scorer may have typed. Others' datagrams, and those whose taking fails, are lost.
-    fn bring(&mut self, buffer: &mut SealedBuffer, wait: u64) -> Taken
-        ensures { IsTakenUpTo 65 result buffer.new (carried self.old) (carried self.new) };
 }
 
 /// A link that several stations share, each the others' peer, in turns.

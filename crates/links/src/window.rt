@@ -104,6 +104,7 @@ impl<L: PeerLink, C: Clock> Window<L, C> {
     ghost use Rattle.agree_core.specs.declared.messages.Ask.{Ask as AnAsk};
     ghost use Rattle.wire.specs.Layout.{Says};
     ghost use Rattle.wire.specs.Reading.{Reads};
+    ghost use Rattle.links.specs.Logs.{passed_of};
     ghost use Rattle.links.specs.Passed.{Sent};
     ghost use Rattle.links.specs.Windows.{AsksInTime, BringsVote, HandsDown, HasAnswers, HasSince, IsAsk, IsBrought, IsGrown, IsHanded, IsKept, IsQuietAt};
     ghost use Rattle.links.specs.Windows.{IsQuietUntilNews, IsSaid, IsStill, IsVote};
@@ -127,6 +128,21 @@ impl<L: PeerLink, C: Clock> Window<L, C> {
             silence: Silence::new(),
             log: Log::Empty,
         }
+    }
+
+    /// What its station has said and heard, which clauses alone read.
+    pub fn passed(&self) -> &Log
+        ensures { passed_of result.now ≡ self.now.above }
+    {
+        &self.log
+    }
+
+    /// The link below it: what that gave was given, and what it was handed had been said, but for asks.
+    pub fn link(&self) -> &L
+        ensures log { L.log result.now ≡ self.now.below }
+        ensures faithful { IsFaithful self.now.game self.now.above self.now.below }
+    {
+        &self.link
     }
 
     /// Notes what the station says, as it is read, and answers whether it is handed down.

@@ -1,6 +1,8 @@
 -- What a keyboard gives of what it reads.
-use Rattle.std.specs.Prelude.{◌≡◌, ◌==◌, ⊤, ℕ, Bool, true, false, nat_lt, List, [], ◌∷◌, ◌++◌, length, take, Option, None, Some, MatchOption, option_map, if◌then◌else◌}
+use Rattle.std.specs.Prelude.{◌≡◌, ◌⊎◌, ◌==◌, ⊤, ℕ, Bool, true, false, nat_lt, List, [], ◌∷◌, ◌++◌, length, take, Option, None, Some, MatchOption, option_map, if◌then◌else◌}
 use Rattle.std.specs.List.{position_or_len}
+use Rattle.links.specs.declared.keys.Typed.{Typed}
+use Rattle.links.specs.declared.keys.Typed.TheVariants.{Aside, Ended, Line, Nothing}
 use Rattle.machine.specs.declared.keyboard.Keyboard.{Keyboard}
 
 -- The lines of bytes of which these stand open before them: what stands before each newline, and of what is longer the first
@@ -26,7 +28,7 @@ abbrev pub left_of : Bool → List ℕ → Option (List ℕ) → Option (List (L
 left_of skips held known = option_map (λ bytes. lines_from skips [] (held ++ bytes)) known
 
 -- the lines that a keyboard gives from here on, where what its reader gives is known
-abbrev pub lines_left : {R M : Type 0} {g : _} → (R → Option (List ℕ)) → Keyboard R M g → Option (List (List ℕ))
+abbrev pub lines_left : {R M : Type 0} {g : _} {h : _} → (R → Option (List ℕ)) → Keyboard R M g h → Option (List (List ℕ))
 lines_left remaining k = left_of k.skips k.held.items (remaining k.reader)
 
 -- known lines stay
@@ -49,3 +51,12 @@ GivesLine count buffer old new = MatchOption count (KeepsLines old new) (λ n. L
 abbrev pub HasNoLines : Option (List (List ℕ)) → Type 0
 HasNoLines None = ⊤
 HasNoLines (Some xs) = xs ≡ []
+
+-- What it gives is the next line that was read, or, where none was, the next one from elsewhere. It ends once no line is left, or
+-- a read failed.
+abbrev pub Gives : Typed → List ℕ → Bool → Option (List (List ℕ)) → Option (List (List ℕ)) → List (List ℕ) → List (List ℕ) → Type 0
+Gives (Line count) buffer failed old new more after =
+    (GivesLine (Some count) buffer old new × (after ≡ more)) ⊎ (KeepsLines old new × (after ≡ more ++ take count buffer ∷ []))
+Gives Ended buffer failed old new more after = KeepsLines old new × (failed ≡ false → HasNoLines new) × (after ≡ more)
+Gives Nothing buffer failed old new more after = KeepsLines old new × (after ≡ more)
+Gives (Aside aside) buffer failed old new more after = ⊥

@@ -2,7 +2,12 @@
 use Rattle.std.specs.Prelude.{◌≡◌, ◌≤◌, ℕ, true, List, ◌++◌, drop, length, map}
 use Rattle.std.specs.List.{list_all}
 use Rattle.machine.specs.Rows.{are_whole, is_plain, plain, shown_in, written_in}
+use Rattle.machine.specs.declared.row_log.Written.{Written}
 use Rattle.machine.specs.declared.screen.Screen.{Screen}
+
+-- all that was written to a screen, by what it tells of it
+abbrev pub text_of : Written → List ℕ
+text_of written = written_in (written.rows).value ++ ((written.waits).value).items
 
 module _ {O : Type 0} {g : _} where
   -- all that was written to it: rows that are shown or left out, and then what waits

@@ -1,8 +1,9 @@
 //! A scorer's keyboard: standard input, read without waiting, and lines from elsewhere.
 
 ghost use Rattle.std.specs.Prelude.{◌≡◌, ◌≤◌, ◌<◌, ℕ, List, [], None, Some, IfSome, IsTrue, drop, false, length, take, true};
-ghost use Rattle.links.specs.Logs.{inputs_of};
+ghost use Rattle.links.specs.Logs.{elsewhere_of, inputs_of};
 
+use crate::entered::Entered;
 use arrayvec::ArrayVec;
 use libc::net::{POLLIN, poll};
 use libc::types::pollfd;
@@ -18,16 +19,15 @@ type Unread = ArrayVec<u8, LINE_ROOM>;
 /// what stands behind the last one is none. Of a line that is too long the front is given, and the rest passed over. Where
 /// none was typed, the next one from elsewhere is given, as if it were typed.
 #[derive(Drop)]
-pub struct Keyboard<R: Read, M> {
+pub struct Keyboard<R: Read, M: MoreLines> {
     reader: R,
-    more: M,
+    entered: Entered<M>,
     held: Unread,
     /// Whether the rest of a line that was too long is passed over.
     skips: bool,
     ended: bool,
     /// Whether a read failed, which ends the lines too.
     failed: bool,
-    given: InputLog,
     ghost at_end: { ended ≡ true → failed ≡ false → (bytes : List ℕ) → R.remaining reader ≡ Some bytes → bytes ≡ [] },
 }
 
@@ -57,11 +57,12 @@ impl Read for StandardInput {
     }
 }
 
-impl<M> Keyboard<StandardInput, M> {
+impl<M: MoreLines> Keyboard<StandardInput, M> {
     /// Standard input, from where it stands. It isn't opened anew and none of its flags is changed: so it may be a file, a
     /// pipe, a terminal or a socket of whomever, and stays as it is for other programs.
     pub fn of_standard_input(rt: &HostRuntime, more: M) -> Keyboard<StandardInput, M>
-        ensures { inputs_of result.given ≡ [] }
+        requires { M.given more ≡ [] }
+        ensures { inputs_of result.entered.given ≡ [] }
     {
         Keyboard::new(StandardInput { stream: rt.stdin() }, more)
     }
@@ -91,22 +92,22 @@ fn put(line: &[u8], buffer: &mut LineBuffer)
     buffer[..line.len()].copy_from_slice(line);
 }
 
-impl<R: Read, M> Keyboard<R, M> {
+impl<R: Read, M: MoreLines> Keyboard<R, M> {
     ghost use Rattle.machine.specs.Keyboards.{GivesLine, HasNoLines, KeepsLines, first_newline, left_of, lines_left};
 
     /// The lines of this reader, and these.
     pub fn new(reader: R, more: M) -> Keyboard<R, M>
+        requires { M.given more ≡ [] }
         ensures lines { lines_left R.remaining result ≡ left_of false [] (R.remaining reader) }
-        ensures given { inputs_of result.given ≡ [] }
+        ensures given { inputs_of result.entered.given ≡ [] }
     {
         Keyboard {
             reader,
-            more,
+            entered: Entered::of(more),
             held: ArrayVec::new(),
             skips: false,
             ended: false,
             failed: false,
-            given: InputLog::Empty,
         }
     }
 
@@ -115,7 +116,7 @@ impl<R: Read, M> Keyboard<R, M> {
         requires room { length self.old.held.items < 128 }
         requires going { self.old.ended ≡ false }
         ensures lines { KeepsLines (lines_left R.remaining self.old) (lines_left R.remaining self.new) }
-        ensures given { self.new.given ≡ self.old.given }
+        ensures entered { self.new.entered ≡ self.old.entered }
     {
         let mut read = [0; LINE_ROOM];
         let room = self.held.remaining_capacity();
@@ -144,7 +145,7 @@ impl<R: Read, M> Keyboard<R, M> {
         requires { first_newline self.old.held.items ≡ Some count }
         ensures count { IfSome result (λ count. count ≤ 128) }
         ensures lines { GivesLine result buffer.new (lines_left R.remaining self.old) (lines_left R.remaining self.new) }
-        ensures given { self.new.given ≡ self.old.given }
+        ensures entered { self.new.entered ≡ self.old.entered }
     {
         put(&self.held.as_slice()[..count], buffer);
         self.held = behind(&self.held, count + 1);
@@ -159,7 +160,7 @@ impl<R: Read, M> Keyboard<R, M> {
         requires full { length self.old.held.items ≡ 128 }
         ensures count { IfSome result (λ count. count ≤ 128) }
         ensures lines { GivesLine result buffer.new (lines_left R.remaining self.old) (lines_left R.remaining self.new) }
-        ensures given { self.new.given ≡ self.old.given }
+        ensures entered { self.new.entered ≡ self.old.entered }
     {
         put(self.held.as_slice(), buffer);
         self.held = ArrayVec::new();
@@ -172,7 +173,7 @@ impl<R: Read, M> Keyboard<R, M> {
     fn take_held(&mut self, buffer: &mut LineBuffer) -> Option<usize>
         ensures count { IfSome result (λ count. count ≤ 128) }
         ensures lines { GivesLine result buffer.new (lines_left R.remaining self.old) (lines_left R.remaining self.new) }
-        ensures given { self.new.given ≡ self.old.given }
+        ensures entered { self.new.entered ≡ self.old.entered }
     {
         match self.first_line() {
             Some(count) => self.take_line(count, buffer),
@@ -186,7 +187,7 @@ impl<R: Read, M> Keyboard<R, M> {
     fn next(&mut self, buffer: &mut LineBuffer) -> Option<usize>
         ensures count { IfSome result (λ count. count ≤ 128) }
         ensures lines { GivesLine result buffer.new (lines_left R.remaining self.old) (lines_left R.remaining self.new) }
-        ensures given { self.new.given ≡ self.old.given }
+        ensures entered { self.new.entered ≡ self.old.entered }
     {
         if self.first_line().is_none() && !self.held.is_full() && !self.ended {
             self.fill();
@@ -196,9 +197,17 @@ impl<R: Read, M> Keyboard<R, M> {
 
     /// What was given.
     pub fn given(&self) -> &InputLog
-        ensures { result.now ≡ self.now.given }
+        ensures { result.now ≡ self.now.entered.given }
     {
-        &self.given
+        self.entered.given()
+    }
+
+    /// The lines from elsewhere, of which each that was given is among these.
+    pub fn more(&self) -> &M
+        ensures more { result.now ≡ self.now.entered.more }
+        ensures each { elsewhere_of self.now.entered.given ≡ M.given result.now }
+    {
+        self.entered.more()
     }
 
     /// Whether a read failed.
@@ -221,26 +230,32 @@ impl<R: Read, M> Keyboard<R, M> {
 
 impl<R: Read, M: MoreLines> Keys for Keyboard<R, M> {
     ghost use Rattle.links.specs.Logs.{inputs_of};
+    ghost use Rattle.links.specs.Typing.{IsTyped};
+    ghost use Rattle.machine.specs.Keyboards.{Gives, lines_left};
 
-    ghost inputs = { λ keyboard. inputs_of keyboard.given };
+    ghost inputs = { λ keyboard. inputs_of keyboard.entered.given };
 
-    fn line(&mut self, at: Stand, buffer: &mut LineBuffer) -> Typed {
+    /// Each line that was typed comes as it was, in its turn.
+    fn line(&mut self, at: Stand, buffer: &mut LineBuffer) -> Typed
+        ensures typed { IsTyped result buffer.new (inputs_of self.old.entered.given) (inputs_of self.new.entered.given) }
+        ensures lines { Gives result buffer.new self.new.failed (lines_left R.remaining self.old) (lines_left R.remaining self.new)
+            (M.given self.old.entered.more) (M.given self.new.entered.more) }
+    {
         if let Some(count) = self.next(buffer) {
-            self.given = self.given.line(buffer, count);
+            self.entered.line(buffer, count);
             return Typed::Line(count);
         }
         if self.is_over() {
-            self.given = self.given.end();
+            self.entered.end();
             return Typed::Ended;
         }
-        if let Some(count) = self.more.next_line(at, buffer) {
-            self.given = self.given.line(buffer, count);
-            return Typed::Line(count);
+        match self.entered.next_line(at, buffer) {
+            Some(count) => Typed::Line(count),
+            None => Typed::Nothing,
         }
-        Typed::Nothing
     }
 
     fn has_more(&self) -> bool {
-        self.ended || self.first_line().is_some() || self.more.has_lines()
+        self.ended || self.first_line().is_some() || self.entered.has_lines()
     }
 }

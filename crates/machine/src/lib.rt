@@ -3,6 +3,7 @@
 #![tactic(auto)]
 
 mod address;
+mod entered;
 mod keyboard;
 mod monotonic_clock;
 mod peers;
@@ -15,6 +16,7 @@ pub use address::{Address, MOST_PEERS, addresses_in};
 pub use keyboard::Keyboard;
 pub use monotonic_clock::MonotonicClock;
 pub use peers::Peers;
+pub use row_log::Written;
 pub use screen::{Outlet, Pieces, Screen, StandardStream, draw};
 pub use sockets::Sockets;
 pub use waiting::WaitEnds;

@@ -4,8 +4,8 @@ ghost use Rattle.std.specs.Prelude.{◌≡◌, ◌≤◌, ◌⊎◌, ℕ, [], If
 
 use crate::address::MOST_PEERS;
 use crate::waiting::{NO_DESCRIPTOR, WaitEnds, wait_at};
-use links::{CarriedLog, ROOM, Receivers, SealedBuffer, SealedBytes, SealedCarrier, Taken};
-use seal::Seal;
+use links::{Receivers, Taken};
+use seal::{CarriedLog, Opener, SealedBuffer, SealedBytes, SealedCarrier, TaggedBytes, form_for};
 use std::io::{self, ErrorKind, Write};
 use std::net::{Net, SocketAddr, UdpSocket};
 use std::os::fd::AsRawFd;
@@ -114,8 +114,8 @@ struct Mail<E> {
     peers: [Option<SocketAddr>; MOST_PEERS],
     /// Whose datagram was taken last.
     last: Option<SocketAddr>,
-    /// What the match's datagrams are sealed with.
-    seal: Seal,
+    /// What tells of strangers' datagrams whether they are of the match. It can seal none.
+    opener: Opener,
     errors: E,
     /// To which peers the machine sends nothing now, as it was told.
     refused: [bool; MOST_PEERS],
@@ -149,26 +149,27 @@ impl<E: Write + Drop> Mail<E> {
         }
     }
 
-    /// Sends bytes to every peer, or to the one at an address.
-    fn send(&mut self, bytes: &SealedBytes, only: Option<SocketAddr>) {
+    /// Sends a message to every peer, or to the one at an address: to each with the tag that is for it.
+    fn send(&mut self, bytes: &TaggedBytes, only: Option<SocketAddr>) {
         for index in 0..MOST_PEERS {
             if let Some(address) = self.peers[index]
                 && is_meant(only, address)
             {
-                self.refused[index] = self.send_to(bytes, address, self.refused[index]);
+                let form = form_for(index, bytes);
+                self.refused[index] = self.send_to(&form, address, self.refused[index]);
             }
         }
     }
 
-    /// Sends bytes to the peer whose datagram was taken last.
-    fn send_back(&mut self, bytes: &SealedBytes) {
+    /// Sends a message to the peer whose datagram was taken last.
+    fn send_back(&mut self, bytes: &TaggedBytes) {
         if self.last.is_some() {
             self.send(bytes, self.last);
         }
     }
 
-    /// Sends bytes to the peer at this place.
-    fn send_one(&mut self, peer: usize, bytes: &SealedBytes) {
+    /// Sends a message to the peer at this place.
+    fn send_one(&mut self, peer: usize, bytes: &TaggedBytes) {
         if peer < MOST_PEERS && self.peers[peer].is_some() {
             self.send(bytes, self.peers[peer]);
         }
@@ -182,7 +183,7 @@ impl<E: Write + Drop> Mail<E> {
 
     /// Tells once that a datagram of the match, which opens, came from an address that isn't a peer's.
     fn pass_over(&mut self, bytes: &[u8], from: SocketAddr) {
-        if !self.is_stranger_told && self.seal.opened(bytes, &mut [0; ROOM]) {
+        if !self.is_stranger_told && self.opener.opens(bytes) {
             let _ = writeln!(self.errors, "not a peer: {from}");
             self.is_stranger_told = true;
         }
@@ -220,16 +221,16 @@ impl<E: Drop> Drop for Peers<E> {
 }
 
 impl<E: Write + Drop> Peers<E> {
-    ghost use Rattle.links.specs.Logs.{carried_of};
+    ghost use Rattle.seal.specs.Carried.{carried_of};
 
-    /// A socket at this address, in the match with this seal, of which no call waits without a limit. A
+    /// A socket at this address, in the match whose datagrams this opens, of which no call waits without a limit. A
     /// wait for datagrams ends for these too.
     pub fn new(
         net: &impl Net,
         at: SocketAddr,
         peers: [Option<SocketAddr>; MOST_PEERS],
         ends: WaitEnds,
-        seal: Seal,
+        opener: Opener,
         errors: E,
     ) -> io::Result<Peers<E>>
         ensures { IfOk result (λ peers. carried_of peers.log ≡ []) }
@@ -241,7 +242,7 @@ impl<E: Write + Drop> Peers<E> {
                 port,
                 peers,
                 last: None,
-                seal,
+                opener,
                 errors,
                 refused: [false; MOST_PEERS],
                 is_stranger_told: false,
@@ -249,24 +250,31 @@ impl<E: Write + Drop> Peers<E> {
             log: CarriedLog::Empty,
         })
     }
+
+    /// What passed at it, which clauses alone read.
+    pub fn passed(&self) -> &CarriedLog
+        ensures { result.now ≡ self.now.log }
+    {
+        &self.log
+    }
 }
 
 impl<E: Write + Drop> SealedCarrier for Peers<E> {
-    ghost use Rattle.links.specs.Logs.{carried_of};
+    ghost use Rattle.seal.specs.Carried.{carried_of};
 
     ghost carried = { λ peers. carried_of peers.log };
 
-    fn carry(&mut self, bytes: &SealedBytes) {
+    fn carry(&mut self, bytes: &TaggedBytes) {
         self.mail.send(bytes, None);
         self.log = self.log.sent(Receivers::ToAll, bytes);
     }
 
-    fn carry_back(&mut self, bytes: &SealedBytes) {
+    fn carry_back(&mut self, bytes: &TaggedBytes) {
         self.mail.send_back(bytes);
         self.log = self.log.sent(Receivers::ToOne, bytes);
     }
 
-    fn carry_to(&mut self, peer: usize, bytes: &SealedBytes) {
+    fn carry_to(&mut self, peer: usize, bytes: &TaggedBytes) {
         self.mail.send_one(peer, bytes);
         self.log = self.log.sent(Receivers::ToOne, bytes);
     }

@@ -67,3 +67,10 @@ impl TakenLog {
         )
     }
 }
+
+/// All that was written to a screen, as its rows and what waits behind them tell it.
+#[derive(Drop)]
+pub struct Written {
+    pub rows: Snapshot<RowLog>,
+    pub waits: Snapshot<Vec<u8>>,
+}

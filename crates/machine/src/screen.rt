@@ -4,7 +4,7 @@ ghost use Rattle.std.specs.Prelude.{◌≡◌, ◌++◌, ◌+◌, ◌-◌, ◌�
 ghost use Rattle.machine.specs.Rows as rows;
 ghost use Rattle.machine.specs.Rows.{are_whole, ends_row, lacks_last, shown_in};
 
-use crate::row_log::{RowLog, TakenLog};
+use crate::row_log::{RowLog, TakenLog, Written};
 use libc::net::{POLLOUT, poll};
 use libc::types::pollfd;
 use machine_files::may_have;
@@ -13,6 +13,7 @@ use std::fs;
 use std::io::{self, ErrorKind, Write};
 use std::os::fd::{AsRawFd, RawFd};
 use std::rt::{Stderr, Stdout};
+use std::snapshot::Snapshot;
 use waits::SCREEN_PIECE_WAIT;
 
 /// The most bytes of one write: a terminal or a pipe that says that it can be written has room for as many.
@@ -280,7 +281,7 @@ pub struct Screen<O: Outlet> {
 }
 
 impl<O: Outlet> Screen<O> {
-    ghost use Rattle.machine.specs.Screens.{shown_of, written_of};
+    ghost use Rattle.machine.specs.Screens.{shown_of, text_of, written_of};
 
     /// A screen over a stream that has taken nothing yet.
     pub fn new(alloc: Global, outlet: O) -> Result<Screen<O>, AllocError>
@@ -300,6 +301,16 @@ impl<O: Outlet> Screen<O> {
             takes: true,
             log: RowLog::Empty,
         })
+    }
+
+    /// What was written to it, which clauses alone read.
+    pub fn written(&self) -> Written
+        ensures { text_of result ≡ written_of self.now }
+    {
+        Written {
+            rows: Snapshot::of(&self.log),
+            waits: Snapshot::of(&self.waits),
+        }
     }
 
     /// Hands on a piece of what has begun, and tells how many bytes were taken within so many milliseconds.

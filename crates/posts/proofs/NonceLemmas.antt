@@ -10,6 +10,7 @@ use Rattle.agree_core.specs.declared.position.Position.{Position}
 use Rattle.screen.specs.Words.{is_end}
 use Rattle.posts.specs.Texts.{tag_of}
 use Rattle.posts.specs.Posts.{IsPostOf, IsTaken, after_check, checked, is_good_pass, is_line, is_out, is_same_place, is_tagged, line_in, line_of, line_of_post, out_after, out_after_pass, passed_by, stamped, used_by, verdict, with_given, without}
+use Rattle.posts.specs.Posted.{WasPosted}
 use Rattle.posts.specs.Runs.{Call, accepted, accepted_by, let_by}
 use Rattle.posts.specs.Runs.Call.{Give, Hide, Judge, Look, Renew}
 use Rattle.posts.specs.Veils.{desk_seed, stream_key, turned}
@@ -79,6 +80,20 @@ without_lacks n (x ∷ xs) = by_test (x == n) refl (without_lacks n xs)
     by_test true e rest = rest
     by_test false e rest = ap (λ t. t || is_out (without n xs) n) e ∙ rest
 
+pub posted : (secret out : List ℕ) (post : Post) (s : Stamp) (at : Position) (waiting : ℕ) (line : List ℕ)
+    → checked secret out post ≡ Ok s → line_of s (line_of_post secret post) at waiting ≡ Ok line → WasPosted secret out s at line
+posted secret out post s at waiting line h k =
+    let hidden = line_of_post secret post in
+    let known = is_checked secret out post s h in
+    let place = placed (is_line hidden) (is_end hidden) (is_same_place s.at at) (nat_lt waiting 8) hidden line k in
+    record {
+      was_out = known.is_good.was_out;
+      tag = same_tag secret s hidden known.is_good.tagged ∙ ap (tag_of secret s.nonce s.at) place.whole;
+      place = same_place s.at at place.here;
+      is_it = ap is_line (sym place.whole) ∙ place.is_it;
+      ends_no_desk = ap is_end (sym place.whole) ∙ place.goes_on;
+    }
+
 pub taken : (secret out : List ℕ) (post : Post) (at : Position) (waiting : ℕ) (line : List ℕ)
     → verdict secret out post at waiting ≡ Ok line → IsTaken secret out post at line
 taken secret out post at waiting line h =
@@ -86,19 +101,20 @@ taken secret out post at waiting line h =
     let found = after (checked secret out post) hidden at waiting line h in
     let s = found.0 in
     let known = is_checked secret out post s found.1 in
+    let was = posted secret out post s at waiting line found.1 found.2 in
     let place = placed (is_line hidden) (is_end hidden) (is_same_place s.at at) (nat_lt waiting 8) hidden line found.2 in
     let by_stamp : hidden ≡ turned secret (desk_seed s.tag) post.hidden.now = ap (λ o. line_in secret o post.hidden.now) known.is_good.is_it in
     record {
       stamp = s;
       has_stamp = known.is_good.is_it;
       is_from_here = known.from_here;
-      was_out = known.is_good.was_out;
+      was_out = was.was_out;
       is_used = ap (λ r. is_out (used_by r out) s.nonce) found.1 ∙ without_lacks s.nonce out;
       line_is = sym place.whole ∙ by_stamp;
-      tag = same_tag secret s hidden known.is_good.tagged ∙ ap (tag_of secret s.nonce s.at) place.whole;
-      place = same_place s.at at place.here;
-      is_it = ap is_line (sym place.whole) ∙ place.is_it;
-      ends_no_desk = ap is_end (sym place.whole) ∙ place.goes_on;
+      tag = was.tag;
+      place = was.place;
+      is_it = was.is_it;
+      ends_no_desk = was.ends_no_desk;
     }
 
 -- ---- what is typed

@@ -8,6 +8,7 @@ ghost use Rattle.posts.specs.Veils as veils;
 ghost use Rattle.arrayvec.specs.ArrayVec.{array_vec_len};
 
 use crate::nonces::{Nonces, is_out, let_go, put};
+use crate::posted::{LineText, PostedLine};
 use crate::refusal::Refusal;
 use crate::stamp::{Pass, Stamp};
 use crate::tags::{is_same, pass_tag, tag_of};
@@ -19,12 +20,10 @@ use links::LINE_ROOM;
 use screen::is_end;
 use std::alloc::Global;
 use std::marker::Model;
+use std::snapshot::Snapshot;
 
 /// How many lines wait at most.
 pub const MOST_WAITING: usize = 8;
-
-/// A line that a post types.
-pub type PostedLine = ArrayVec<u8, LINE_ROOM>;
 
 /// A post of a page.
 #[derive(Clone, Copy)]
@@ -41,7 +40,7 @@ pub struct Post<'p> {
 #[derive(Drop)]
 struct Opened {
     stamp: Stamp,
-    line: PostedLine,
+    line: LineText,
 }
 
 /// Whether each byte of a text is printable ASCII.
@@ -63,24 +62,19 @@ fn is_line(text: &[u8]) -> bool
 }
 
 /// The line that is hidden in a post with this stamp.
-fn line_in(secret: &[u8; 16], stamp: &Stamp, hidden: &[u8]) -> PostedLine
+fn line_in(secret: &[u8; 16], stamp: &Stamp, hidden: &[u8]) -> LineText
     requires { length hidden.now ≤ 128 }
     ensures items { result.items ≡ posts.line_in secret.now (Some stamp.now) hidden.now }
     ensures len { array_vec_len result ≤ 128 }
 {
-    let mut line = PostedLine::new();
+    let mut line = LineText::new();
     let _fits = line.try_extend_from_slice(hidden);
     open_line(secret, &stamp.tag, line.as_mut_slice());
     line
 }
 
 /// What becomes of the line of who had the secret.
-fn line_of(
-    stamp: &Stamp,
-    line: PostedLine,
-    at: Position,
-    waiting: usize,
-) -> Result<PostedLine, Refusal>
+fn line_of(stamp: &Stamp, line: LineText, at: Position, waiting: usize) -> Result<LineText, Refusal>
     ensures { MatchResult result (λ posted. posts.line_of stamp.now line.items at waiting ≡ Ok posted.items)
         (λ why. posts.line_of stamp.now line.items at waiting ≡ Err why) }
 {
@@ -266,9 +260,12 @@ impl Posts {
         waiting: usize,
     ) -> Result<PostedLine, Refusal>
         ensures verdict { MatchResult result
-            (λ line. posts.verdict self.old.secret self.old.out post.now at waiting ≡ Ok line.items)
+            (λ line. posts.verdict self.old.secret self.old.out post.now at waiting ≡ Ok line.text.items)
             (λ why. posts.verdict self.old.secret self.old.out post.now at waiting ≡ Err why) }
-        ensures line { IfOk result (λ line. line.items ≡ posts.line_of_post self.old.secret post.now) }
+        ensures line { IfOk result (λ line. line.text.items ≡ posts.line_of_post self.old.secret post.now) }
+        ensures by { IfOk result (λ line. (line.secret).value ≡ self.old.secret) }
+        ensures with { IfOk result (λ line. (line.out).value.items ≡ self.old.out) }
+        ensures at { IfOk result (λ line. line.at ≡ at) }
         ensures room { OnOk result (waiting < MOST_WAITING) }
         ensures out { self.new.out ≡ posts.out_after self.old.secret self.old.out post.now }
         ensures secret { self.new.secret ≡ self.old.secret }
@@ -277,8 +274,16 @@ impl Posts {
         ensures number { self.new.number ≡ self.old.number }
     {
         let Opened { stamp, line } = self.checked(post)?;
+        let out = Snapshot::of(&self.out);
         let_go(&mut self.out, stamp.nonce);
-        line_of(&stamp, line, at, waiting)
+        let text = line_of(&stamp, line, at, waiting)?;
+        Ok(PostedLine {
+            text,
+            at,
+            secret: Snapshot::of(&self.secret),
+            out,
+            stamp: Snapshot::of(&stamp),
+        })
     }
 
     /// Whether a pass is good: then its nonce is used up.

@@ -72,7 +72,7 @@ fn judged(
         hidden,
     };
     match posts.judge(&post, HERE, waiting) {
-        Ok(posted) => Ok(posted.len()),
+        Ok(posted) => Ok(posted.text.len()),
         Err(why) => Err(why),
     }
 }

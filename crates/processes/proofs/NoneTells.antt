@@ -117,6 +117,6 @@ module _ (Disk : Type 0) (game innings : ℕ) where
 
 module _ {Disk : Type 0} (seen : Disk → List ℕ) (images : Disk → Images) (faults : Disk → Faults) where
   pub woven_lives_tell_none : WovenLivesTellNone seen images faults
-  woven_lives_tell_none seal contents game innings version count a b hs none begin w =
-      none_tells Disk game innings hs (woven_lives_part_none seen images faults seal contents game innings version count a b hs none begin w)
+  woven_lives_tell_none seals contents game innings version count a b hs none begin w =
+      none_tells Disk game innings hs (woven_lives_part_none seen images faults seals contents game innings version count a b hs none begin w)
       (λ n. life Disk game innings n (filter (is_at_board n) hs) (w.boards n))

@@ -20,7 +20,9 @@ use Rattle.live.specs.Desks.{DeskCall}
 use Rattle.seal.proofs.Unforged.{opened_was_sent}
 use Rattle.processes.specs.Exchanges.{handed_out}
 use Rattle.processes.specs.Happenings.{BoardBegun, BoardCalled, BoardCame, BoardGreeted, DeskBegun, DeskCalled, DeskCame, DeskEnded, DeskGreeted, FileMigrated, Flow, Happening, Happens, PowerLost, WasSent, after, after_one}
-use Rattle.processes.specs.Sealing.{BoardAuthentic, DeskAuthentic, IsAuthentic}
+use Rattle.seal.specs.Rings.{Seals, seal_by}
+use Rattle.seal.specs.declared.ring.Ring.{Ring}
+use Rattle.processes.specs.Sealing.{BoardAuthentic, DeskAuthentic, IsAuthentic, ring_of_boards, ring_of_desk}
 use Rattle.processes.specs.Weaving.{Came, NothingIsForged, is_at_board, is_at_desk, same_desk}
 use Rattle.processes.proofs.BoardLives.{BoardLocal, MayBoard, next_board}
 use Rattle.processes.proofs.DeskLives.{DeskLocal, MayDesk, next_desk}
@@ -43,19 +45,19 @@ at_own : (d : DeskId) → same_desk d d ≡ true
 at_own d = grind arith
 
 -- what opened at a station was sent, since all that stations send are messages
-was_sent : (seal : List ℕ) (game : ℕ) (sent : List Message) (message : List ℕ) → All IsMessage sent → IsAuthentic seal game sent message → WasSent game sent message
-was_sent seal game sent message fine h m says = may_be_given sent m (λ v e.
+was_sent : (ring : Ring) (game : ℕ) (sent : List Message) (message : List ℕ) → All IsMessage sent → IsAuthentic ring game sent message → WasSent game sent message
+was_sent ring game sent message fine h m says = may_be_given sent m (λ v e.
     let came = h v (subst (Says game message) e says) in
-    opened_was_sent seal game sent came.0 message fine came.3 came.1 came.2 m says)
+    opened_was_sent (seal_by ring message) game sent came.0 message fine came.3 came.1 came.2 m says)
 
-desk_came : (seal : List ℕ) (game : ℕ) (sent : List Message) (call : DeskCall) → All IsMessage sent → DeskAuthentic seal game sent call → DeskCame game sent call
-desk_came seal game sent (desks.Given message what) fine h = was_sent seal game sent message fine h
-desk_came seal game sent _ fine h = tt
+desk_came : (ring : Ring) (game : ℕ) (sent : List Message) (call : DeskCall) → All IsMessage sent → DeskAuthentic ring game sent call → DeskCame game sent call
+desk_came ring game sent (desks.Given message what) fine h = was_sent ring game sent message fine h
+desk_came ring game sent _ fine h = tt
 
-board_came : (seal : List ℕ) (game : ℕ) (sent : List Message) (call : BoardCall) → All IsMessage sent → BoardAuthentic seal game sent call → BoardCame game sent call
-board_came seal game sent (boards.Given message answer) fine h = was_sent seal game sent message fine h
-board_came seal game sent (boards.Parted message back) fine h = was_sent seal game sent message fine h
-board_came seal game sent _ fine h = tt
+board_came : (ring : Ring) (game : ℕ) (sent : List Message) (call : BoardCall) → All IsMessage sent → BoardAuthentic ring game sent call → BoardCame game sent call
+board_came ring game sent (boards.Given message answer) fine h = was_sent ring game sent message fine h
+board_came ring game sent (boards.Parted message back) fine h = was_sent ring game sent message fine h
+board_came ring game sent _ fine h = tt
 
 -- what a happening makes of a desk, and of a board: nothing, where it is elsewhere
 desk_then : {Disk : Type 0} (v : Configuration Disk) (h : Happening Disk) (d : DeskId) → node (after_one v h) d ≡ cond (is_at_desk d h) (next_desk (node v d) h) (node v d)
@@ -67,7 +69,7 @@ board_then v (BoardCalled m sheet call out l text seen) n = board_set v.boards m
 board_then v (BoardBegun m) n = board_set v.boards m n fresh_board
 board_then v h n = grind arith
 
-module _ {Disk : Type 0} (view : DeskId → FileVersion → FileView Disk) (seen : Disk → List ℕ) (seal : List ℕ) (game innings : ℕ) where
+module _ {Disk : Type 0} (view : DeskId → FileVersion → FileView Disk) (seen : Disk → List ℕ) (seals : Seals) (game innings : ℕ) where
   abbrev pub HasBytes : Configuration Disk → Type 0
   HasBytes v = (d : DeskId) → 0 < length (seen (process_disk (node v d).process))
 
@@ -76,12 +78,12 @@ module _ {Disk : Type 0} (view : DeskId → FileVersion → FileView Disk) (seen
     none : All IsMessage []
     none = All-nil IsMessage
 
-    happens : (h : Happening Disk) → Came seal game v h → ((d : DeskId) → is_at_desk d h ≡ true → MayDesk (view d) seen d game innings (node v d) h)
+    happens : (h : Happening Disk) → Came seals game v h → ((d : DeskId) → is_at_desk d h ≡ true → MayDesk (view d) seen d game innings (node v d) h)
         → ((n : ℕ) → is_at_board n h ≡ true → MayBoard Disk game innings (board_at v.boards n) h) → Happens view game innings v h × All IsMessage (handed_out h)
     happens (DeskGreeted d sheet text) c t b = (t d (at_own d), none)
     happens (DeskCalled d sheet call out l text) c t b =
         let m = t d (at_own d) in
-        ((m.0, m.1, desk_came seal game v.sent call sent c, m.2, m.3), m.4)
+        ((m.0, m.1, desk_came (ring_of_desk seals d) game v.sent call sent c, m.2, m.3), m.4)
     happens (DeskEnded d disk) c t b = (t d (at_own d), none)
     happens (PowerLost d disk) c t b = (t d (at_own d), none)
     happens (DeskBegun d opening) c t b =
@@ -91,7 +93,7 @@ module _ {Disk : Type 0} (view : DeskId → FileVersion → FileView Disk) (seen
     happens (BoardGreeted n sheet text shown) c t b = (b n (eq-eqb n n refl), none)
     happens (BoardCalled n sheet call out l text shown) c t b =
         let m = b n (eq-eqb n n refl) in
-        ((m.0, m.1, board_came seal game v.sent call sent c, m.2, m.3, m.4), m.5)
+        ((m.0, m.1, board_came (ring_of_boards seals) game v.sent call sent c, m.2, m.3, m.4), m.5)
     happens (BoardBegun n) c t b = (b n (eq-eqb n n refl), none)
 
   module _ (w : Configuration Disk) where
@@ -107,7 +109,7 @@ module _ {Disk : Type 0} (view : DeskId → FileVersion → FileView Disk) (seen
       pub boards : (n : ℕ) → board_at v.boards n ≡ nexts next_board (board_at w.boards n) (filter (is_at_board n) hs)
       pub sent : All IsMessage v.sent
 
-    pub weaves : (hs : List (Happening Disk)) → w.sent ≡ [] → NothingIsForged seal game w hs → AllMay hs
+    pub weaves : (hs : List (Happening Disk)) → w.sent ≡ [] → NothingIsForged seals game w hs → AllMay hs
         → ((gs : List (Happening Disk)) → Flow view game innings w gs → HasBytes (after w gs)) → Flow view game innings w hs × Stands (after w hs) hs
     weaves [] e c may f = (tt, record { desks = λ d. refl; boards = λ n. refl; sent = rw e (All-nil IsMessage) })
     weaves (h ∷ hs) e c may f =

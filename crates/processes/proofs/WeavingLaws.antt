@@ -30,7 +30,7 @@ first view seen innings d k h = grind (arith, same_or_other)
 
 module _ {Disk : Type 0} (seen : Disk → List ℕ) (images : Disk → Images) (faults : Disk → Faults) where
   pub woven_lives_flow : WovenLivesFlow seen images faults
-  woven_lives_flow seal contents game innings version boards a b hs none begin w =
+  woven_lives_flow seals contents game innings version boards a b hs none begin w =
       let s = setting_of contents seen images game innings in
       let view : DeskId → FileVersion → FileView Disk = λ d z. file_view (contents z) seen images d game in
       let w0 = start version boards a b in
@@ -40,12 +40,12 @@ module _ {Disk : Type 0} (seen : Disk → List ℕ) (images : Disk → Images) (
         boards_are_fresh = refl;
         nothing_sent = refl;
       } in
-      let lives : AllMay view seen seal game innings w0 hs = (
+      let lives : AllMay view seen seals game innings w0 hs = (
         λ d. let x = w.desks d in subst (DeskLocal (view d) seen d game innings (node w0 d)) (sym x.2) (desk_life (view d) seen d game innings faults (node w0 d) x.0 x.1).0,
         λ n. board_life Disk game innings n (board_at w0.boards n) (filter (is_at_board n) hs) (w.boards n) (w.no_others n),
       ) in (
         begins,
-        (weaves view seen seal game innings w0 hs refl w.order lives (λ gs f d.
+        (weaves view seen seals game innings w0 hs refl w.order lives (λ gs f d.
             let found = (stands_fast s (after w0 gs) (fine s game innings refl version boards w0 begins gs f)).safe.reads d in
             some_bytes d (node (after w0 gs) d).version (seen (process_disk (node (after w0 gs) d).process)) found.0 found.1)).0,
       )
@@ -56,5 +56,5 @@ module _ {Disk : Type 0} (seen : Disk → List ℕ) (images : Disk → Images) (
       some_bytes d z (x ∷ file) votes e = omega arith
 
   pub woven_lives_have_headline : WovenLivesHaveHeadline seen images faults
-  woven_lives_have_headline seal contents game innings version boards a b hs none begin w =
-      flows_have_headline seen images contents game innings version boards (start version boards a b) hs (woven_lives_flow seal contents game innings version boards a b hs none begin w)
+  woven_lives_have_headline seals contents game innings version boards a b hs none begin w =
+      flows_have_headline seen images contents game innings version boards (start version boards a b) hs (woven_lives_flow seals contents game innings version boards a b hs none begin w)

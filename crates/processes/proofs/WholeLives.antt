@@ -125,14 +125,14 @@ module _ (Disk : Type 0) (game innings : ℕ) where
 
 module _ {Disk : Type 0} (seen : Disk → List ℕ) (images : Disk → Images) (faults : Disk → Faults) where
   pub woven_lives_part_none : WovenLivesPartNone seen images faults
-  woven_lives_part_none seal contents game innings version count a b hs none begin w =
+  woven_lives_part_none seals contents game innings version count a b hs none begin w =
       none_parted hs flow.1 (λ n. life Disk game innings n (board_at w0.boards n) (filter (is_at_board n) hs) (w.boards n) (w.no_others n))
     where
       w0 : Configuration Disk
       w0 = start version count a b
 
       flow : IsFlow seen images contents game innings version count w0 hs
-      flow = woven_lives_flow seen images faults seal contents game innings version count a b hs none begin w
+      flow = woven_lives_flow seen images faults seals contents game innings version count a b hs none begin w
 
       dropped : (gs : List (Happening Disk)) → Flow (λ d version. file_view (contents version) seen images d game) game innings w0 gs → (h : Happening Disk)
           → Happens (λ d version. file_view (contents version) seen images d game) game innings (after w0 gs) h

@@ -15,7 +15,8 @@ use Rattle.processes.specs.Files.{NoneShowNone}
 use Rattle.processes.specs.Headline.{ProcessHeadline}
 use Rattle.processes.specs.Laws.{IsFlow}
 use Rattle.processes.specs.Parting.{NoneIsParted, NoneTells}
-use Rattle.processes.specs.Sealing.{BoardAuthentic, DeskAuthentic}
+use Rattle.processes.specs.Sealing.{BoardAuthentic, DeskAuthentic, ring_of_boards, ring_of_desk}
+use Rattle.seal.specs.Rings.{Seals}
 
 -- it happens at this desk; at this board
 abbrev pub same_desk : DeskId → DeskId → Bool
@@ -41,15 +42,15 @@ is_at_board n (BoardCalled m s call out l text seen) = nat_eq n m
 is_at_board n (BoardBegun m) = nat_eq n m
 is_at_board n what = false
 
--- where sealed bytes came and opened, a station had sealed them before
-abbrev pub Came : {Disk : Type 0} → List ℕ → ℕ → Configuration Disk → Happening Disk → Type 0
-Came seal game w (DeskCalled d s call out l text) = DeskAuthentic seal game w.sent call
-Came seal game w (BoardCalled n s call out l text seen) = BoardAuthentic seal game w.sent call
-Came seal game w what = Unit {0}
+-- where sealed bytes came and opened, a station had sealed them with that pair's seal before
+abbrev pub Came : {Disk : Type 0} → Seals → ℕ → Configuration Disk → Happening Disk → Type 0
+Came seals game w (DeskCalled d s call out l text) = DeskAuthentic (ring_of_desk seals d) game w.sent call
+Came seals game w (BoardCalled n s call out l text seen) = BoardAuthentic (ring_of_boards seals) game w.sent call
+Came seals game w what = Unit {0}
 
-abbrev pub NothingIsForged : {Disk : Type 0} → List ℕ → ℕ → Configuration Disk → List (Happening Disk) → Type 0
-NothingIsForged seal game w [] = Unit {0}
-NothingIsForged seal game w (h ∷ hs) = NothingIsForged seal game w hs × Came seal game (after w hs) h
+abbrev pub NothingIsForged : {Disk : Type 0} → Seals → ℕ → Configuration Disk → List (Happening Disk) → Type 0
+NothingIsForged seals game w [] = Unit {0}
+NothingIsForged seals game w (h ∷ hs) = NothingIsForged seals game w hs × Came seals game (after w hs) h
 
 -- two desks at the beginning of their first processes, and so many boards
 abbrev pub start : {Disk : Type 0} → FileVersion → ℕ → DeskState Disk → DeskState Disk → Configuration Disk
@@ -62,10 +63,10 @@ start version boards a b =
     }
 
 module _ {Disk : Type 0} (seen : Disk → List ℕ) (images : Disk → Images) (faults : Disk → Faults) where
-  -- All that happened to the processes of a match with this seal, the newest first: what opened at a station, one of them
-  -- had sealed before; what happened at each desk and at each board is its life; and there are no other boards.
-  pub record IsWoven (seal : List ℕ) (contents : FileVersion → FileContents) (game innings : ℕ) (w : Configuration Disk) (hs : List (Happening Disk)) : Type 0 where
-    pub order : NothingIsForged seal game w hs
+  -- All that happened to the processes of a match with these seals, the newest first: what opened at a station by the seal of a
+  -- pair, one of them had sealed with that before; what happened at each desk and at each board is its life; and there are no other boards.
+  pub record IsWoven (seals : Seals) (contents : FileVersion → FileContents) (game innings : ℕ) (w : Configuration Disk) (hs : List (Happening Disk)) : Type 0 where
+    pub order : NothingIsForged seals game w hs
     pub desks : (d : DeskId) → (life : List (Stage Disk))
         × IsLife (λ version. file_view (contents version) seen images d game) seen faults d game innings (node w d) life
         × (filter (is_at_desk d) hs ≡ life_happens innings d life)
@@ -79,36 +80,36 @@ module _ {Disk : Type 0} (seen : Disk → List ℕ) (images : Disk → Images) (
       BeginsFirst (file_view contents seen images A game) seen innings A a
       × BeginsFirst (file_view contents seen images B game) seen innings B b
 
-  -- the lives of all stations of one seal, put into one order in which nothing opens that none had sealed, are a flow
+  -- the lives of all stations of a match's seals, put into one order in which nothing opens that none had sealed so, are a flow
   abbrev pub WovenLivesFlow : Type 0
   WovenLivesFlow =
-      (seal : List ℕ) (contents : FileVersion → FileContents) (game innings : ℕ) (version : FileVersion) (boards : ℕ)
+      (seals : Seals) (contents : FileVersion → FileContents) (game innings : ℕ) (version : FileVersion) (boards : ℕ)
       (a b : DeskState Disk) (hs : List (Happening Disk)) → NoneShowNone contents game
       → BothBegin (contents version) game innings a b
-      → IsWoven seal contents game innings (start version boards a b) hs
+      → IsWoven seals contents game innings (start version boards a b) hs
       → IsFlow seen images contents game innings version boards (start version boards a b) hs
 
   -- and so the headline holds of them
   abbrev pub WovenLivesHaveHeadline : Type 0
   WovenLivesHaveHeadline =
-      (seal : List ℕ) (contents : FileVersion → FileContents) (game innings : ℕ) (version : FileVersion) (boards : ℕ)
+      (seals : Seals) (contents : FileVersion → FileContents) (game innings : ℕ) (version : FileVersion) (boards : ℕ)
       (a b : DeskState Disk) (hs : List (Happening Disk)) → NoneShowNone contents game
       → BothBegin (contents version) game innings a b
-      → IsWoven seal contents game innings (start version boards a b) hs
+      → IsWoven seals contents game innings (start version boards a b) hs
       → ProcessHeadline game innings (start version boards a b) hs
 
   -- and no board drops a vote as one by which a desk's file lacks lines
   abbrev pub WovenLivesPartNone : Type 0
   WovenLivesPartNone =
-      (seal : List ℕ) (contents : FileVersion → FileContents) (game innings : ℕ) (version : FileVersion) (boards : ℕ)
+      (seals : Seals) (contents : FileVersion → FileContents) (game innings : ℕ) (version : FileVersion) (boards : ℕ)
       (a b : DeskState Disk) (hs : List (Happening Disk)) → NoneShowNone contents game
       → BothBegin (contents version) game innings a b
-      → IsWoven seal contents game innings (start version boards a b) hs → NoneIsParted hs
+      → IsWoven seals contents game innings (start version boards a b) hs → NoneIsParted hs
 
   -- nor tells by what it hands over to be shown that one does
   abbrev pub WovenLivesTellNone : Type 0
   WovenLivesTellNone =
-      (seal : List ℕ) (contents : FileVersion → FileContents) (game innings : ℕ) (version : FileVersion) (boards : ℕ)
+      (seals : Seals) (contents : FileVersion → FileContents) (game innings : ℕ) (version : FileVersion) (boards : ℕ)
       (a b : DeskState Disk) (hs : List (Happening Disk)) → NoneShowNone contents game
       → BothBegin (contents version) game innings a b
-      → IsWoven seal contents game innings (start version boards a b) hs → NoneTells hs
+      → IsWoven seals contents game innings (start version boards a b) hs → NoneTells hs

@@ -23,6 +23,7 @@ use Rattle.cards.specs.Sheet.{Sheet}
 use Rattle.wire.specs.Layout.{written}
 use Rattle.wire.specs.declared.what.What.TheVariants.{Heard}
 use Rattle.vote_store.specs.Record.{record_of}
+use Rattle.seal.specs.Rings.{Seals}
 use Rattle.headline.specs.declared.version.FileVersion.{FileVersion}
 use Rattle.headline.specs.declared.version.FileVersion.TheVariants.{New}
 use Rattle.live.specs.Boards as boards
@@ -125,9 +126,9 @@ lived s =
     ∷ []
 
 -- all is so that the law of woven lives asks for: no bytes show no votes, both desks begin, and what happened is such as what
--- happens to processes, with whatever sheet and seal, in a match of one innings a side
+-- happens to processes, with whatever sheet and seals, in a match of one innings a side
 abbrev pub LivedIsWoven : Type 0
 LivedIsWoven =
     NoneShowNone toy 7 × BothBegin (λ disk. disk) only no_faults (toy New) 7 1 (new_desk A) (new_desk B)
-    × ((s : Sheet) (seal : List ℕ)
-    → IsWoven (λ disk. disk) only no_faults seal toy 7 1 (start New 1 (new_desk A) (new_desk B)) (lived s))
+    × ((s : Sheet) (seals : Seals)
+    → IsWoven (λ disk. disk) only no_faults seals toy 7 1 (start New 1 (new_desk A) (new_desk B)) (lived s))

@@ -3,7 +3,7 @@
 use Rattle.std.specs.Prelude.{◌≡◌, ◌+◌, ℕ, ⊤, Bool, true, false, Some, List, ◌++◌, length, slice_get, take, Option}
 use Rattle.entry_log.specs.declared.mem_disk.MemDisk.{MemDisk}
 use Rattle.cards.specs.Sheet.{Sheet}
-use Rattle.streams.specs.declared.{watched.Watched.Watched, input.InputFault.InputFault}
+use Rattle.streams.specs.declared.watched.Watched.{Watched}
 use Rattle.streams.specs.Watched.{Prints}
 use Rattle.headline.specs.declared.{event.Event.Event, version.FileVersion.FileVersion}
 use Rattle.schedule_replay.specs.declared.{report.Report.Report, seen.Seen.Seen, seen.WorldRefusal.WorldRefusal}
@@ -16,10 +16,10 @@ use Rattle.headline.specs.Runs.{last_of}
 use Rattle.schedules.specs.ScheduleLines.{HasFault, IsScheduleOf}
 use Rattle.schedule_replay.specs.SeenWords.{refusal_number}
 use Rattle.headline.specs.Configurations.{Configuration}
-use Rattle.schedules.specs.declared.schedule_fault.ScheduleFault.{ScheduleFault}
+use Rattle.setup.specs.Fault.{IsOfStreams}
 use Rattle.setup.specs.declared.fault.StopFault.{StopFault}
-use Rattle.replay_command.specs.declared.replay.{ReplayFault.ReplayFault, step.Stepped.Stepped}
-use Rattle.replay_command.specs.declared.replay.ReplayFault.TheVariants.{NoMemory, Read, Write, Schedule}
+use Rattle.setup.specs.declared.fault.StopFault.TheVariants.{Schedule}
+use Rattle.replay_command.specs.declared.replay.step.Stepped.{Stepped}
 use Rattle.replay_command.specs.declared.replay.step.Stepped.TheVariants.{Whole, Refused}
 use Rattle.replay_command.specs.Replay.{event_lines, last_lines, refusal_line}
 
@@ -80,29 +80,15 @@ PrintsReplay contents old new s version boards input refused =
     (events : List Event) × IsScheduleOf (lines_of input) events
     × PrintsRun contents old new s version boards events refused
 
--- a read or a write failed, out of memory, or the input is no schedule, for this reason
-abbrev pub WhyNoReplay : List ℕ → ReplayFault → Type 0
-WhyNoReplay input NoMemory = ⊤
-WhyNoReplay input Read = ⊤
-WhyNoReplay input Write = ⊤
+-- out of memory, a read or a write failed, or an input is no schedule
+abbrev pub IsOfReplay : StopFault → Type 0
+IsOfReplay (Schedule why) = ⊤
+IsOfReplay fault = IsOfStreams fault
+
+-- the same, and the input is none for this reason
+abbrev pub WhyNoReplay : List ℕ → StopFault → Type 0
 WhyNoReplay input (Schedule why) = HasFault (lines_of input) why
-
--- the fault of an input that isn't read to its end
-abbrev pub of_input : InputFault → ReplayFault
-of_input InputFault.NoMemory = NoMemory
-of_input InputFault.Read = Read
-
--- the fault of a schedule that is refused: being out of memory is its own
-abbrev pub of_schedule : ScheduleFault → ReplayFault
-of_schedule ScheduleFault.NoMemory = NoMemory
-of_schedule why = Schedule why
-
--- what standard error is told, and the status, go by
-abbrev pub stop_of : ReplayFault → StopFault
-stop_of NoMemory = StopFault.NoMemory
-stop_of Read = StopFault.Read
-stop_of Write = StopFault.Write
-stop_of (Schedule why) = StopFault.Schedule why
+WhyNoReplay input fault = IsOfStreams fault
 
 -- ---- for private functions
 

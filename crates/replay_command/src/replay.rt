@@ -4,7 +4,7 @@ ghost use Rattle.std.specs.Prelude.{◌≡◌, ◌≢◌, ◌≤◌, ◌⊎◌, 
 ghost use Rattle.streams.specs.Watched.{IsHandedOn, MeetsFailure, failures, stream_of};
 ghost use Rattle.headline.specs.Events.{IsEvent};
 ghost use Rattle.schedule_replay.specs.Replays.{IsReplay};
-ghost use Rattle.replay_command.specs.ReplayRun.{PrintsReplay, PrintsRun, WhyNoReplay};
+ghost use Rattle.replay_command.specs.ReplayRun.{IsOfReplay, PrintsReplay, PrintsRun, WhyNoReplay};
 ghost use Rattle.setup.specs.Ends.{EndsReading, EndsWriting};
 
 mod print;
@@ -14,75 +14,11 @@ use cards::MatchSheet;
 use headline::{Event, FileVersion};
 use print::{print_refused, print_whole};
 use schedule_replay::{Report, replay_in};
-use schedules::{ScheduleFault, read_schedule};
+use schedules::read_schedule;
 use setup::{StopFault, Stopped, open_input, output, sheet_at};
 use std::alloc::{AllocError, Global};
 use step::{Stepped, begin, step_all};
-use streams::{Feed, InputFault, Sink, Watched, read_all};
-
-/// Why `replay` ends before its end.
-#[derive(Clone, Copy)]
-pub enum ReplayFault {
-    /// Memory was refused.
-    NoMemory,
-    /// A read failed or was interrupted, or the input is longer than 16,777,216 bytes.
-    Read,
-    /// A write failed.
-    Write,
-    /// The schedule is refused.
-    Schedule(ScheduleFault),
-}
-
-impl From<AllocError> for ReplayFault {
-    ghost use Rattle.replay_command.specs.declared.replay.ReplayFault.TheVariants.{NoMemory};
-
-    ghost from_gives = { λ _ fault. fault ≡ NoMemory };
-
-    fn from(_why: AllocError) -> Self {
-        ReplayFault::NoMemory
-    }
-}
-
-impl From<InputFault> for ReplayFault {
-    ghost use Rattle.replay_command.specs.ReplayRun.{of_input};
-
-    ghost from_gives = { λ why fault. fault ≡ of_input why };
-
-    fn from(why: InputFault) -> Self {
-        match why {
-            InputFault::NoMemory => ReplayFault::NoMemory,
-            InputFault::Read => ReplayFault::Read,
-        }
-    }
-}
-
-impl From<ScheduleFault> for ReplayFault {
-    ghost use Rattle.replay_command.specs.ReplayRun.{of_schedule};
-
-    ghost from_gives = { λ why fault. fault ≡ of_schedule why };
-
-    fn from(why: ScheduleFault) -> Self {
-        match why {
-            ScheduleFault::NoMemory => ReplayFault::NoMemory,
-            _ => ReplayFault::Schedule(why),
-        }
-    }
-}
-
-impl From<ReplayFault> for StopFault {
-    ghost use Rattle.replay_command.specs.ReplayRun.{stop_of};
-
-    ghost from_gives = { λ why fault. fault ≡ stop_of why };
-
-    fn from(why: ReplayFault) -> Self {
-        match why {
-            ReplayFault::NoMemory => StopFault::NoMemory,
-            ReplayFault::Read => StopFault::Read,
-            ReplayFault::Write => StopFault::Write,
-            ReplayFault::Schedule(why) => StopFault::Schedule(why),
-        }
-    }
-}
+use streams::{Feed, Sink, Watched, read_all};
 
 /// What a replay of the events reports, which the world of a run has taken. Where it has no report, memory is
 /// told to be wanted.
@@ -112,28 +48,28 @@ fn print_run<W: Sink>(
     boards: u8,
     events: &[Event],
     out: &mut Watched<W>,
-) -> Result<bool, ReplayFault>
+) -> Result<bool, StopFault>
     requires boards { boards ≤ 4 }
     requires events { All IsEvent events.now }
     ensures written { IfOk result (PrintsRun W.contents out.old out.new sheet.now version boards events.now) }
-    ensures only { IfErr result (λ fault. (fault ≡ ReplayFault.NoMemory) ⊎ (fault ≡ ReplayFault.Write)) }
-    ensures write { result ≡ Err ReplayFault.Write → MeetsFailure out.old out.new }
+    ensures only { IfErr result (λ fault. (fault ≡ StopFault.NoMemory) ⊎ (fault ≡ StopFault.Write)) }
+    ensures write { result ≡ Err StopFault.Write → MeetsFailure out.old out.new }
     ensures sound { OnOk result (failures out.new ≡ failures out.old) }
     ensures handed_on { OnOk result (IsHandedOn W.calls out.new) }
-    ensures unwritten { IfErr result (λ fault. fault ≢ ReplayFault.Write → out.new ≡ out.old) }
+    ensures unwritten { IfErr result (λ fault. fault ≢ StopFault.Write → out.new ≡ out.old) }
 {
     match step_all(alloc, sheet, version, boards, events)? {
         Stepped::Whole(outcomes, world) => {
             let report = report_of(alloc, sheet, version, boards, events)?;
             match print_whole(out, outcomes.as_slice(), report.agreed.len(), &world) {
                 Ok(()) => Ok(false),
-                Err(_) => Err(ReplayFault::Write),
+                Err(_) => Err(StopFault::Write),
             }
         }
         Stepped::Refused(outcomes, event, why) => {
             match print_refused(out, outcomes.as_slice(), event, why) {
                 Ok(()) => Ok(true),
-                Err(_) => Err(ReplayFault::Write),
+                Err(_) => Err(StopFault::Write),
             }
         }
     }
@@ -150,14 +86,15 @@ pub fn replay_run<R: Feed, W: Sink>(
     boards: u8,
     reader: &mut Watched<R>,
     writer: &mut Watched<W>,
-) -> Result<bool, ReplayFault>
+) -> Result<bool, StopFault>
     requires { boards ≤ 4 }
     ensures written { IfOk result (λ refused. IfSome (R.remaining (stream_of reader.old)) (λ input.
         PrintsReplay W.contents writer.old writer.new sheet.now version boards input refused)) }
     ensures why { IfErr result (λ fault. IfSome (R.remaining (stream_of reader.old)) (λ input.
         WhyNoReplay input fault)) }
-    ensures read { EndsReading R.remaining ReplayFault.Read result reader.old reader.new }
-    ensures writes { EndsWriting W.calls ReplayFault.Write result writer.old writer.new }
+    ensures only { IfErr result IsOfReplay }
+    ensures read { EndsReading R.remaining StopFault.Read result reader.old reader.new }
+    ensures writes { EndsWriting W.calls StopFault.Write result writer.old writer.new }
 {
     let input = read_all(alloc, reader)?;
     let events = read_schedule(alloc, input.as_slice())?;
@@ -191,5 +128,5 @@ pub fn start_replay<'a>(
         &mut reader,
         &mut writer,
     );
-    answer.map_err(|fault| Stopped::at(schedule, StopFault::from(fault)))
+    answer.map_err(|fault| Stopped::at(schedule, fault))
 }

@@ -1,10 +1,17 @@
 //! Datagrams that only those make who have the match's key and its sheet, and a link that takes no others.
 #![tactic(auto)]
 
+mod carrier;
 mod datagram;
 mod laws;
+mod link;
+mod ring;
 
-pub use datagram::{Seal, Sealed, hmac};
+pub use carrier::{CarriedLog, SEALED_ROOM, SealedBuffer, SealedBytes, SealedCarrier, TaggedBytes};
+pub use datagram::{Seal, hmac};
 pub use laws::{
-    sealed_share_no_bytes, what_is_given_was_brought, what_opens_was_sent, worked_tags,
+    each_peer_has_its_seal, sealed_share_no_bytes, what_is_given_was_brought, what_opens_was_sent,
+    worked_tags,
 };
+pub use link::Sealed;
+pub use ring::{Opener, Ring, form_for};

@@ -43,7 +43,7 @@ fn block(bytes: &[u8], number: usize) -> &[u8]
 }
 
 /// Whether both are the same.
-fn are_same(one: &[u8], other: &[u8]) -> bool
+pub fn are_same(one: &[u8], other: &[u8]) -> bool
     ensures same { IsTrue result → one.now ≡ other.now }
     ensures differ { result ≡ false → one.now ≡ other.now → ⊥ }
 {

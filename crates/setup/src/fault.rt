@@ -5,10 +5,11 @@ ghost use Rattle.streams.specs.Watched.{Prints, TellsFailure};
 ghost use Rattle.setup.specs.Fault as texts;
 
 use crate::key_fault::KeyFault;
+use agree_core::Asker;
 use books::{BookFault, Rejected, print_rejected, print_torn};
 use cards::SheetFault;
 use desk::OpenRefusal;
-use machine_files::WriteFault;
+use machine_files::{Cause, WriteFault};
 use schedules::ScheduleFault;
 use std::alloc::AllocError;
 use streams::{InputFault, Sink, Watched, WriteFailed};
@@ -16,8 +17,8 @@ use streams::{InputFault, Sink, Watched, WriteFailed};
 /// How many turns each station of a match has for a place at most.
 pub const TURNS: usize = 50;
 
-/// Why a command ends before its end, whichever it is. Each command has a fault of its own, which says what it can meet;
-/// what standard error is told, and the status, go by this one.
+/// Why a command ends before its end, whichever it is: what standard error is told, and the status, go by it. A command that
+/// has to tell apart more has a fault of its own.
 #[derive(Clone, Copy)]
 pub enum StopFault {
     /// Memory was refused.
@@ -54,6 +55,8 @@ pub enum StopFault {
     FileMoved,
     /// A file of a desk, a board or a new key can't be written.
     File(WriteFault),
+    /// The file of a station's new keys in a folder can't be written.
+    PairKeys(Asker, Cause),
     /// The file of a desk that runs can't be written.
     Lost(WriteFault),
     /// The copy of a desk that runs can't be written.
@@ -109,6 +112,42 @@ impl From<InputFault> for StopFault {
         match why {
             InputFault::NoMemory => StopFault::NoMemory,
             InputFault::Read => StopFault::Read,
+        }
+    }
+}
+
+impl From<WriteFailed> for StopFault {
+    ghost use Rattle.setup.specs.declared.fault.StopFault.TheVariants.{Write};
+
+    ghost from_gives = { λ _ fault. fault ≡ Write };
+
+    fn from(_why: WriteFailed) -> Self {
+        StopFault::Write
+    }
+}
+
+impl From<SheetFault> for StopFault {
+    ghost use Rattle.setup.specs.Fault.{of_sheet};
+
+    ghost from_gives = { λ why fault. fault ≡ of_sheet why };
+
+    fn from(why: SheetFault) -> Self {
+        match why {
+            SheetFault::NoMemory => StopFault::NoMemory,
+            _ => StopFault::Sheet(why),
+        }
+    }
+}
+
+impl From<ScheduleFault> for StopFault {
+    ghost use Rattle.setup.specs.Fault.{of_schedule};
+
+    ghost from_gives = { λ why fault. fault ≡ of_schedule why };
+
+    fn from(why: ScheduleFault) -> Self {
+        match why {
+            ScheduleFault::NoMemory => StopFault::NoMemory,
+            _ => StopFault::Schedule(why),
         }
     }
 }
@@ -261,6 +300,31 @@ fn print_file_fault<W: Sink>(
     writeln!(out, "cannot write: {path}{ending}: {words}")
 }
 
+/// The name of a station's file of two keys, behind its folder's.
+pub fn pair_name(station: Asker) -> &'static str
+    ensures { result.now ≡ texts.pair_name station }
+{
+    match station {
+        Asker::A => "/a.key",
+        Asker::B => "/b.key",
+        Asker::Board => "/board.key",
+    }
+}
+
+/// Which file of a station's new keys in a folder can't be written, and why.
+fn print_pair_fault<W: Sink>(
+    out: &mut Watched<W>,
+    path: &str,
+    station: Asker,
+    why: Cause,
+) -> Result<(), WriteFailed>
+    ensures text { OnOk result (Prints W.contents out.old out.new (texts.pair_file_line path.now station why)) }
+    ensures failed { TellsFailure result out.old out.new }
+{
+    let (name, words) = (pair_name(station), why.words());
+    writeln!(out, "cannot write: {path}{name}: {words}")
+}
+
 /// The same of a desk that ran, and what its scorer is to do.
 fn print_loss<W: Sink>(
     out: &mut Watched<W>,
@@ -335,6 +399,7 @@ pub fn print_fault<W: Sink>(
             "cannot write\nits file was moved, deleted or replaced: put it back"
         ),
         StopFault::File(why) => print_file_fault(out, path, why),
+        StopFault::PairKeys(station, why) => print_pair_fault(out, path, station, why),
         StopFault::Lost(why) => print_loss(out, path, why),
         StopFault::CopyLost(why) => print_copy_loss(out, path, why),
         StopFault::Key(why) => print_no_key(out, path, why),

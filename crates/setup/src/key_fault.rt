@@ -18,6 +18,14 @@ pub enum KeyFault {
     Long,
     /// Fewer than 8 of them differ.
     Alike,
+    /// It begins as a file of two keys, for a pair each, and isn't one.
+    NoPair,
+    /// It has the keys of desk A.
+    OfDeskA,
+    /// It has the keys of desk B.
+    OfDeskB,
+    /// It has the keys of boards.
+    OfBoards,
 }
 
 impl KeyFault {
@@ -32,6 +40,10 @@ impl KeyFault {
             KeyFault::Short => "a key has 16 bytes or more",
             KeyFault::Long => "a key has 1024 bytes or fewer",
             KeyFault::Alike => "a key has 8 different bytes or more",
+            KeyFault::NoPair => "isn't as key wrote it",
+            KeyFault::OfDeskA => "is the key of desk a",
+            KeyFault::OfDeskB => "is the key of desk b",
+            KeyFault::OfBoards => "is the key of boards",
         }
     }
 }

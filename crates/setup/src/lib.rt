@@ -8,6 +8,7 @@ mod fault;
 mod gaps;
 mod key_fault;
 mod opening;
+mod pair_keys;
 mod sealing;
 mod sheet;
 mod short_sheet;
@@ -17,16 +18,18 @@ mod votes_file;
 
 pub use crate::copies::{CopiedDisk, Kept, paired_disk, tell_copies};
 pub use crate::counting::{Counting, compared};
-pub use crate::fault::{StopFault, Stopped, TURNS, print_fault, printable};
+pub use crate::fault::{StopFault, Stopped, TURNS, pair_name, print_fault, printable};
 pub use crate::gaps::{Gaps, fill_gaps};
 pub use crate::key_fault::KeyFault;
 pub use crate::opening::{Output, bytes_at, old_votes_at, open_input, output, sheet_at};
-pub use crate::sealing::{Sealing, key_in};
-pub use crate::sheet::{NoSheet, sheet_run};
+pub use crate::pair_keys::owner_line;
+pub use crate::sealing::{Sealing, StationLink, key_in, station_of};
+pub use crate::sheet::sheet_run;
 pub use crate::short_sheet::{
-    LONGEST_SHEET, short_sheet_at, short_sheet_bytes, short_sheet_of, stations_at, tell_station,
+    LONGEST_CARD_SHEET, LONGEST_SHEET, SheetFile, card_sheet_at, sheet_file_at, short_sheet_at,
+    short_sheet_bytes, short_sheet_of, stations_at, tell_station,
 };
-pub use crate::twins::{tell_twins, told_sheet_at};
+pub use crate::twins::tell_twins;
 pub use crate::votes_file::{
     VotesDisk, empty_disk, kept_votes, new_disk_at, renewed_disk, with_cause, with_copys_cause,
 };

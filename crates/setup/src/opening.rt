@@ -2,7 +2,7 @@
 
 ghost use Rattle.std.specs.Prelude.{◌≡◌, ◌≤◌, [], IfOk, vec_len};
 ghost use Rattle.streams.specs.declared.limit.TheConstants.{LONGEST_INPUT};
-ghost use Rattle.links.specs.Logs.{carried_of};
+ghost use Rattle.seal.specs.Carried.{carried_of};
 ghost use Rattle.setup.specs.inner.Opening as texts;
 
 use crate::fault::{StopFault, Stopped};
@@ -12,7 +12,7 @@ use cards::MatchSheet;
 use entry_log::OldSlots;
 use machine::{Address, MOST_PEERS, Peers, StandardStream, WaitEnds};
 use machine_files::{FileDisk, OpenFault};
-use seal::Seal;
+use seal::Opener;
 use std::fs::File;
 use std::io::{BufWriter, Write};
 use std::net::{Net, SocketAddr};
@@ -46,7 +46,7 @@ pub fn open_input<'a>(rt: &HostRuntime, path: &'a str) -> Result<Watched<File>, 
 /// The match sheet in a file.
 pub fn sheet_at<'a>(rt: &HostRuntime, path: &'a str) -> Result<MatchSheet, Stopped<'a>> {
     let mut reader = open_input(rt, path)?;
-    sheet_run(rt.alloc(), &mut reader).map_err(|fault| Stopped::at(path, StopFault::from(fault)))
+    sheet_run(rt.alloc(), &mut reader).map_err(|fault| Stopped::at(path, fault))
 }
 
 /// All bytes of a file.
@@ -93,18 +93,18 @@ pub fn output(rt: &HostRuntime) -> Result<Output<'_>, Stopped<'static>> {
     Ok(Watched::new(printer(rt)?))
 }
 
-/// A station's socket at its address, in the match with this seal, and what else ends its waits.
+/// A station's socket at its address, in the match whose datagrams this opens, and what else ends its waits.
 pub fn peers_at<'a, E: Write + Drop>(
     net: &impl Net,
     at: Address<'a>,
     peers: [Option<SocketAddr>; MOST_PEERS],
     ends: WaitEnds,
-    seal: Seal,
+    opener: Opener,
     errors: E,
 ) -> Result<Peers<E>, Stopped<'a>>
     ensures { IfOk result (λ peers. carried_of peers.log ≡ []) }
 {
-    match Peers::new(net, at.socket, peers, ends, seal, errors) {
+    match Peers::new(net, at.socket, peers, ends, opener, errors) {
         Ok(peers) => Ok(peers),
         Err(_) => Err(Stopped {
             path: at.text,

@@ -1,8 +1,10 @@
-//! What a station's datagrams are sealed with: the key in a file, or none, and the match sheet.
+//! What a station's datagrams are sealed with: the keys in a file, or none, and the match sheet.
 
-ghost use Rattle.std.specs.Prelude.{◌≡◌, ◌≤◌, [], None, IfOk, IfSome, is_some, length, nat_lt, take, vec_len};
+ghost use Rattle.std.specs.Prelude.{◌≡◌, ◌≤◌, ◌+◌, [], None, IfOk, IfSome, is_some, length};
+ghost use Rattle.agree_core.specs.Desks.{asker};
 ghost use Rattle.cards.specs.Digest.{sheet_digest};
-ghost use Rattle.links.specs.Logs.{carried_of};
+ghost use Rattle.seal.specs.Carried.{carried_of};
+ghost use Rattle.seal.specs.Rings.{ring_of};
 ghost use Rattle.seal.specs.Sealed.{seal_of};
 ghost use Rattle.streams.specs.Watched.{stream_of};
 ghost use Rattle.setup.specs.Keys as keys;
@@ -10,12 +12,14 @@ ghost use Rattle.setup.specs.Keys as keys;
 use crate::fault::{StopFault, Stopped, printable};
 use crate::key_fault::KeyFault;
 use crate::opening::{open_input, peers_at};
+use crate::pair_keys::pair_in;
+use agree_core::{Asker, DeskId};
 use cards::{MatchSheet, digest_of};
 use hex::encode_to_slice;
 use links::Window;
 use machine::{Address, MOST_PEERS, MonotonicClock, Peers, WaitEnds};
 use machine_files::is_same_file;
-use seal::{Seal, Sealed};
+use seal::{Ring, Seal, Sealed};
 use std::alloc::Global;
 use std::fs;
 use std::io::{self, Write};
@@ -53,7 +57,7 @@ pub fn key_in(bytes: &[u8]) -> Option<&[u8]>
 }
 
 /// How many different bytes there are.
-fn different(bytes: &[u8]) -> usize {
+pub fn different(bytes: &[u8]) -> usize {
     let mut is_there = [false; 256];
     for byte in bytes {
         is_there[*byte as usize] = true;
@@ -61,42 +65,104 @@ fn different(bytes: &[u8]) -> usize {
     is_there.iter().filter(|is_there| **is_there).count()
 }
 
-/// The length of the key in a file's bytes, which is taken where 8 of its bytes differ at least.
-fn key_len(bytes: &[u8]) -> Result<usize, KeyFault>
-    ensures { IfOk result (λ count. keys.IsKey bytes.now (take count bytes.now)) }
+/// The key in a file's bytes, which is taken where 8 of its bytes differ at least.
+fn plain_key(bytes: &[u8]) -> Result<&[u8], KeyFault>
+    ensures { IfOk result (λ key. keys.IsKey bytes.now key.now) }
 {
     if bytes.starts_with(&VOTES[..]) {
         return Err(KeyFault::Votes);
     }
     match key_in(bytes) {
         Some(key) if different(key) < FEWEST_DIFFERENT => Err(KeyFault::Alike),
-        Some(key) => Ok(key.len()),
+        Some(key) => Ok(key),
         None if bytes.len() > LONGEST_KEY => Err(KeyFault::Long),
         None => Err(KeyFault::Short),
     }
 }
 
-/// The key in a file's bytes, which aren't copied.
-fn key_of(bytes: Vec<u8>) -> Result<Vec<u8>, KeyFault>
-    ensures { IfOk result (λ key. keys.IsKey bytes.items key.items) }
+/// A desk as a station.
+pub fn station_of(desk: DeskId) -> Asker
+    ensures { result ≡ asker desk }
 {
-    let mut bytes = bytes;
-    let count = key_len(bytes.as_slice())?;
-    bytes.truncate(count);
-    Ok(bytes)
+    match desk {
+        DeskId::A => Asker::A,
+        DeskId::B => Asker::B,
+    }
 }
 
-/// The key in a file of so many bytes, which is read to its end. What has others than these isn't on a disk, as `/proc/version`.
-fn key_run<R: Feed>(alloc: Global, reader: &mut Watched<R>, size: u64) -> Result<Vec<u8>, StopFault>
-    ensures key { IfOk result (λ key. keys.IsSomeKey key.items) }
+/// What a key's file begins with that has two keys, for a pair each.
+const OWNER_FRONT: &[u8; 17] = b"yermudosh key of ";
+
+/// A station's seals, and whether they are of keys for each pair.
+#[derive(Drop)]
+struct Seals {
+    ring: Ring,
+    is_of_pairs: bool,
+}
+
+/// The ring of a station where all stations have this one key.
+fn ring_of_one(key: &[u8], station: Asker, digest: &[u8; 32]) -> Ring
+    ensures { result ≡ keys.ring_of_one station (seal_of key.now digest.now) }
+{
+    let seal = Seal::new(key, digest);
+    let rest = seal.copied();
+    Ring::new(station, seal, rest)
+}
+
+/// The ring of a station, of its file of these bytes with two keys.
+fn ring_of_pairs(
+    alloc: Global,
+    bytes: &[u8],
+    station: Asker,
+    digest: &[u8; 32],
+) -> Result<Ring, StopFault>
+    ensures { IfOk result (λ ring. keys.HasRing bytes.now station digest.now ring) }
+{
+    let (first, rest) = pair_in(alloc, bytes, station)?;
+    Ok(Ring::new(station, Seal::new(first, digest), Seal::new(rest, digest)))
+}
+
+/// The seals of a station, of the bytes of its key's file and the digest of the sheet.
+fn seals_of(
+    alloc: Global,
+    bytes: &[u8],
+    station: Asker,
+    digest: &[u8; 32],
+) -> Result<Seals, StopFault>
+    ensures { IfOk result (λ seals. keys.HasRing bytes.now station digest.now seals.ring) }
+{
+    if bytes.starts_with(&OWNER_FRONT[..]) {
+        let ring = ring_of_pairs(alloc, bytes, station, digest)?;
+        return Ok(Seals {
+            ring,
+            is_of_pairs: true,
+        });
+    }
+    let key = plain_key(bytes).map_err(|why| StopFault::Key(why))?;
+    Ok(Seals {
+        ring: ring_of_one(key, station, digest),
+        is_of_pairs: false,
+    })
+}
+
+/// The seals of a station, of its key's file of so many bytes, which is read to its end. What has others than these isn't on a
+/// disk, as `/proc/version`.
+fn seals_run<R: Feed>(
+    alloc: Global,
+    reader: &mut Watched<R>,
+    size: u64,
+    station: Asker,
+    digest: &[u8; 32],
+) -> Result<Seals, StopFault>
+    ensures ring { IfOk result (λ seals. keys.IsRingOfSome station digest.now seals.ring) }
     ensures read { IfSome (R.remaining (stream_of reader.old)) (λ bytes.
-        IfOk result (λ key. keys.IsKey bytes key.items)) }
+        IfOk result (λ seals. keys.HasRing bytes station digest.now seals.ring)) }
 {
     let bytes = read_all(alloc, reader)?;
     if bytes.len() as u64 != size {
         return Err(StopFault::Key(KeyFault::NotAFile));
     }
-    key_of(bytes).map_err(|why| StopFault::Key(why))
+    seals_of(alloc, bytes.as_slice(), station, digest)
 }
 
 /// What a key's file has, and who may read it.
@@ -131,16 +197,22 @@ fn tell_readers(rt: &HostRuntime, path: &str, mode: u32) {
     }
 }
 
-/// The key in a file that isn't the sheet.
-fn key_at<'a>(rt: &HostRuntime, path: &'a str, sheet: &str) -> Result<Vec<u8>, Stopped<'a>>
-    ensures { IfOk result (λ key. keys.IsSomeKey key.items) }
+/// The seals of a station, of its key's file, which isn't the sheet, and the digest of that.
+fn seals_at<'a>(
+    rt: &HostRuntime,
+    path: &'a str,
+    sheet: &str,
+    station: Asker,
+    digest: &[u8; 32],
+) -> Result<Seals, Stopped<'a>>
+    ensures { IfOk result (λ seals. keys.IsRingOfSome station digest.now seals.ring) }
 {
     let file = key_file_at(rt, path, sheet)?;
     let mut reader = open_input(rt, path)?;
-    match key_run(rt.alloc(), &mut reader, file.size) {
-        Ok(key) => {
+    match seals_run(rt.alloc(), &mut reader, file.size, station, digest) {
+        Ok(seals) => {
             tell_readers(rt, path, file.mode);
-            Ok(key)
+            Ok(seals)
         }
         Err(fault) => Err(Stopped::at(path, fault)),
     }
@@ -152,70 +224,108 @@ fn keep_out_of_dumps(rt: &HostRuntime) {
     let _ = fs::write(rt, "/proc/self/coredump_filter", "0");
 }
 
-/// What a match's datagrams are sealed with, of the scorers' key, which isn't kept, and the digest of their sheet; that
-/// digest; and the number of the match.
+/// What a station's datagrams are sealed with, of its keys, which aren't kept, and the digest of the sheet; that digest; and the
+/// number of the match.
 #[derive(Drop)]
 pub struct Sealing {
-    seal: Seal,
-    /// Whether the scorers have a key.
+    ring: Ring,
+    station: Asker,
+    /// Whether the station has a key.
     has_key: bool,
+    /// Whether it has keys for each pair.
+    is_of_pairs: bool,
     digest: [u8; 32],
     game: u64,
 }
 
 impl Sealing {
-    /// Of this sheet and this key, without a byte where there is none.
-    fn with_key(sheet: &MatchSheet, key: &[u8]) -> Sealing
-        ensures seal { result.seal ≡ seal_of key.now (sheet_digest sheet.now) }
-        ensures has_key { result.has_key ≡ nat_lt 0 (length key.now) }
-        ensures digest { result.digest ≡ sheet_digest sheet.now }
+    /// Of a station, this sheet with its digest, and these seals, which are of keys in a file or of none.
+    fn with(
+        sheet: &MatchSheet,
+        digest: [u8; 32],
+        station: Asker,
+        has_key: bool,
+        seals: Seals,
+    ) -> Sealing
+        ensures ring { result.ring ≡ seals.ring }
+        ensures has_key { result.has_key ≡ has_key }
+        ensures digest { result.digest ≡ digest }
         ensures game { result.game ≡ sheet.now.game }
     {
-        let digest = digest_of(sheet);
         Sealing {
-            seal: Seal::new(key, &digest),
-            has_key: key.len() > 0,
+            ring: seals.ring,
+            station,
+            has_key,
+            is_of_pairs: seals.is_of_pairs,
             digest,
             game: sheet.game(),
         }
     }
 
-    /// Of this sheet, which was read from a file of this path, and the key in a file, where one is named.
+    /// Of a station, this sheet, which was read from a file of this path, and the keys in a file, where one is named.
     pub fn of<'a>(
         rt: &HostRuntime,
         sheet: &MatchSheet,
         sheet_path: &str,
+        station: Asker,
         key: Option<&'a str>,
     ) -> Result<Sealing, Stopped<'a>>
         ensures digest { IfOk result (λ sealing. sealing.digest ≡ sheet_digest sheet.now) }
         ensures game { IfOk result (λ sealing. sealing.game ≡ sheet.now.game) }
         ensures has_key { IfOk result (λ sealing. sealing.has_key ≡ is_some key.entry) }
         ensures none { key.entry ≡ None
-            → IfOk result (λ sealing. sealing.seal ≡ seal_of [] (sheet_digest sheet.now)) }
+            → IfOk result (λ sealing. sealing.ring ≡ keys.ring_of_one station (seal_of [] (sheet_digest sheet.now))) }
         ensures key { IfSome key.entry (λ path.
-            IfOk result (λ sealing. keys.IsOfSomeKey sealing.seal (sheet_digest sheet.now))) }
+            IfOk result (λ sealing. keys.IsRingOfSome station (sheet_digest sheet.now) sealing.ring)) }
     {
+        let digest = digest_of(sheet);
         match key {
             Some(path) => {
                 keep_out_of_dumps(rt);
-                let key = key_at(rt, path, sheet_path)?;
-                Ok(Sealing::with_key(sheet, key.as_slice()))
+                let seals = seals_at(rt, path, sheet_path, station, &digest)?;
+                Ok(Sealing::with(sheet, digest, station, true, seals))
             }
-            None => Ok(Sealing::with_key(sheet, b"")),
+            None => {
+                let seals = Seals {
+                    ring: ring_of_one(b"", station, &digest),
+                    is_of_pairs: false,
+                };
+                Ok(Sealing::with(sheet, digest, station, false, seals))
+            }
         }
     }
 
-    /// Tells what two scorers read to each other, by one write: the fingerprint of the sheet, and that of the key where
-    /// there is one.
-    pub fn tell_fingerprints<E: Write>(&self, errors: &mut E) -> io::Result<()> {
-        let mut text = *b"sheet 0000-0000\nkey 0000-0000\n";
+    /// The fingerprint of the sheet: the front of its digest.
+    fn sheet_fingerprint(&self) -> [u8; 4] {
         let digest = &self.digest;
-        put_digits(&mut text, 6, [digest[0], digest[1], digest[2], digest[3]]);
-        if !self.has_key {
-            return errors.write_all(&text[..16]);
-        }
-        put_digits(&mut text, 20, self.seal.fingerprint());
+        [digest[0], digest[1], digest[2], digest[3]]
+    }
+
+    /// The same as below, of a board with keys for each pair.
+    fn tell_keys_of_desks<E: Write>(&self, errors: &mut E) -> io::Result<()> {
+        let mut text = *b"sheet 0000-0000\nkey a 0000-0000\nkey b 0000-0000\n";
+        put_digits(&mut text, 6, self.sheet_fingerprint());
+        put_digits(&mut text, 22, self.ring.first().fingerprint());
+        put_digits(&mut text, 38, self.ring.rest().fingerprint());
         errors.write_all(&text[..])
+    }
+
+    /// Tells what is read to the other stations, by one write: the fingerprint of the sheet, and those of the keys, where there
+    /// are some.
+    pub fn tell_fingerprints<E: Write>(&self, errors: &mut E) -> io::Result<()> {
+        if self.is_of_pairs && matches!(self.station, Asker::Board) {
+            return self.tell_keys_of_desks(errors);
+        }
+        let mut text = *b"sheet 0000-0000\nkey 0000-0000\nboard key 0000-0000\n";
+        put_digits(&mut text, 6, self.sheet_fingerprint());
+        put_digits(&mut text, 20, self.ring.first().fingerprint());
+        put_digits(&mut text, 40, self.ring.rest().fingerprint());
+        let count = match (self.has_key, self.is_of_pairs) {
+            (false, _) => 16,
+            (true, false) => 30,
+            (true, true) => 50,
+        };
+        errors.write_all(&text[..count])
     }
 
     /// A station's sealed datagrams at its address, of which none passed yet. Its waits end for these too.
@@ -227,11 +337,11 @@ impl Sealing {
         ends: WaitEnds,
         errors: E,
     ) -> Result<Sealed<Peers<E>>, Stopped<'a>>
-        ensures seal { IfOk result (λ sealed. sealed.seal ≡ self.now.seal) }
+        ensures ring { IfOk result (λ sealed. sealed.ring ≡ self.now.ring) }
         ensures log { IfOk result (λ sealed. carried_of sealed.carrier.log ≡ []) }
     {
-        let peers = peers_at(rt, at, peers, ends, self.seal.copied(), errors)?;
-        Ok(Sealed::new(peers, self.seal.copied()))
+        let peers = peers_at(rt, at, peers, ends, self.ring.opener(), errors)?;
+        Ok(Sealed::new(peers, self.ring.copied()))
     }
 
     /// A station's link over its sealed datagrams, of which none passed yet. It has no socket but theirs.
@@ -251,8 +361,8 @@ impl Sealing {
 }
 
 /// Puts a fingerprint into a text, as eight hex digits in two groups.
-fn put_digits(text: &mut [u8; 30], at: usize, fingerprint: [u8; 4])
-    requires { at ≤ 21 }
+fn put_digits(text: &mut [u8], at: usize, fingerprint: [u8; 4])
+    requires { at + 9 ≤ length text.old }
 {
     let _ = encode_to_slice(&fingerprint[..2], &mut text[at..at + 4]);
     let _ = encode_to_slice(&fingerprint[2..], &mut text[at + 5..at + 9]);

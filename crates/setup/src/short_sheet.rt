@@ -1,6 +1,8 @@
-//! The sheet of a word that takes no long one, and tells in words what is wrong with one.
+//! The sheet of a word that takes no long one, and tells in words what is wrong with one; and that of one file's cards, which
+//! may be longer.
 
-ghost use Rattle.std.specs.Prelude.{◌≤◌, IfOk, vec_len};
+ghost use Rattle.std.specs.Prelude.{◌≡◌, ◌≤◌, ◌<◌, IfOk, IfErr, Ok, vec_len};
+ghost use Rattle.setup.specs.SheetText.{IsSheetOf};
 
 use crate::fault::{StopFault, Stopped};
 use crate::opening::bytes_at;
@@ -8,20 +10,32 @@ use crate::twins::told_sheet_of;
 use cards::{MatchSheet, SheetFault};
 use sheet_check::{faults_of, first_line, report_of};
 use std::io::Write;
+use std::snapshot::Snapshot;
 use toml::Table;
 
 /// How many bytes the sheet of such a word has at most.
 pub const LONGEST_SHEET: usize = 65_536;
 
-/// The bytes of such a sheet. One that is longer can't be read: it isn't taken apart.
-pub fn short_sheet_bytes<'a>(rt: &HostRuntime, path: &'a str) -> Result<Vec<u8>, Stopped<'a>>
-    ensures { IfOk result (λ bytes. vec_len bytes ≤ LONGEST_SHEET) }
+/// How many bytes the sheet of one file's cards has at most.
+pub const LONGEST_CARD_SHEET: usize = 1_048_576;
+
+/// A sheet's bytes, where they are no more than so many. One that is longer can't be read: it isn't taken apart.
+fn expect_short<'a>(path: &'a str, bytes: Vec<u8>, most: usize) -> Result<Vec<u8>, Stopped<'a>>
+    ensures taken { vec_len bytes ≤ most → result ≡ Ok bytes }
+    ensures most { IfOk result (λ taken. vec_len taken ≤ most) }
+    ensures refused { IfErr result (λ stopped. (stopped.fault ≡ StopFault.Read) × (most < vec_len bytes)) }
 {
-    let bytes = bytes_at(rt, path)?;
-    if bytes.len() > LONGEST_SHEET {
+    if bytes.len() > most {
         return Err(Stopped::at(path, StopFault::Read));
     }
     Ok(bytes)
+}
+
+/// The bytes of such a sheet.
+pub fn short_sheet_bytes<'a>(rt: &HostRuntime, path: &'a str) -> Result<Vec<u8>, Stopped<'a>>
+    ensures { IfOk result (λ bytes. vec_len bytes ≤ LONGEST_SHEET) }
+{
+    expect_short(path, bytes_at(rt, path)?, LONGEST_SHEET)
 }
 
 /// Tells standard error by which number a sheet is refused, and why in words. That it can't be told is no fault.
@@ -46,7 +60,9 @@ pub fn short_sheet_of<'a>(
     rt: &HostRuntime,
     path: &'a str,
     text: &[u8],
-) -> Result<MatchSheet, Stopped<'a>> {
+) -> Result<MatchSheet, Stopped<'a>>
+    ensures { IfOk result (IsSheetOf text.now) }
+{
     match told_sheet_of(rt, path, text) {
         Err(
             Stopped {
@@ -62,6 +78,44 @@ pub fn short_sheet_of<'a>(
 pub fn short_sheet_at<'a>(rt: &HostRuntime, path: &'a str) -> Result<MatchSheet, Stopped<'a>> {
     let text = short_sheet_bytes(rt, path)?;
     short_sheet_of(rt, path, text.as_slice())
+}
+
+/// The match sheet of a file, with where it was read, and what was read there, which clauses alone read.
+#[derive(Drop)]
+pub struct SheetFile<'a> {
+    pub path: &'a str,
+    pub text: Snapshot<Vec<u8>>,
+    pub sheet: MatchSheet,
+}
+
+/// The match sheet in a file, with what it was read of.
+pub fn sheet_file_at<'a>(rt: &HostRuntime, path: &'a str) -> Result<SheetFile<'a>, Stopped<'a>>
+    ensures path { IfOk result (λ file. file.path.now ≡ path.now) }
+    ensures sheet { IfOk result (λ file. IsSheetOf (file.text).value.items file.sheet) }
+{
+    let text = short_sheet_bytes(rt, path)?;
+    let sheet = short_sheet_of(rt, path, text.as_slice())?;
+    Ok(SheetFile {
+        path,
+        text: Snapshot::of(&text),
+        sheet,
+    })
+}
+
+/// The match sheet in a file, with what it was read of, for one file's cards: it may be longer, and one that is refused is told by
+/// its number alone.
+pub fn card_sheet_at<'a>(rt: &HostRuntime, path: &'a str) -> Result<SheetFile<'a>, Stopped<'a>>
+    ensures path { IfOk result (λ file. file.path.now ≡ path.now) }
+    ensures sheet { IfOk result (λ file. IsSheetOf (file.text).value.items file.sheet) }
+    ensures most { IfOk result (λ file. vec_len (file.text).value ≤ LONGEST_CARD_SHEET) }
+{
+    let text = expect_short(path, bytes_at(rt, path)?, LONGEST_CARD_SHEET)?;
+    let sheet = told_sheet_of(rt, path, text.as_slice())?;
+    Ok(SheetFile {
+        path,
+        text: Snapshot::of(&text),
+        sheet,
+    })
 }
 
 /// Why nothing begins with a sheet's table, if something is wrong with it or with its stations. Standard error is told of the

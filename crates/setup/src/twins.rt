@@ -1,8 +1,9 @@
 //! Names of a sheet that two bear. Such a sheet is taken: standard error is told, and the match goes on.
 
+ghost use Rattle.std.specs.Prelude.{IfOk};
+ghost use Rattle.setup.specs.SheetText.{IsSheetOf};
+
 use crate::fault::{StopFault, Stopped};
-use crate::opening::bytes_at;
-use crate::sheet::NoSheet;
 use crate::unfit_keys::tell_unfit_keys;
 use cards::{MatchSheet, read_sheet};
 use notation::{Player, Side};
@@ -61,19 +62,15 @@ pub fn told_sheet_of<'a>(
     rt: &HostRuntime,
     path: &'a str,
     text: &[u8],
-) -> Result<MatchSheet, Stopped<'a>> {
+) -> Result<MatchSheet, Stopped<'a>>
+    ensures { IfOk result (IsSheetOf text.now) }
+{
     match read_sheet(rt.alloc(), text) {
         Ok(sheet) => {
             let _ = tell_twins(&mut rt.stderr(), &sheet);
             let _ = tell_unfit_keys(&mut rt.stderr(), rt.alloc(), text);
             Ok(sheet)
         }
-        Err(why) => Err(Stopped::at(path, StopFault::from(NoSheet::from(why)))),
+        Err(why) => Err(Stopped::at(path, StopFault::from(why))),
     }
-}
-
-/// The match sheet in a file, told in the same way.
-pub fn told_sheet_at<'a>(rt: &HostRuntime, path: &'a str) -> Result<MatchSheet, Stopped<'a>> {
-    let text = bytes_at(rt, path)?;
-    told_sheet_of(rt, path, text.as_slice())
 }

@@ -1,17 +1,21 @@
 //! A desk or a board that begins with its sheet's table of stations.
 
 ghost use Rattle.std.specs.Prelude.{◌≡◌, IfOk, Some, option_copied};
-ghost use Rattle.desk_command.specs.Lives.{copy_of, desk_of, path_of};
+ghost use Rattle.desk_command.specs.Lives.{copy_of, desk_of, path_of, sheet_path_of};
+ghost use Rattle.board_command.specs.Lives as board;
 ghost use Rattle.station_table.specs.Begun as begun;
 ghost use Rattle.toml.specs.View.{table_view};
 
 use agree_core::DeskId;
-use board_command::start_board;
-use cards::{Columns, SheetFault};
-use desk_command::{Life, start_desk};
+use board_command::{Ended as EndedBoard, start_board};
+use cards::SheetFault;
+use desk_command::{Ended as EndedDesk, start_desk};
 use machine::{Address, MOST_PEERS, addresses_in};
 use setup::{Stopped, tell_station};
-use station_table::{BoardNames, BoardOptions, DeskOptions, board_begun, desk_begun};
+use station_table::{
+    BoardNames, BoardOptions, BoardSetting, DeskOptions, DeskSetting, Showing, board_begun,
+    desk_begun,
+};
 use std::net::SocketAddr;
 use toml::Table;
 
@@ -131,70 +135,39 @@ fn addresses_of<'a>(
     found(rt, sheet, desk_addresses(at, other, boards))
 }
 
-/// Keeps a desk with these.
-fn start_begun<'a>(
-    rt: &HostRuntime,
-    sheet: &'a str,
-    desk: DeskId,
-    at: Option<&'a str>,
-    other: Option<&'a str>,
-    boards: BoardNames<'a>,
-    file: Option<&'a str>,
-    copy: Option<&'a str>,
-    key: Option<&'a str>,
-    serve: Option<Address<'a>>,
-    columns: Option<Columns>,
-) -> Result<Life<'a>, Stopped<'a>>
-    ensures desk { IfOk result (λ life. desk_of life ≡ desk) }
-    ensures file { IfOk result (λ life. Some (path_of life) ≡ option_copied file.entry) }
-    ensures copy { IfOk result (λ life. copy_of life ≡ option_copied copy.entry) }
-{
-    let (at, peers) = addresses_of(rt, sheet, desk, at, other, boards)?;
-    let file = present(rt, sheet, "stations, votes", file)?;
-    start_desk(rt, sheet, desk, file, copy, at, peers, serve, key, columns)
-}
-
 /// `ground desk` with a letter: keeps that desk with what its words name, and for what they don't with what its sheet's
 /// table of stations has.
 #[inline(never)]
 pub fn start_desk_of<'a>(
-    rt: &HostRuntime,
+    rt: &'a HostRuntime,
     sheet: &'a str,
     desk: DeskId,
-    named: DeskOptions<'a>,
+    named: &DeskOptions<'a>,
     serve: Option<Address<'a>>,
     table: &'a Table,
-) -> Result<Life<'a>, Stopped<'a>>
-    ensures desk { IfOk result (λ life. desk_of life ≡ desk) }
-    ensures file { IfOk result (λ life.
-        Some (path_of life) ≡ (begun.begun_with desk (begun.desk_of named.entry) (table_view table.now)).file) }
-    ensures copy { IfOk result (λ life.
-        copy_of life ≡ (begun.begun_with desk (begun.desk_of named.entry) (table_view table.now)).copy) }
+) -> Result<EndedDesk<'a>, Stopped<'a>>
+    ensures desk { IfOk result (λ ended. desk_of ended.life ≡ desk) }
+    ensures sheet { IfOk result (λ ended. sheet_path_of ended.life ≡ sheet.now) }
+    ensures file { IfOk result (λ ended.
+        Some (path_of ended.life) ≡ (begun.begun_with desk (begun.desk_of named.now) (table_view table.now)).file) }
+    ensures copy { IfOk result (λ ended.
+        copy_of ended.life ≡ (begun.begun_with desk (begun.desk_of named.now) (table_view table.now)).copy) }
 {
-    // Each field by itself: the prover doesn't know the whole to be `Copy`.
-    let words = DeskOptions {
-        file: named.file,
-        copy: named.copy,
-        key: named.key,
-        at: named.at,
-        other: named.other,
-        boards: named.boards,
-        columns: named.columns,
-    };
-    let begun = desk_begun(desk, words, table);
-    start_begun(
-        rt,
+    let begun = desk_begun(desk, named, table);
+    let (at, peers) = addresses_of(rt, sheet, desk, begun.at, begun.other, begun.boards)?;
+    let file = present(rt, sheet, "stations, votes", begun.file)?;
+    let setting = DeskSetting {
         sheet,
         desk,
-        begun.at,
-        begun.other,
-        begun.boards,
-        begun.file,
-        begun.copy,
-        begun.key,
+        file,
+        copy: begun.copy,
+        key: begun.key,
+        at,
+        peers,
         serve,
-        begun.columns,
-    )
+        columns: begun.columns,
+    };
+    start_desk(rt, &setting)
 }
 
 /// `ground board` with a number: keeps that board of the table, in the same way.
@@ -203,17 +176,23 @@ pub fn start_board_of<'a>(
     rt: &'a HostRuntime,
     sheet: &'a str,
     index: u8,
-    named: BoardOptions<'a>,
-    text: Option<&'a str>,
-    json: Option<&'a str>,
-    script: Option<&'a str>,
-    serve: Option<Address<'a>>,
+    named: &BoardOptions<'a>,
+    shows: &Showing<'a>,
     table: &'a Table,
-) -> Result<bool, Stopped<'a>> {
+) -> Result<EndedBoard<'a>, Stopped<'a>>
+    ensures sheet { IfOk result (λ ended. board.sheet_path_of ended.life ≡ sheet.now) }
+{
     let begun = board_begun(usize::from(index), named, table);
     let at = address(rt, sheet, "stations, boards", begun.at)?;
     let a = address(rt, sheet, "stations, a", begun.a)?;
     let b = address(rt, sheet, "stations, b", begun.b)?;
     let (at, peers) = found(rt, sheet, addresses_in(at, a, &[b]))?;
-    start_board(rt, sheet, at, peers, text, json, script, serve, begun.key)
+    let setting = BoardSetting {
+        sheet,
+        key: begun.key,
+        at,
+        peers,
+        shows: *shows,
+    };
+    start_board(rt, &setting)
 }

@@ -1,9 +1,11 @@
 -- What a page shows of a desk.
 use Rattle.std.specs.Prelude.{◌≡◌, ◌⊎◌, ℕ, List, [], ◌∷◌, ◌++◌}
+use Rattle.notation.specs.declared.entry.Entry.{Entry}
 use Rattle.agree_core.specs.declared.messages.DeskId.{DeskId}
+use Rattle.desk_state.specs.Book.{book_text}
 use Rattle.desk_state.specs.Value.{open_text, state_text}
 use Rattle.screen.specs.Sights.{DeskSight}
-use Rattle.viewers.specs.Replies.{SameOpenly, ShowsOpenly}
+use Rattle.viewers.specs.Replies.{SameOpenly, ShowsBook, ShowsOpenly}
 use Rattle.viewers.specs.declared.shown.Shown.{Shown}
 use Rattle.station_pages.specs.declared.sight.{TextLog.TextLog, TextLog.Empty, TextLog.Given'}
 
@@ -24,6 +26,14 @@ ShowsState desk before after sight =
     ⊎ ((held : _) × (after ≡ before
     ++ (open_of desk sight, state_text sight.sheet sight.innings sight.book desk sight.at sight.own held) ∷ []))
 
--- who hasn't the secret is served what they were, or what all may read of that desk
+-- who hasn't the secret is served of the book what they were, or what stands in that one
+abbrev pub ServesBook : Shown → Shown → List Entry → Type 0
+ServesBook before after book = SameOpenly before after ⊎ ShowsBook (book_text book) before after
+
+-- and of the state what they were, or what all may read of that desk
+abbrev pub ServesState : DeskId → Shown → Shown → DeskSight → Type 0
+ServesState desk before after sight = SameOpenly before after ⊎ ShowsOpenly (open_of desk sight) before after
+
+-- first of the book, and then of the state
 abbrev pub ServesOthers : DeskId → Shown → Shown → DeskSight → Type 0
-ServesOthers desk before after sight = SameOpenly before after ⊎ ShowsOpenly (open_of desk sight) before after
+ServesOthers desk before after sight = (mid : Shown) × ServesBook before mid sight.book × ServesState desk mid after sight

@@ -2,18 +2,11 @@
 
 use links::Clock;
 use std::cell::RefCell;
-use viewers::Viewers;
 
 /// What is seen to in a station's turns.
 pub trait Attends {
     /// Does what can be done at once.
     fn attend(&mut self, now: u64);
-}
-
-impl Attends for Viewers {
-    fn attend(&mut self, now: u64) {
-        self.pump(now);
-    }
 }
 
 /// A clock as another is. Whenever a station looks at it, as it does behind each wait, its page is seen to, where there is one.

@@ -3,6 +3,8 @@
 #![tactic(auto)]
 
 mod attended;
+mod board_page;
+mod handed;
 mod page_lines;
 mod page_words;
 mod rows;
@@ -10,6 +12,8 @@ mod scorers_page;
 mod sight;
 
 pub use attended::{Attended, Attends};
+pub use board_page::BoardPage;
+pub use handed::HandedLog;
 pub use page_lines::PageLines;
 pub use page_words::{PageWord, PageWords, Squares};
 pub use scorers_page::ScorersPage;

@@ -1,24 +1,47 @@
 //! The lines that are typed in a desk's page.
 
-ghost use Rattle.std.specs.Prelude.{◌≤◌, IfSome};
+ghost use Rattle.std.specs.Prelude.{◌≡◌, ◌≤◌, [], take};
+ghost use Rattle.posts.specs.PostedLogs.{lines_of};
 
 use crate::scorers_page::ScorersPage;
 use agree_core::Position;
 use links::{LineBuffer, MoreLines, Stand};
+use posts::{PostedLine, PostedLog};
 use std::cell::RefCell;
 use std::io::Write;
 use std::str;
 
-/// The lines of a page, where there is one. Each is told.
+/// The lines of a page, where there is one: each was posted there, and is told.
 #[derive(Drop)]
 pub struct PageLines<'p, E> {
-    pub page: Option<&'p RefCell<ScorersPage>>,
-    pub errors: E,
+    page: Option<&'p RefCell<ScorersPage>>,
+    errors: E,
+    log: PostedLog,
 }
 
-impl<E: Write> PageLines<'_, E> {
+impl<'p, E: Write> PageLines<'p, E> {
+    /// Of this page, none of whose lines was given yet.
+    pub fn of(page: Option<&'p RefCell<ScorersPage>>, errors: E) -> PageLines<'p, E>
+        ensures { lines_of result.log ≡ [] }
+    {
+        PageLines {
+            page,
+            errors,
+            log: PostedLog::Empty,
+        }
+    }
+
+    /// What was given, which clauses alone read.
+    pub fn posted(&self) -> &PostedLog
+        ensures { result.now ≡ self.now.log }
+    {
+        &self.log
+    }
+
     /// Tells how many look at the page, where others did before.
-    fn tell_change(&mut self) {
+    fn tell_change(&mut self)
+        ensures { self.new.log ≡ self.old.log }
+    {
         let _ = match change_of(self.page) {
             None => Ok(()),
             Some(0) => writeln!(self.errors, "no page"),
@@ -28,7 +51,9 @@ impl<E: Write> PageLines<'_, E> {
     }
 
     /// Tells that a line was typed in the page.
-    fn tell(&mut self, line: &[u8]) {
+    fn tell(&mut self, line: &[u8])
+        ensures { self.new.log ≡ self.old.log }
+    {
         let text = as_told(line);
         let _ = writeln!(self.errors, "page: {text}");
     }
@@ -49,22 +74,35 @@ fn change_of(page: Option<&RefCell<ScorersPage>>) -> Option<usize> {
 }
 
 /// The next line of a page, for the desk that stands so.
-fn next_of(page: Option<&RefCell<ScorersPage>>, at: Stand, buffer: &mut LineBuffer) -> Option<usize>
-    ensures { IfSome result (λ count. count ≤ 128) }
-{
+fn next_of(page: Option<&RefCell<ScorersPage>>, at: Stand) -> Option<PostedLine> {
     let mut page = page?.try_borrow_mut().ok()?;
     page.stand(Position {
         place: at.place,
         round: at.round,
     });
-    page.next_line(buffer)
+    page.next_line()
+}
+
+/// Puts a line into the front of a buffer, and tells its length.
+fn put(line: &PostedLine, buffer: &mut LineBuffer) -> usize
+    ensures length { (result ≤ 128) × (take result buffer.new ≡ line.now.text.items) }
+{
+    let text = line.text.as_slice();
+    buffer[..text.len()].copy_from_slice(text);
+    text.len()
 }
 
 impl<E: Write> MoreLines for PageLines<'_, E> {
+    ghost use Rattle.posts.specs.PostedLogs.{lines_of};
+
+    ghost given = { λ lines. lines_of lines.log };
+
     fn next_line(&mut self, at: Stand, buffer: &mut LineBuffer) -> Option<usize> {
         self.tell_change();
-        let count = next_of(self.page, at, buffer)?;
+        let line = next_of(self.page, at)?;
+        let count = put(&line, buffer);
         self.tell(&buffer[..count]);
+        self.log = self.log.line(&line);
         Some(count)
     }
 

@@ -66,7 +66,10 @@ impl<K: Keys, S: Squares> PageWords<K, S> {
     }
 
     /// The keyboard.
-    pub fn keys(&self) -> &K {
+    pub fn keys(&self) -> &K
+        ensures keys { result.now ≡ self.now.keys }
+        ensures others { inputs_of self.now.given ≡ for_desk (K.inputs result.now) }
+    {
         &self.keys
     }
 

@@ -1,12 +1,13 @@
 //! The page of a desk.
 
-ghost use Rattle.std.specs.Prelude.{◌≡◌, ◌≤◌, IfSome};
-ghost use Rattle.viewers.specs.Replies.{ShowsOpenly};
+ghost use Rattle.std.specs.Prelude.{◌≡◌};
+ghost use Rattle.sha2.specs.Sha256.{sha256};
+ghost use Rattle.viewers.specs.Replies.{ShowsBook, ShowsOpenly};
 
 use crate::attended::Attends;
 use crate::rows::Rows;
 use agree_core::Position;
-use links::LineBuffer;
+use posts::PostedLine;
 use std::alloc::Global;
 use std::os::fd::RawFd;
 use viewers::Viewers;
@@ -76,6 +77,14 @@ impl ScorersPage {
         self.viewers.put_own_state(whole);
     }
 
+    /// This is what stands in the book from here on.
+    pub fn show_book(&mut self, book: Vec<u8>)
+        ensures shown { ShowsBook book.items self.old.viewers.shown self.new.viewers.shown }
+        ensures digest { self.new.viewers.own.digest ≡ sha256 book.items }
+    {
+        self.viewers.put_book(book);
+    }
+
     /// The desk is at this position from here on. Lines that were typed here for another one are dropped, and told.
     pub fn stand(&mut self, at: Position) {
         if self.viewers.stand(at) > 0 {
@@ -85,11 +94,9 @@ impl ScorersPage {
         }
     }
 
-    /// Takes the next line that was typed here, if there is one: it stands in front of the buffer.
-    pub fn next_line(&mut self, buffer: &mut LineBuffer) -> Option<usize>
-        ensures { IfSome result (λ count. count ≤ 128) }
-    {
-        self.viewers.next_line(buffer)
+    /// Takes the next line that was typed here, if there is one.
+    pub fn next_line(&mut self) -> Option<PostedLine> {
+        self.viewers.next_line()
     }
 
     /// Counts who look at it, once in a while: strangers who come and go fill no screen.

@@ -1,16 +1,18 @@
 //! The state of a desk, in its page.
 
-ghost use Rattle.std.specs.Prelude.{◌≡◌, ◌∷◌, ◌++◌, [], IfOk, IfSome};
+ghost use Rattle.std.specs.Prelude.{◌≡◌, ◌⊎◌, ◌∷◌, ◌++◌, [], IfOk, IfSome, Some, length, true};
 ghost use Rattle.notation.specs.Written.{IsEntry};
 ghost use Rattle.screen.specs.Sights.{sight_at};
-ghost use Rattle.station_pages.specs.Sights.{ServesOthers, ShowsState, open_of, texts_in};
+ghost use Rattle.station_pages.specs.Sights.{ServesBook, ServesOthers, ServesState, ShowsState, open_of, texts_in};
+ghost use Rattle.viewers.specs.Replies.{ShowsBook};
+ghost use Rattle.desk_state.specs.Book.{book_text as book_of};
 ghost use Rattle.desk_state.specs.Value.{state_text as state_of};
 
 use crate::scorers_page::ScorersPage;
 use agree_core::{DeskId, Position};
 use cards::MatchSheet;
 use corrections::BookOf;
-use desk_state::{open_text, state_text};
+use desk_state::{book_text, open_text, state_text};
 use links::{HeldLine, HeldLines};
 use notation::Entry;
 use screen::ShowsDesk;
@@ -47,6 +49,8 @@ pub struct PageSight<'p> {
     alloc: Global,
     desk: DeskId,
     page: Option<&'p RefCell<ScorersPage>>,
+    /// How many entries the book had that was shown last.
+    entries: Option<u32>,
     seen: Option<Seen>,
     /// The lines that were held then.
     held: HeldLines,
@@ -97,14 +101,38 @@ impl<'p> PageSight<'p> {
             alloc,
             desk,
             page,
+            entries: None,
             seen: None,
             held: HeldLines::new(),
             log: TextLog::Empty,
         }
     }
 
-    /// Has a page show this, unless it does so already.
-    fn put<B: BookOf>(
+    /// Has a page show what stands in a book, unless it was shown one with as many entries, and tells whether it is.
+    fn put_book<B: BookOf>(&mut self, page: &mut ScorersPage, book: &B) -> bool
+        ensures others { ServesBook page.old.viewers.shown page.new.viewers.shown (B.content book.now) }
+        ensures shows { result ≡ true → (self.old.entries ≡ Some (length (B.content book.now)))
+            ⊎ ShowsBook (book_of (B.content book.now)) page.old.viewers.shown page.new.viewers.shown }
+        ensures entries { result ≡ true → self.new.entries ≡ Some (length (B.content book.now)) }
+        ensures desk { self.new.desk ≡ self.old.desk }
+        ensures log { self.new.log ≡ self.old.log }
+    {
+        let entries = book.len();
+        if self.entries == Some(entries) {
+            return true;
+        }
+        match book_text(self.alloc, book) {
+            Ok(text) => {
+                page.show_book(text);
+                self.entries = Some(entries);
+                true
+            }
+            Err(_) => false,
+        }
+    }
+
+    /// Has a page show this state, unless it does so already.
+    fn put_state<B: BookOf>(
         &mut self,
         page: &mut ScorersPage,
         sheet: &MatchSheet,
@@ -116,7 +144,7 @@ impl<'p> PageSight<'p> {
         requires { IfSome own IsEntry }
         ensures shows { ShowsState self.old.desk (texts_in self.old.log) (texts_in self.new.log)
             (sight_at sheet.now (B.innings_a_side book.now) (B.content book.now) at own) }
-        ensures others { ServesOthers self.old.desk page.old.viewers.shown page.new.viewers.shown
+        ensures others { ServesState self.old.desk page.old.viewers.shown page.new.viewers.shown
             (sight_at sheet.now (B.innings_a_side book.now) (B.content book.now) at own) }
         ensures desk { self.new.desk ≡ self.old.desk }
     {
@@ -136,6 +164,28 @@ impl<'p> PageSight<'p> {
             self.held.clear();
             let _fits = self.held.try_extend_from_slice(held);
             page.show_state(texts.openly, texts.own);
+        }
+    }
+
+    /// Has a page show both, the book first: a page that reads of an entry can have all that stands then.
+    fn put<B: BookOf>(
+        &mut self,
+        page: &mut ScorersPage,
+        sheet: &MatchSheet,
+        book: &B,
+        at: Position,
+        own: Option<Entry>,
+        held: &[HeldLine],
+    )
+        requires { IfSome own IsEntry }
+        ensures shows { ShowsState self.old.desk (texts_in self.old.log) (texts_in self.new.log)
+            (sight_at sheet.now (B.innings_a_side book.now) (B.content book.now) at own) }
+        ensures others { ServesOthers self.old.desk page.old.viewers.shown page.new.viewers.shown
+            (sight_at sheet.now (B.innings_a_side book.now) (B.content book.now) at own) }
+        ensures desk { self.new.desk ≡ self.old.desk }
+    {
+        if self.put_book(page, book) {
+            self.put_state(page, sheet, book, at, own, held);
         }
     }
 }

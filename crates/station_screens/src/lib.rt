@@ -1,6 +1,9 @@
 //! What a station tells: standard output and standard error, which may not be read for long.
 #![tactic(auto)]
 
+ghost use Rattle.std.specs.Prelude.{◌≡◌, [], IfOk};
+ghost use Rattle.machine.specs.Screens.{written_of};
+
 use machine::{Outlet, Pieces, Screen, StandardStream};
 use setup::{StopFault, Stopped};
 use std::cell::RefCell;
@@ -13,8 +16,10 @@ pub type Output<'a> = Screen<Pieces<StandardStream<'a, Stdout>>>;
 /// Standard error.
 pub type Errors<'a> = Screen<Pieces<StandardStream<'a, Stderr>>>;
 
-/// Standard output, which keeps nobody waiting.
-pub fn output_at(rt: &HostRuntime) -> Result<Output<'_>, Stopped<'static>> {
+/// Standard output, which keeps nobody waiting, and to which nothing was written.
+pub fn output_at(rt: &HostRuntime) -> Result<Output<'_>, Stopped<'static>>
+    ensures { IfOk result (λ output. written_of output ≡ []) }
+{
     let stream = Pieces::of(StandardStream::output(rt));
     Screen::new(rt.alloc(), stream).map_err(|_| Stopped::at("-", StopFault::NoMemory))
 }

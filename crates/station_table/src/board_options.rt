@@ -18,8 +18,8 @@ pub struct BoardOptions<'a> {
 
 /// What the board of this index, counted from 0, begins with: what its words name, and for what they don't what its sheet's
 /// table of stations has.
-pub fn board_begun<'a>(index: usize, named: BoardOptions<'a>, sheet: &'a Table) -> BoardOptions<'a>
-    ensures { begun.board_of result ≡ begun.board_begun_with index (begun.board_of named.entry) (table_view sheet.now) }
+pub fn board_begun<'a>(index: usize, named: &BoardOptions<'a>, sheet: &'a Table) -> BoardOptions<'a>
+    ensures { begun.board_of result ≡ begun.board_begun_with index (begun.board_of named.now) (table_view sheet.now) }
 {
     BoardOptions {
         at: or_else(named.at, board_in(sheet, index)),

@@ -91,8 +91,8 @@ fn boards_or<'a>(named: BoardNames<'a>, sheet: &'a Table) -> BoardNames<'a>
 }
 
 /// What a desk begins with: what its words name, and for what they don't what its sheet's table of stations has.
-pub fn desk_begun<'a>(desk: DeskId, named: DeskOptions<'a>, sheet: &'a Table) -> DeskOptions<'a>
-    ensures { begun.desk_of result ≡ begun.begun_with desk (begun.desk_of named.entry) (table_view sheet.now) }
+pub fn desk_begun<'a>(desk: DeskId, named: &DeskOptions<'a>, sheet: &'a Table) -> DeskOptions<'a>
+    ensures { begun.desk_of result ≡ begun.begun_with desk (begun.desk_of named.now) (table_view sheet.now) }
 {
     let file = or_else(text_in(sheet, "votes"), Some(own_file(desk)));
     let copy = or_else(text_in(sheet, own_copy(desk)), text_in(sheet, "copy"));

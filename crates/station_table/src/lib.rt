@@ -1,11 +1,13 @@
-//! The table `[stations]` of a match sheet, which stands for the options of a desk's and a board's words.
+//! With what a desk and a board are kept, and the table `[stations]` of a match sheet, which stands for the options of their words.
 #![tactic(auto)]
 
 mod board_options;
 mod desk_options;
 mod laws;
 mod lookup;
+mod settings;
 
 pub use board_options::{BoardOptions, board_begun};
 pub use desk_options::{BoardNames, DeskOptions, MOST_BOARDS, desk_begun};
 pub use laws::stations_are_not_of_the_sheet;
+pub use settings::{BoardSetting, DeskSetting, Showing};

@@ -15,7 +15,7 @@ plain_task = Check 2
 
 -- a board of a sheet's table is one of four
 abbrev pub IsBoardTask : BoardTask → Type 0
-IsBoardTask (OfSheet sheet index named text json script serve) = index ≤ 3
+IsBoardTask (OfSheet sheet index named shows) = index ≤ 3
 IsBoardTask task = ⊤
 
 -- the numbers of a task are in their ranges: 1 or 2 innings a side, at most 4 boards

@@ -8,7 +8,9 @@ use crate::words::{desk_in, number_in};
 use cards::Columns;
 use clap::ArgMatches;
 use machine::{Address, addresses_in};
-use station_table::{BoardNames, BoardOptions, DeskOptions, MOST_BOARDS};
+use station_table::{
+    BoardNames, BoardOptions, BoardSetting, DeskOptions, DeskSetting, MOST_BOARDS, Showing,
+};
 use std::net::SocketAddr;
 
 /// The sheet of a station whose words name none: that of the folder.
@@ -54,16 +56,26 @@ fn full_desk_task<'a>(words: &ArgMatches<'a>) -> Option<DeskTask<'a>> {
         Some(boards) => addresses_in(at, other, boards)?,
         None => addresses_in(at, other, &[])?,
     };
-    Some(DeskTask::Named {
+    Some(DeskTask::Named(DeskSetting {
         sheet: words.get_str("sheet")?,
         desk: desk_in(words.get_str("desk")?)?,
         file: words.get_str("file")?,
         copy: words.get_str("copy"),
+        key: words.get_str("key"),
         at,
         peers,
         serve: served_in(words)?,
-        key: words.get_str("key"),
         columns: columns_in(words)?,
+    }))
+}
+
+/// Where the words say that a board shows its book.
+fn showing_in<'a>(words: &ArgMatches<'a>) -> Option<Showing<'a>> {
+    Some(Showing {
+        text: words.get_str("text"),
+        json: words.get_str("json"),
+        script: words.get_str("script"),
+        serve: served_in(words)?,
     })
 }
 
@@ -73,16 +85,13 @@ fn full_board_task<'a>(words: &ArgMatches<'a>) -> Option<BoardTask<'a>>
 {
     let other = words.get_str("desk-b")?;
     let (at, peers) = addresses_in(words.get_str("at")?, words.get_str("desk-a")?, &[other])?;
-    Some(BoardTask::Named {
+    Some(BoardTask::Named(BoardSetting {
         sheet: words.get_str("sheet")?,
+        key: words.get_str("key"),
         at,
         peers,
-        text: words.get_str("text"),
-        json: words.get_str("json"),
-        script: words.get_str("script"),
-        serve: served_in(words)?,
-        key: words.get_str("key"),
-    })
+        shows: showing_in(words)?,
+    }))
 }
 
 /// Whether a text is an address, if there is one.
@@ -170,10 +179,7 @@ fn board_of_sheet<'a>(number: &str, words: &ArgMatches<'a>) -> Option<BoardTask<
         sheet: words.get_str("sheet").unwrap_or(SHEET),
         index: index_in(number)?,
         named,
-        text: words.get_str("text"),
-        json: words.get_str("json"),
-        script: words.get_str("script"),
-        serve: served_in(words)?,
+        shows: showing_in(words)?,
     })
 }
 

@@ -2,11 +2,9 @@
 
 use agree_core::DeskId;
 use books::Source;
-use cards::Columns;
 use delivery_rows::Table;
-use machine::{Address, MOST_PEERS};
-use station_table::{BoardOptions, DeskOptions};
-use std::net::SocketAddr;
+use machine::Address;
+use station_table::{BoardOptions, BoardSetting, DeskOptions, DeskSetting, Showing};
 
 /// What is printed of a book.
 #[derive(Clone, Copy)]
@@ -33,20 +31,8 @@ pub enum BookFiles<'a> {
 /// A desk that is to be kept.
 #[derive(Clone, Copy)]
 pub enum DeskTask<'a> {
-    /// With its votes in a file, at an address. Its peers are the other desk and boards. A copy of its votes is kept in a file,
-    /// and the scorers' key is in one, where they are named. Its scorer has a page at an address, where it is given, and rows
-    /// so wide.
-    Named {
-        sheet: &'a str,
-        desk: DeskId,
-        file: &'a str,
-        copy: Option<&'a str>,
-        at: Address<'a>,
-        peers: [Option<SocketAddr>; MOST_PEERS],
-        serve: Option<Address<'a>>,
-        key: Option<&'a str>,
-        columns: Option<Columns>,
-    },
+    /// With what its words name.
+    Named(DeskSetting<'a>),
     /// With what its words name, and what they don't from the sheet's table of stations.
     OfSheet {
         sheet: &'a str,
@@ -56,30 +42,17 @@ pub enum DeskTask<'a> {
     },
 }
 
-/// A board that is to be kept. Its text is put into a file, its state as JSON into another one, the same as a script into a
-/// third, where they are named. A page shows text and state at an address, where it is given.
+/// A board that is to be kept.
 #[derive(Clone, Copy)]
 pub enum BoardTask<'a> {
-    /// At an address. Its peers are both desks. The scorers' key is in a file, where it is named.
-    Named {
-        sheet: &'a str,
-        at: Address<'a>,
-        peers: [Option<SocketAddr>; MOST_PEERS],
-        text: Option<&'a str>,
-        json: Option<&'a str>,
-        script: Option<&'a str>,
-        serve: Option<Address<'a>>,
-        key: Option<&'a str>,
-    },
+    /// With what its words name.
+    Named(BoardSetting<'a>),
     /// One of the sheet's table, counted from 0, with what its words name, and what they don't from there.
     OfSheet {
         sheet: &'a str,
         index: u8,
         named: BoardOptions<'a>,
-        text: Option<&'a str>,
-        json: Option<&'a str>,
-        script: Option<&'a str>,
-        serve: Option<Address<'a>>,
+        shows: Showing<'a>,
     },
 }
 

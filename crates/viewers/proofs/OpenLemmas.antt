@@ -5,7 +5,7 @@ use Rattle.http1.specs.Server.{writing}
 use Rattle.http1.specs.Conn.{data_text}
 use Rattle.viewers.specs.Replies.{SameOpenly, answer_text, event_of, handed_text, json, nonce_text, number_for, page_text, plain, stream_text, told_text, whole_text}
 use Rattle.viewers.specs.declared.asks.Ask.{Ask}
-use Rattle.viewers.specs.declared.asks.Ask.TheVariants.{Page, Lines, State, Events, Given, Typed, Signed, Handed, Unready, Full, Missing, Method, Foreign, Faulty}
+use Rattle.viewers.specs.declared.asks.Ask.TheVariants.{Page, Lines, State, Book, Events, Given, Typed, Signed, Handed, Unready, Full, Missing, Method, Foreign, Faulty}
 use Rattle.viewers.specs.declared.shown.Shown.{Shown}
 
 pub same_answer : (s : Server) (ask : Ask) (head : Bool) (one other : Shown)
@@ -17,6 +17,9 @@ same_answer s Lines head one other same =
 same_answer s State head one other same =
     ap (λ t. whole_text s t 200 (codes "OK") json other.state.items head) same.station
     ∙ ap (λ l. whole_text s one.station 200 (codes "OK") json l head) same.state
+same_answer s Book head one other same =
+    ap (λ t. whole_text s t 200 (codes "OK") json other.book.items head) same.station
+    ∙ ap (λ b. whole_text s one.station 200 (codes "OK") json b head) same.book
 same_answer s Events head one other same = ap (stream_text s) same.station
 same_answer s (Given nonce) head one other same = ap (λ t. nonce_text s t nonce) same.station
 same_answer s (Handed hidden) head one other same = ap (λ t. handed_text s t hidden) same.station

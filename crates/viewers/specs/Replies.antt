@@ -8,7 +8,7 @@ use Rattle.http1.specs.Fields.{Header}
 use Rattle.http1.specs.Server.{after_response, planned_response, writing}
 use Rattle.http1.specs.Conn.{after_data, data_text, finish_text}
 use Rattle.viewers.specs.declared.asks.{Ask.Ask, Asked.Asked}
-use Rattle.viewers.specs.declared.asks.Ask.TheVariants.{Page, Lines, State, Events, Given, Typed, Signed, Handed, Unready, Full, Missing, Method, Foreign, Faulty}
+use Rattle.viewers.specs.declared.asks.Ask.TheVariants.{Page, Lines, State, Book, Events, Given, Typed, Signed, Handed, Unready, Full, Missing, Method, Foreign, Faulty}
 use Rattle.viewers.specs.declared.{shown.Shown.Shown, station.Station.Station}
 use Rattle.viewers.specs.declared.page.TheConstants as board
 use Rattle.viewers.specs.declared.desk_page.TheConstants as desk
@@ -91,6 +91,7 @@ answer_text s Page head shown = page_text s shown.station head
 answer_text s Lines head shown =
     whole_text s shown.station 200 (codes "OK") plain shown.lines.items head
 answer_text s State head shown = whole_text s shown.station 200 (codes "OK") json shown.state.items head
+answer_text s Book head shown = whole_text s shown.station 200 (codes "OK") json shown.book.items head
 answer_text s Events head shown = stream_text s shown.station
 answer_text s (Given nonce) head shown = nonce_text s shown.station nonce
 answer_text s Typed head shown = whole_text s shown.station 200 (codes "OK") plain (codes "typed\n") head
@@ -132,6 +133,7 @@ pub record SameOpenly (one other : Shown) : Type 0 where
   pub station : other.station ≡ one.station
   pub lines : other.lines.items ≡ one.lines.items
   pub state : other.state.items ≡ one.state.items
+  pub book : other.book.items ≡ one.book.items
   pub number : other.number ≡ one.number
 
 -- the number of a state that is shown, behind one with this number: that of the same one stays
@@ -142,5 +144,14 @@ next_number number before state = if bytes_eq before state then number else min 
 pub record ShowsOpenly (state : List ℕ) (before after : Shown) : Type 0 where
   pub station : after.station ≡ before.station
   pub lines : after.lines.items ≡ before.lines.items
+  pub book : after.book.items ≡ before.book.items
   pub state_is : after.state.items ≡ state
   pub number : after.number ≡ next_number before.number before.state.items state
+
+-- of all that isn't hidden the book is this one from here on, and nothing else is another
+pub record ShowsBook (book : List ℕ) (before after : Shown) : Type 0 where
+  pub station : after.station ≡ before.station
+  pub lines : after.lines.items ≡ before.lines.items
+  pub state : after.state.items ≡ before.state.items
+  pub number : after.number ≡ before.number
+  pub book_is : after.book.items ≡ book

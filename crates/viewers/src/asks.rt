@@ -3,6 +3,7 @@
 ghost use Rattle.std.specs.Prelude.{◌≡◌, false};
 
 use crate::host::is_named;
+use crate::shown::Shown;
 use crate::station::Station;
 use httparse::spans::{HeaderSpan, RequestSpans, Span};
 use posts::{Pass, Stamp, tag_in};
@@ -18,6 +19,8 @@ pub enum Ask {
     Lines,
     /// The state as JSON: of a desk without what its scorer wrote.
     State,
+    /// What stands in a desk's book, as JSON.
+    Book,
     /// The state, now and whenever it is new.
     Events,
     /// This nonce was given.
@@ -49,6 +52,21 @@ pub struct Asked {
     pub is_head: bool,
 }
 
+impl Asked {
+    /// The same, where it can be had: nothing may have been handed over to be shown yet, or no place be free.
+    pub fn ready(self, shown: &Shown, is_behind: bool) -> Asked {
+        let ask = match self.ask {
+            Ask::Page | Ask::Lines | Ask::State | Ask::Book | Ask::Events if is_behind => Ask::Full,
+            Ask::Lines | Ask::State | Ask::Book if shown.number == 0 => Ask::Unready,
+            ask => ask,
+        };
+        Asked {
+            ask,
+            is_head: self.is_head,
+        }
+    }
+}
+
 /// What a head wishes.
 #[derive(Clone, Copy)]
 pub enum Wish {
@@ -64,6 +82,16 @@ pub enum Wish {
     Claim(Claim),
     /// To type the line that follows.
     Line(Heading),
+}
+
+impl Wish {
+    /// That a head is refused with this status.
+    pub fn refused(status: u16) -> Wish {
+        Wish::Answer(Asked {
+            ask: Ask::Faulty(status),
+            is_head: false,
+        })
+    }
 }
 
 /// What the head of a post says of its line.
@@ -161,6 +189,8 @@ fn desk_ask(path: &[u8]) -> Ask {
         Ask::Page
     } else if path == b"/desk.json".as_slice() {
         Ask::State
+    } else if path == b"/book.json".as_slice() {
+        Ask::Book
     } else if path == b"/events".as_slice() {
         Ask::Events
     } else {

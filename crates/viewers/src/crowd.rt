@@ -1,21 +1,23 @@
 //! All who look at a page.
 
-ghost use Rattle.std.specs.Prelude.{◌≡◌, ◌⊎◌, ◌≤◌, IfSome};
+ghost use Rattle.std.specs.Prelude.{◌≡◌, ◌⊎◌};
 ghost use Rattle.viewers.specs.Places.{HasNoSigned, KeepsSigned, KeepsUnsigned};
-ghost use Rattle.viewers.specs.Replies.{SameOpenly, ShowsOpenly};
+ghost use Rattle.viewers.specs.Replies.{SameOpenly, ShowsBook, ShowsOpenly};
+ghost use Rattle.sha2.specs.Sha256.{sha256};
 ghost use Rattle.viewers.specs.Veiled.{IsVeiled};
 
+use crate::guest::Guest;
 use crate::inbox::Inbox;
 use crate::listening::listener_at;
 use crate::own::Own;
 use crate::places::{Places, is_behind, network_of};
 use crate::shown::Shown;
 use crate::station::Station;
-use crate::viewer::{Guest, Viewer};
+use crate::viewer::Viewer;
 use agree_core::Position;
-use links::LineBuffer;
 use mio::net::{TcpListener, TcpStream};
 use mio::{Events, Interest, Poll, Token};
+use posts::PostedLine;
 use std::alloc::Global;
 use std::io;
 use std::net::{Net, SocketAddr};
@@ -218,6 +220,15 @@ impl Viewers {
         self.shown.put_state(state);
     }
 
+    /// This is what stands in a desk's book from here on, and its scorer alone is told the digest of that.
+    pub fn put_book(&mut self, book: Vec<u8>)
+        ensures shown { ShowsBook book.items self.old.shown self.new.shown }
+        ensures digest { self.new.own.digest ≡ sha256 book.items }
+    {
+        self.own.put_book(book.as_slice());
+        self.shown.put_book(book);
+    }
+
     /// This is the whole state of a desk from here on: its scorer alone reads it.
     pub fn put_own_state(&mut self, state: Vec<u8>)
         ensures state { self.new.own.state ≡ state }
@@ -307,13 +318,12 @@ impl Viewers {
         }
     }
 
-    /// Takes the oldest line that was posted, if there is one: it stands in front of the buffer.
-    pub fn next_line(&mut self, buffer: &mut LineBuffer) -> Option<usize>
-        ensures count { IfSome result (λ count. count ≤ 128) }
-        ensures shown { self.new.shown ≡ self.old.shown }
+    /// Takes the oldest line that was posted, if there is one.
+    pub fn next_line(&mut self) -> Option<PostedLine>
+        ensures { self.new.shown ≡ self.old.shown }
     {
         match &mut self.inbox {
-            Some(inbox) => inbox.next_line(buffer),
+            Some(inbox) => inbox.next_line(),
             None => None,
         }
     }

@@ -2,7 +2,7 @@
 
 /// What may be run and loaded in the page: its own style and script, and what it asks of its station.
 pub const POLICY: &[u8] =
-    b"default-src 'none'; script-src 'sha256-nJir+NQ5zWbuvCDNjAwfVyNjP5JeAMXAY3EMIhBUlhA='; style-src 'sha256-TJJPdKyscPeFsFxnBDMw0VKlpaQlWwlCPIb52rVEc1E='; connect-src 'self'; img-src data:; base-uri 'none'; form-action 'none'; frame-ancestors 'none'";
+    b"default-src 'none'; script-src 'sha256-o+fGu424Q+ZLV95BNfC27pb+tWyRc2vJD4ghS0IwYxE='; style-src 'sha256-B84a2jJVt62bcn2KTCLvkTx9arKlmpNL4W/lapH/v/w='; connect-src 'self'; img-src data:; base-uri 'none'; form-action 'none'; frame-ancestors 'none'";
 
 /// The page.
 pub const PAGE: &[u8] = b"<!DOCTYPE html>
@@ -14,11 +14,12 @@ pub const PAGE: &[u8] = b"<!DOCTYPE html>
 <link rel=\"icon\" href=\"data:,\">
 <title>Desk</title>
 <!-- A scorer's page, for a telephone in one hand, a tablet or a laptop. A desk serves it: it tells its state and its rows (GET /events), and takes
-     what a scorer would type there (POST /line). The page writes only such lines, most of them short ones, and keeps no book: each figure is the
-     desk's. A line that was tapped stands for 1.2 seconds and may be taken back (?grace=3000 behind the address for another time), then it is sent
-     once, with the place and the round that the scorer saw, signed with the desk's secret, and hidden by it. It is never sent again by itself. The
-     secret is given once for the ticket behind # in the link of the desk's square (POST /secret), stays in this tab, and stands in no address. What
-     the desk tells its scorer alone comes hidden by it too. -->
+     what a scorer would type there (POST /line). The page writes only such lines, most of them short ones. What stands in the book it has from the
+     desk (GET /book.json, and with each state what is new), and each figure is the desk's. A line that was tapped stands for three seconds, or as
+     long as a finger rests, and may be taken back (?grace=1200 behind the address for another time), then it is sent once, with the place and the
+     round that the scorer saw, signed with the desk's secret, and hidden by it. It is never sent again by itself. The secret is given once for the
+     ticket behind # in the link of the desk's square (POST /secret), stays in this tab, and stands in no address. What the desk tells its scorer
+     alone comes hidden by it too. -->
 <style>
 :root {
   color-scheme: light dark;
@@ -33,9 +34,9 @@ pub const PAGE: &[u8] = b"<!DOCTYPE html>
 }
 * { box-sizing: border-box; -webkit-tap-highlight-color: transparent; touch-action: manipulation; }
 html, body { height: 100%; margin: 0; overflow: hidden; overscroll-behavior: none; }
-body { background: var(--ground); color: var(--ink); font: 16px/1.25 system-ui, \"DejaVu Sans\", Verdana, Arial, sans-serif;
+body { background: var(--ground); color: var(--ink); font: 1rem/1.25 system-ui, \"DejaVu Sans\", Verdana, Arial, sans-serif;
   font-variant-numeric: tabular-nums; -webkit-text-size-adjust: 100%; }
-h1, h2, p, ol, table { margin: 0; padding: 0; font-size: 1em; }
+h1, h2, h3, p, ol, table { margin: 0; padding: 0; font-size: 1em; }
 button { font: inherit; color: inherit; margin: 0; padding: .2em .4em; min-width: 48px; min-height: 48px;
   border: 1px solid var(--line); border-radius: 12px; background: var(--key); cursor: pointer; user-select: none; -webkit-user-select: none; overflow-wrap: anywhere; line-height: 1.1; }
 button:active { background: var(--press); }
@@ -45,8 +46,8 @@ button small { display: block; font-size: .72em; font-weight: 400; color: var(--
 [hidden] { display: none !important; }
 .unseen { position: absolute; width: 1px; height: 1px; overflow: hidden; clip-path: inset(50%); white-space: nowrap; }
 
-/* A telephone: the score, this over, what is asked, and the pads where the thumb is. */
-#desk { height: 100vh; height: 100dvh; display: grid; gap: 8px; grid-template: \"score\" auto \"over\" auto \"state\" auto \"pads\" minmax(0, 1fr) / minmax(0, 1fr);
+/* A telephone: the score, this over, what is asked, and the pads where the thumb is. With large letters it can be moved. */
+#desk { height: 100vh; height: 100dvh; overflow-y: auto; display: grid; gap: 8px; grid-template: \"score\" auto \"over\" auto \"state\" auto \"pads\" minmax(0, 1fr) / minmax(0, 1fr);
   padding: max(8px, env(safe-area-inset-top)) max(8px, env(safe-area-inset-right)) max(8px, env(safe-area-inset-bottom)) max(8px, env(safe-area-inset-left)); }
 #score { grid-area: score; }
 #first { display: flex; align-items: center; gap: .5em; min-height: 48px; }
@@ -55,10 +56,11 @@ button small { display: block; font-size: .72em; font-weight: 400; color: var(--
 #runs { font-size: 2.3em; font-weight: 700; line-height: 1; white-space: nowrap; }
 #open-told { flex: none; min-width: 60px; }
 #open-told small { margin: 0; }
-#second { min-height: 1.25em; overflow: hidden; text-overflow: ellipsis; white-space: nowrap; }
+#second { min-height: 1.25em; overflow-wrap: anywhere; }
 #overs { color: var(--quiet); }
 #overs:not(:empty)::after { content: \"\\A0\"; }
 #aim { font-weight: 700; }
+#aim span { display: inline-block; }
 #crease { width: 100%; border-collapse: collapse; table-layout: fixed; }
 #crease th, #crease td { padding: .1em 0; font-weight: 400; text-align: left; white-space: nowrap; overflow: hidden; text-overflow: ellipsis; height: 1.45em; }
 #crease td { text-align: right; width: 42%; }
@@ -75,14 +77,14 @@ button small { display: block; font-size: .72em; font-weight: 400; color: var(--
 #marks button[aria-pressed=\"true\"] { background: var(--wait); color: var(--wait-ink); border: 2px solid var(--wait-ink); }
 
 /* What is asked or told, with its answers. Its height never changes. */
-#state { grid-area: state; position: relative; overflow: hidden; height: clamp(176px, 23vh, 200px); display: flex; flex-direction: column; gap: 6px;
+#state { grid-area: state; position: relative; overflow: hidden; height: clamp(11rem, 23vh, 12.5rem); display: flex; flex-direction: column; gap: 6px;
   padding: 9px 10px 10px; border-radius: 14px; background: var(--panel); border: 1px solid var(--line); }
 #message { flex: 1; min-height: 0; overflow-y: auto; outline: 0; }
 #head { display: block; font-weight: 700; font-size: 1.1em; overflow-wrap: anywhere; }
 #detail { display: block; white-space: pre-line; overflow-wrap: anywhere; font-size: .875em; margin-top: .1em; }
 #answers { display: grid; grid-auto-flow: column; grid-auto-columns: minmax(0, 1fr); gap: 6px; }
 #answers:empty { display: none; }
-#answers button { min-height: 52px; font-weight: 600; color: var(--ink); background: var(--key); }
+#answers button { min-height: 52px; padding: .2em .1em; font-weight: 600; color: var(--ink); background: var(--key); }
 #state.ask { border: 2px solid var(--go); padding: 8px 9px 9px; }
 #state.go { background: var(--go); color: var(--go-ink); border-color: var(--go); }
 #state.wait { background: var(--wait); color: var(--wait-ink); border-color: var(--wait-ink); }
@@ -97,7 +99,7 @@ button small { display: block; font-size: .72em; font-weight: 400; color: var(--
 @media (prefers-reduced-motion: reduce) { #state.go #clock { animation: none; } }
 
 #pads { grid-area: pads; display: grid; gap: 7px; grid-template-columns: repeat(12, minmax(0, 1fr));
-  grid-template-rows: minmax(48px, 3fr) minmax(48px, 5fr) minmax(48px, 5fr) minmax(48px, 3fr); min-height: 0; }
+  grid-template-rows: minmax(max(48px, 3rem), 3fr) repeat(2, minmax(max(48px, 3rem), 5fr)) minmax(max(48px, 3rem), 3fr); min-height: calc(4 * max(48px, 3rem) + 21px); }
 #pads button { grid-column: span 3; background: var(--soft); font-weight: 600; }
 #pads button:active { background: var(--press); }
 #pads .run { grid-column: span 4; background: var(--key); font-size: 2.1em; font-weight: 700; border-radius: 16px; }
@@ -113,7 +115,7 @@ button small { display: block; font-size: .72em; font-weight: 400; color: var(--
 .bar h2 { font-weight: 700; padding-left: .2em; outline: 0; }
 .bar button { flex: none; padding: .2em 1em; }
 #rows { flex: 1; min-height: 0; overflow-y: auto;
-  font: 13px/1.4 ui-monospace, \"DejaVu Sans Mono\", Menlo, Consolas, monospace; white-space: pre-wrap; overflow-wrap: anywhere; }
+  font: .8125rem/1.4 ui-monospace, \"DejaVu Sans Mono\", Menlo, Consolas, monospace; white-space: pre-wrap; overflow-wrap: anywhere; }
 #rows .agreed { font-weight: 700; }
 #rows .stands { color: var(--quiet); }
 #rows .wrong { color: var(--out); font-weight: 700; }
@@ -124,10 +126,19 @@ form input::placeholder { color: var(--quiet); opacity: 1; }
 
 /* A question with many answers: over the pads. */
 #sheet { position: fixed; inset: 0; z-index: 2; display: flex; flex-direction: column; justify-content: flex-end; background: rgba(8, 18, 11, .55); }
-#card { max-height: 100%; overflow-y: auto; background: var(--ground); border-radius: 18px 18px 0 0; padding: 8px 8px max(10px, env(safe-area-inset-bottom)); }
+#card { max-height: 100%; overflow-y: auto; background: var(--ground); border-radius: 18px 18px 0 0; padding: 0 8px max(10px, env(safe-area-inset-bottom)); }
+#card .bar { position: sticky; top: 0; padding: 8px 0 4px; background: var(--ground); }
 #choices { display: grid; gap: 7px; grid-template-columns: repeat(3, minmax(0, 1fr)); margin-top: 4px; }
 #choices button { min-height: 60px; padding: .2em; font-weight: 600; font-size: .95em; }
 #choices .second { background: var(--soft); }
+/* Overs and balls. */
+#choices.list { grid-template-columns: repeat(2, minmax(0, 1fr)); }
+#choices.list button { min-height: 64px; padding: .4em .6em; text-align: left; font-size: 1em; }
+#choices.list small { font-size: .8em; white-space: pre-line; line-height: 1.25; }
+#choices.list h3 { grid-column: 1 / -1; padding: .5em .2em 0; color: var(--quiet); font-size: .9em; }
+#choices.list b { display: inline-block; min-width: 1.7em; padding: .1em .35em; border-radius: 1em; border: 1px solid var(--line); text-align: center; }
+#choices.list b.extra { border-radius: .5em; background: var(--soft); }
+#choices.list b.wicket { border-radius: .5em; background: var(--ink); color: var(--ground); }
 /* A long name is whole, in smaller letters. */
 #answers .long { font-size: .85em; padding: .2em; }
 #answers .long small { font-size: .85em; }
@@ -146,13 +157,14 @@ form input::placeholder { color: var(--quiet); opacity: 1; }
   #told, #told.open { grid-area: told; display: flex; position: static; padding: 10px; border: 1px solid var(--line); border-radius: 14px; }
   #told .bar { min-height: 0; }
   #told .bar h2 { font-weight: 400; color: var(--quiet); font-size: .85em; }
-  #state { height: 214px; }
+  #state { height: 13.4rem; }
   #head { font-size: 1.3em; }
   #detail { font-size: 1em; }
   #answers button { min-height: 60px; }
   #pads .run { font-size: 2.6em; }
   #sheet { align-items: flex-end; justify-content: flex-end; padding: 12px; }
-  #card { width: min(100%, 58.3vw); border-radius: 18px; padding: 12px; }
+  #card { width: min(100%, 58.3vw); border-radius: 18px; padding: 4px 12px 12px; }
+  #choices.list { grid-template-columns: repeat(3, minmax(0, 1fr)); }
 }
 @media (min-width: 900px) {
   #choices { grid-template-columns: repeat(4, minmax(0, 1fr)); }
@@ -175,11 +187,11 @@ form input::placeholder { color: var(--quiet); opacity: 1; }
   #desk { gap: 6px; padding: 6px; }
   #second { font-size: .85em; }
   #crease th, #crease td { height: 1.25em; padding: 0; }
-  #state { height: 136px; }
+  #state { height: 8.5rem; }
 }
 @media (min-width: 700px) and (max-height: 520px) {
   #desk { gap: 6px; padding: 6px; }
-  #state { height: 136px; }
+  #state { height: 8.5rem; }
   #head { font-size: 1.1em; }
   #detail { font-size: .875em; }
   #answers button { min-height: 50px; }
@@ -247,7 +259,7 @@ form input::placeholder { color: var(--quiet); opacity: 1; }
 <script>
 \"use strict\";
 const address = new URLSearchParams(location.search);
-const GRACE = Math.min(10000, Math.max(400, Number(address.get(\"grace\")) || 1200));   // milliseconds in which a tapped line may be taken back
+const GRACE = Math.min(10000, Math.max(400, Number(address.get(\"grace\")) || 3000));   // milliseconds in which a tapped line may be taken back
 const AGAIN = 2000;      // milliseconds until the desk is asked again that let this page go
 const WAITED = 5000;     // milliseconds for which an answer of the desk is waited for
 const LOST = 7000;       // milliseconds without a word of the desk, which tells each 2000 that it is there
@@ -387,10 +399,9 @@ let newest = 0;          // the number of the newest that the desk hid for this 
 let isAltered = false;   // whether what came last wasn't the desk's
 let told = nothingTold();
 
-// What the rows tell, from those that the desk keeps on.
+// What the rows tell, from those that the desk keeps on: what its state doesn't.
 function nothingTold() {
-  const entries = new Map();   // what stands at each place, as it was corrected last
-  return { all: [], rows: [], entries, last: null, differs: null, other: null, isHeard: true, doubts: null, check: [], isChecking: false, spells: [], bowls: null, side: null, part: \"\" };
+  return { all: [], rows: [], differs: null, other: null, isHeard: true, doubts: null, correction: null };
 }
 
 const isKnown = () => state !== null && state.format === \"yermudosh desk 1\";
@@ -401,26 +412,36 @@ const differs = () => state.round > 0 && state.pending === null;
 const standing = () => JSON.stringify([state.place, state.round, state.pending, state.held]);
 
 // ---- The secret, for which the ticket of a square is given once. Neither is sent: the ticket makes a tag, and turns the bits of what is answered.
-const KEPT = \"secret\";
+const KEPT = \"secret\", REACHED = \"newest\";
+
+// Keeps a text for when this tab is loaded again. Where a browser keeps nothing, that page needs a new square.
+function store(name, text) {
+  try {
+    if (text) sessionStorage.setItem(name, text);
+    else sessionStorage.removeItem(name);
+  } catch (why) {
+    // It keeps nothing.
+  }
+}
+
+function stored(name) {
+  try {
+    return sessionStorage.getItem(name) || \"\";
+  } catch (why) {
+    return \"\";
+  }
+}
+
+function reach(number) {
+  newest = number;
+  store(REACHED, String(number));
+}
 
 function keep(found) {
   secret = found;
-  newest = 0;
-  try {
-    if (found) sessionStorage.setItem(KEPT, hex(found));
-    else sessionStorage.removeItem(KEPT);
-  } catch (why) {
-    // A browser that keeps nothing: a page that is loaded again needs a new square.
-  }
+  store(KEPT, found && hex(found));
+  reach(0);
   later();
-}
-
-function keptSecret() {
-  try {
-    return bytesIn(sessionStorage.getItem(KEPT) || \"\");
-  } catch (why) {
-    return null;
-  }
 }
 
 // Takes the ticket out of the address, so that no history has it.
@@ -514,9 +535,10 @@ function takeTold(data, number) {
   const text = opened(number, data);
   isAltered = text === null || Number(number) < newest;
   if (isAltered) return dropTold();
-  newest = Number(number);
-  const [next, rows] = text.trim().split(\"\\n\").map(part => JSON.parse(part));
-  takeBoth(next, rows || []);
+  reach(Number(number));
+  const [next, sum, rows] = text.trim().split(\"\\n\");
+  bookSum = sum;
+  takeBoth(JSON.parse(next), rows ? JSON.parse(rows) : []);
 }
 
 function takeBoth(next, rows) {
@@ -527,8 +549,10 @@ function takeBoth(next, rows) {
 
 function take(next) {
   const isAnother = state === null || state.place !== next.place || state.round !== next.round;
+  if (state !== null && state.match !== next.match) book = null;
   state = { pending: null, held: [], ...next };
   version += 1;
+  if (isKnown()) followBook();
   isLive = isLive || !isFirst;
   isFirst = false;
   if (isAnother) {
@@ -540,30 +564,19 @@ function take(next) {
   hearAgain();
 }
 
-// A correction changes what stands at its place, a late entry stands at its own.
-function agree(place, line) {
-  const [word, second, ...rest] = line.split(\" \");
-  told.entries.set(word === \"fix\" ? Number(second) : place, word === \"fix\" || word === \"late\" ? rest.join(\" \") : line);
-  told.last = { place, line };
-  told.other = null;
-  told.part = word;
-  if (word === \"ball\") told.bowls = Number(second);
-  if (word === \"over\") { told.spells.push(told.bowls); told.bowls = null; told.check = []; told.isChecking = true; }
-  if (word === \"innings\") { told.side = second; told.spells = []; told.bowls = null; told.check = []; }
-}
+// The words of corrections, and what is said of what they have changed.
+const CORRECTED = { fix: \"Put right\", late: \"Added\" };
 
 // What the other scorer wrote where the two differ, behind the row of the own line.
 const THEIRS = /^ {2}the other (.*)$/;
 
-// What a row says of the place, of the other scorer and of the over.
+// What a row says of the other scorer and of the desk.
 function follow(row) {
-  const agreed = /^(\\d+) agreed: (.*)$/.exec(row);
+  const agreed = /^\\d+ agreed: (\\w+)/.exec(row);
   const two = /^(\\d+) differs: you (.*),$/.exec(row);
   const theirs = THEIRS.exec(row);
   const other = /^(\\d+) the other has written$/.exec(row);
-  if (told.isChecking && row.startsWith(\"  \")) told.check.push(row.trim());
-  else told.isChecking = false;
-  if (agreed) agree(Number(agreed[1]), agreed[2].replace(/^over .*/, \"over\"));
+  if (agreed) told.correction = CORRECTED[agreed[1]] || null;
   else if (two) { told.differs = { place: Number(two[1]), you: two[2], other: null }; told.other = null; }
   else if (theirs && told.differs && told.differs.other === null) told.differs.other = theirs[1];
   else if (other) told.other = Number(other[1]);
@@ -574,9 +587,14 @@ function follow(row) {
   else if (row.startsWith(\"dropped \") && THEIRS.test(told.rows[told.rows.length - 2])) told.differs.dropped = row;
 }
 
-const WRONG = new RegExp(\"^(fault |refused |which one|no such player|who bowls|undo: |[wb]: |\\\\w+ has no fielder|\" +
+const WRONG = new RegExp(\"^(fault |refused |which one|no such (player|ball)|who bowls|undo: |[wb]: |\\\\w+ has no fielder|\" +
   \"\\\\d+ (not taken|doesn't differ|is cast|isn't written|differs: begin)|dropped |24 lines |not held|peer: |not a peer|cannot |this file |this is the copy|the other desk's file |its file |votes)\");
 const CHANGED = /^(now: |innings \\d+: |\\.\\. and )/;
+// Rows that come of the other desk and of files: no answer to a line.
+const UNASKED = /^(peer: |not a peer|the other desk|this file |page: |\\d+ the other has written)/;
+
+// Whether a row is the desk's answer to what was sent, and says that nothing is written. What is written the state shows, which may come later.
+const isAnswer = (row, isWrong) => sent !== null && !UNASKED.test(row) && (isWrong || sent.isQuestion);
 
 // What the scorer is to read before going on: a row that says why a line isn't taken, or what a correction has changed. Not what was told before this page came.
 function heed(row) {
@@ -584,9 +602,9 @@ function heed(row) {
   const isWrong = WRONG.test(row) && !(told.differs && told.differs.dropped === row);
   const isMore = note && now() - note.since < 500 && (isWrong || row.startsWith(\"  \") && !THEIRS.test(row) || CHANGED.test(row));
   if (isMore) note.detail += \"\\n\" + row.trim();
-  else if (isWrong) tell(\"bad\", sent ? \"Not written: \" + sent.label : \"The desk says\", row);
-  else if (CHANGED.test(row) && (told.part === \"fix\" || told.part === \"late\")) tell(\"ask\", \"Put right. Read it first\", row);
-  if (isWrong || sent && sent.isQuestion && !row.startsWith(\"page: \")) sent = null;
+  else if (isWrong) tell(\"bad\", isAnswer(row, true) ? \"Not written: \" + sent.label : \"The desk says\", row);
+  else if (CHANGED.test(row) && told.correction) tell(\"ask\", told.correction + \". Read it first\", row);
+  if (isAnswer(row, isWrong)) sent = null;
 }
 
 function hear(row) {
@@ -595,6 +613,82 @@ function hear(row) {
   follow(row);
   heed(row);
   hearAgain();
+}
+
+// ---- The book: what stands, in the order of the match.
+let book = null;         // how many entries it has, and what stands; nothing before the desk gave it
+let bookSum = null;      // the digest of its text, as the desk told its scorer alone
+let isFetching = false;  // whether it is asked for
+
+const items = () => book === null ? [] : book.items;
+const hasBook = () => book !== null && state !== null && book.entries === state.news.entries;
+const itemAt = place => items().find(it => it.place === place);
+const isBall = it => it.ball !== undefined;
+
+// What the newest entry touched takes its place; where more than that is new the book is asked for.
+function followBook() {
+  const { entries, from, items } = state.news;
+  if (hasBook()) return;
+  if (book === null || book.entries !== entries - 1 || items === null) return fetchBook();
+  book.items.length = from;
+  book.items.push(...items);
+  book.entries = entries;
+}
+
+// Takes a book that came. One of the newest state that isn't the desk's isn't taken: whoever is between has altered it.
+function takeBook(text) {
+  const came = JSON.parse(text), isNewest = state !== null && came.entries === state.news.entries;
+  isAltered = isNewest && secret !== null && bookSum !== null && hex(sha256(lettersOf(text))) !== bookSum;
+  if (isAltered) return dropTold();
+  book = came;
+  followBook();
+}
+
+// Asks for the whole book. Where it isn't of the newest state that is done again, in a moment.
+async function fetchBook() {
+  if (isFetching) return;
+  isFetching = true;
+  try {
+    const answer = await request(\"book.json\");
+    if (answer.ok) takeBook(await answer.text());
+  } catch (why) {
+    // The desk isn't reached.
+  }
+  isFetching = false;
+  later();
+}
+
+// Which side's innings was begun last among the first items, so many; or null.
+function sideAmong(count) {
+  const begun = items().slice(0, count).reverse().find(it => it.line.startsWith(\"innings \"));
+  return begun ? begun.line.split(\" \")[1] : null;
+}
+
+const sideOf = item => sideAmong(1 + items().findIndex(it => it.place === item.place));
+
+// The items by overs: those behind an over's end are of the next one.
+function overs() {
+  const made = [];
+  let side = null, count = 0, isCalled = true;
+  for (const item of items()) {
+    const isBegun = item.line.startsWith(\"innings \"), last = made[made.length - 1];
+    if (isBegun) { side = item.line.split(\" \")[1]; count += 1; }
+    const isAnother = isBegun || isCalled || isBall(item) && last.over !== null && last.over !== item.over;
+    const it = isAnother ? { innings: count, side, over: null, items: [] } : last;
+    if (isAnother) made.push(it);
+    if (isBall(item)) it.over = item.over;
+    it.items.push(item);
+    isCalled = item.line === \"over\";
+  }
+  return made;
+}
+
+const ballsOf = over => over.items.filter(isBall);
+
+// Who bowled the last ball of each over in the innings begun last.
+function spells() {
+  const all = overs(), count = all.length > 0 ? all[all.length - 1].innings : 0;
+  return all.filter(it => it.innings === count && it.over !== null).map(it => ballsOf(it).pop().bowler);
 }
 
 // ---- What the scorer writes.
@@ -620,7 +714,7 @@ function write(line, label) {
   closeSheet();
   if (where !== position() || !mayWrite()) return tell(\"bad\", \"Not written: \" + label, isLost() ? UNREACHED : REFUSED[409]);
   const full = (differs() && line !== \"again\" ? \"again \" : \"\") + (amend ? amend.kind + \" \" + amend.place + \" \" : \"\") + line;
-  held = { line: full, label: (amend ? \"place \" + amend.place + \", \" : \"\") + label, where, since: Date.now(), timer: setTimeout(flush, GRACE) };
+  held = { line: full, label: (amend ? amended() + \": \" : \"\") + label, where, due: Date.now() + GRACE, timer: setTimeout(flush, GRACE) };
   at(\"clock\").style.animationDuration = GRACE + \"ms\";
   note = null;
   show();
@@ -639,15 +733,17 @@ function takeBack() {
 }
 
 function flush() {
-  // While a finger is down, perhaps on its way to take it back, it waits.
-  if (isDown && now() - downSince < HELD) {
+  const { line, where, due } = held;
+  const isOld = Date.now() - due > 2000;
+  // While a finger rests, perhaps on its way to take it back, it waits.
+  if (isDown && !isOld) {
+    held.due = Date.now() + 50;
     held.timer = setTimeout(flush, 50);
     return;
   }
-  const { line, where, since } = held;
   const label = drop();
   // A telephone that slept since then doesn't write what was tapped before.
-  if (Date.now() - since > GRACE + HELD + 2000 || isLost()) return tell(\"bad\", \"Not written: \" + label, UNREACHED);
+  if (isOld || isLost()) return tell(\"bad\", \"Not written: \" + label, UNREACHED);
   if (state.pending !== null && !isAhead) return tell(\"bad\", \"Not written: \" + label, \"Another line of yours waits at this place already.\");
   if (isAhead) bowler = null;
   amend = null;
@@ -665,7 +761,7 @@ const REFUSED = {
   413: \"A line has at most 128 letters.\",
   503: \"Eight lines wait at the desk. Wait a moment, and tap it again.\",
 };
-const QUESTION = /^(list|score|card|players|bowlers|help|short|go on)\\b/;
+const QUESTION = /^(list|score|card|players|bowlers|who|help|short|plan|over \\d+|go on)\\b/;
 
 // Asks the desk, and waits five seconds at most.
 function request(path, options) {
@@ -726,19 +822,28 @@ const capital = text => text.charAt(0).toUpperCase() + text.slice(1);
 
 function batting() {
   const { home, away } = state.sides;
-  if (!innings() || home.name === away.name) return told.side || \"home\";
+  if (!innings() || home.name === away.name) return sideAmong(items().length) || \"home\";
   return innings().team === home.name ? \"home\" : \"away\";
 }
 
-// The side that bats at a place, or null where the rows don't tell it.
+// The side that bats at a place.
 function sideAt(place) {
-  const begun = [...told.entries].filter(([, line]) => line.startsWith(\"innings \")).sort(([a], [b]) => a - b);
-  const before = begun.filter(([it]) => it <= place).pop();
-  return before ? before[1].split(\" \")[1] : begun.length > 0 ? null : batting();
+  const item = itemAt(place);
+  return item && sideOf(item) || batting();
 }
 
-const batsThere = () => amend && sideAt(amend.place) || batting();
-const batter = number => name(batting(), number);
+// A ball of this innings by its over and its number there, as at the desk; any other entry by its place.
+function nameOf(place) {
+  const it = itemAt(place);
+  if (!it || !isBall(it)) return \"place \" + place;
+  return it.over + \".\" + it.ball + (it.innings === state.board.innings.length ? \"\" : \" of innings \" + it.innings);
+}
+
+const batsThere = () => amend ? sideAt(amend.place) : batting();
+const batter = number => name(batsThere(), number);
+
+// What is done to the entry that is put right, or behind it.
+const amended = () => amend.kind === \"fix\" ? nameOf(amend.place) + \" put right\" : \"added after \" + nameOf(amend.place);
 
 const RUNS = {
   bat: (r, far) => far || (r === 0 ? \"no run\" : r === 4 ? \"4 all run\" : one(r, \"run\")),
@@ -755,7 +860,7 @@ const LEFT = { timedout: \"is timed out\", retiredout: \"retires out\", retiredh
 const ENDS = { allout: \"all out\", nobatter: \"no batter is left\", declared: \"declared\", forfeited: \"forfeited\", overs: \"its overs are bowled\" };
 
 function outWords([how, who, number, crossed], side) {
-  const by = number === \"0\" ? \"\" : \" by \" + (number === String(SUBSTITUTE) ? \"a substitute\" : side ? name(other(side), Number(number)) : \"fielder \" + number);
+  const by = number === \"0\" ? \"\" : \" by \" + (number === String(SUBSTITUTE) ? \"a substitute\" : name(other(side), Number(number)));
   const whose = how === \"runout\" || how === \"obstructing\" ? (who === \"striker\" ? \", the striker\" : \", the other batter\") : \"\";
   return HOW[how] + by + whose + (crossed ? \", they had crossed\" : \"\");
 }
@@ -772,15 +877,15 @@ function ballWords([kind, runs, ...rest], side) {
   return (out === 0 && kind === \"bat\" && runs === \"0\" ? parts.slice(1) : parts).join(\", \");
 }
 
-// A full line in words, by the side that bats where it stands; without it with numbers for names.
+// A full line in words, by the side that bats where it stands.
 function inWords(line, side = batting()) {
   const [word, first, second, third, ...rest] = line.split(\" \");
-  const who = number => side ? name(side, Number(number)) : \"player \" + number;
+  const who = number => name(side, Number(number));
   const inner = () => inWords(line.split(\" \").slice(2).join(\" \"), sideAt(Number(first)));
   switch (word) {
     case \"innings\": return state.sides[first].name + \" bats\";
     case \"in\": return who(first) + \" comes in\";
-    case \"ball\": return (side ? name(other(side), Number(first)) + \": \" : \"\") + ballWords([second, third, ...rest], side);
+    case \"ball\": return name(other(side), Number(first)) + \": \" + ballWords([second, third, ...rest], side);
     case \"gone\": return who(second) + \" \" + LEFT[first];
     case \"over\": return \"over\";
     case \"penalty\": return \"5 penalty runs to \" + state.sides[first].name + \", Law \" + second + \".\" + third;
@@ -788,13 +893,19 @@ function inWords(line, side = batting()) {
     case \"end\": return \"the innings ends, \" + ENDS[first];
     case \"close\": return \"the match is closed\";
     case \"void\": return \"nothing\";
-    case \"fix\": return \"place \" + first + \" is to read: \" + inner();
-    case \"late\": return \"after place \" + first + \": \" + inner();
+    case \"fix\": return nameOf(Number(first)) + \" put right: \" + inner();
+    case \"late\": return \"added after \" + nameOf(Number(first)) + \": \" + inner();
     default: return line;
   }
 }
 
-const entryWords = place => told.entries.has(place) ? inWords(told.entries.get(place), sideAt(place)) : \"entry \" + place;
+const itemWords = item => item.line === \"void\" ? \"struck out\" : inWords(item.line, sideOf(item) || batting());
+
+// What stands at a place.
+function entryWords(place) {
+  const it = itemAt(place);
+  return it ? itemWords(it) + (it.by === null ? \"\" : \" (corrected)\") : \"an entry\";
+}
 
 // ---- What comes next.
 const aheadLines = () => isAhead && state.pending !== null ? [state.pending, ...state.held] : [];
@@ -834,9 +945,10 @@ function isBowledOut(number) {
 function bowlers() {
   const isOverCalled = aheadLines().length > 0 && wants() === \"bowler\";
   const may = isOverCalled || state.may_bowl.length === 0 ? NUMBERS : state.may_bowl;
-  const barred = isOverCalled ? told.bowls : null;
-  const spells = isOverCalled ? [...told.spells, told.bowls] : told.spells;
-  const late = [...spells.slice(0, -1).reverse(), ...spells.slice(-1), ...(innings() ? innings().bowling.map(b => b.number) : []), ...NUMBERS];
+  const isOpenOver = state.board.now.this_over.length > 0;
+  const barred = isOverCalled && isOpenOver ? state.board.now.bowler : null;
+  const called = isOpenOver && !isOverCalled ? spells().slice(0, -1) : spells();
+  const late = [...called.slice(0, -1).reverse(), ...called.slice(-1), ...(innings() ? innings().bowling.map(b => b.number) : []), ...NUMBERS];
   const all = [...new Set(late)].filter(number => may.includes(number) && number !== barred);
   return [...all.filter(number => !isBowledOut(number)), ...all.filter(isBowledOut)];
 }
@@ -853,20 +965,24 @@ let questions = [];      // those that are open, one behind the other
 let begun = \"\";          // the place at which the first was asked
 let opener = null;       // what had the focus before
 
-function ask(title, options, then) {
+function ask(title, options, then, kind) {
   if (questions.length === 0) {
     begun = position();
     opener = document.activeElement;
   }
-  questions.push({ title, options, then });
+  questions.push({ title, options, then, kind });
   drawSheet();
 }
 
-function choice([text, value, small, kind], then) {
+// A question whose answers have more to read.
+const askList = (title, options, then) => ask(title, options, then, \"list\");
+
+function choice([text, value, small, kind, mark], then) {
   const made = element(\"button\", text, kind);
   const longest = Math.max(...text.split(/[ -]/).map(word => word.length));
   if (longest > 8 && kind !== \"second\") made.classList.add(longest > 10 ? \"longer\" : \"long\");
   made.type = \"button\";
+  if (mark) made.append(\" \", element(\"b\", shownMark(mark), markKind(mark)));
   if (small) made.append(element(\"small\", small));
   made.addEventListener(\"click\", () => then(value, text));
   return made;
@@ -880,7 +996,8 @@ function drawSheet() {
   put(\"question\", top.title);
   put(\"back\", questions.length > 1 ? \"Back\" : \"Cancel\");
   at(\"ask\").hidden = top.options.length > 0;
-  at(\"choices\").replaceChildren(...top.options.map(option => choice(option, top.then)));
+  at(\"choices\").className = top.kind || \"\";
+  at(\"choices\").replaceChildren(...top.options.map(option => option.length === 1 ? element(\"h3\", option[0]) : choice(option, top.then)));
   at(\"card\").scrollTop = 0;
   at(\"question\").focus();
 }
@@ -989,7 +1106,7 @@ function wicket() {
     if (how === \"caught\" || how === \"stumped\") return askFielder(text + \" by\", (number, by) => ball(how + \" \" + number, how + by));
     if (how === \"runout\") return runOut(\"\");
     if (how === \"obstructing\") return askEnd(\"Who is out?\", (who, whose) => ball(\"obstructing \" + who, whose + \" obstructing the field\"));
-    if (how === \"timedout\") return ask(\"Who is timed out?\", people(batting(), comers()), (number, text) => write(\"gone timedout \" + number, text + \" is timed out\"));
+    if (how === \"timedout\") return ask(\"Who is timed out?\", people(batsThere(), amend ? NUMBERS : comers()), (number, text) => write(\"gone timedout \" + number, text + \" is timed out\"));
     if (how === \"retiredout\" || how === \"retiredhurt\" || how === \"gone runout\") return leave(how.replace(\"gone \", \"\"));
     ball(how, HOW[how]);
   });
@@ -999,7 +1116,7 @@ function wicket() {
 function leave(how) {
   const { striker, other } = state.board.now;
   const in_ = (how === \"runout\" ? [other] : [striker, other]).filter(number => number !== null);
-  ask(\"Who?\", people(batting(), in_), (number, text) => write(\"gone \" + how + \" \" + number, text + \" \" + LEFT[how]));
+  ask(\"Who?\", people(batsThere(), amend ? NUMBERS : in_), (number, text) => write(\"gone \" + how + \" \" + number, text + \" \" + LEFT[how]));
 }
 
 function sides() {
@@ -1012,8 +1129,8 @@ const comeIn = number => write(\"in \" + number, batter(number) + \" comes in\")
 
 // The balls of the over that is open that count.
 const balls = () => Number(innings().overs.split(\".\")[1]);
-const over = () => write(\"/\", \"over\" + (isAhead || balls() === 6 ? \"\" : \", \" + one(balls(), \"ball\")));
-const askComer = () => ask(\"Who comes in?\", people(batting(), comers()), comeIn);
+const over = () => write(\"/\", \"over\" + (isAhead || amend || balls() === 6 ? \"\" : \", \" + one(balls(), \"ball\")));
+const askComer = () => ask(\"Who comes in?\", people(batsThere(), amend ? NUMBERS : comers()), comeIn);
 const askInnings = () => ask(\"Whose innings?\", sides(), begin);
 
 // The causes of an innings' end, those that seem to hold first.
@@ -1036,9 +1153,9 @@ const LAWS = [[\"24.4\", \"came back without leave\", \"field\"], [\"28.2\", \"b
 
 function penalty() {
   ask(\"Five runs, by which Law?\", [...LAWS.map(([law, words]) => [law, law, words]), [\"Another\", null, \"to be typed\", \"second\"]], law => {
-    if (law === null) return typeIt(\"penalty \" + batting() + \" \");
+    if (law === null) return typeIt((amend ? amend.kind + \" \" + amend.place + \" \" : \"\") + \"penalty \" + batsThere() + \" \");
     const offender = LAWS.find(it => it[0] === law)[2];
-    const first = offender === \"bat\" ? other(batting()) : batting();
+    const first = offender === \"bat\" ? other(batsThere()) : batsThere();
     ask(\"Law \" + law + \": runs to\", [first, other(first)].map(side => [state.sides[side].name, side]), side => {
       const line = \"penalty \" + side + \" \" + law.replace(\".\", \" \");
       write(line, inWords(line));
@@ -1056,13 +1173,45 @@ function overthrows() {
     ball((count > 0 ? count : \".\") + \" overthrow\", one(count, \"run\") + \" and four overthrows\"));
 }
 
-// The entries that rows still tell, as they stand, the newest first.
-function earlier() {
-  const places = [...told.entries.keys()].sort((a, b) => b - a).slice(0, 60);
-  ask(\"Which entry was wrong?\", places.map(place => [capital(entryWords(place)), place, \"place \" + place]), place => {
-    closeSheet();
-    beginAmend(place, \"fix\");
+const shownMark = mark => mark === \".\" ? \"\\u2022\" : mark;
+const bowlerOf = (over, number) => name(other(over.side), number);
+
+// An over, by its number, who bowled it and its marks; what stands between overs, by its words.
+function overChoice(over, n) {
+  const balls = ballsOf(over);
+  if (balls.length === 0) return [capital(itemWords(over.items[0])), n, over.items.length > 1 ? \"and \" + one(over.items.length - 1, \"entry\").replace(/ys$/, \"ies\") : \"\"];
+  const who = [...new Set(balls.map(it => bowlerOf(over, it.bowler)))].join(\", \");
+  return [\"Over \" + over.over, n, who + \"\\n\" + balls.map(it => shownMark(it.mark)).join(\" \")];
+}
+
+// The newest first, each innings with its name above.
+function overChoices(all) {
+  return all.map((over, n) => [over, n]).reverse().flatMap(([over, n], k, list) => {
+    const isFirst = k === 0 || list[k - 1][0].innings !== over.innings;
+    const head = \"Innings \" + over.innings + (over.side ? \", \" + state.sides[over.side].name : \"\");
+    return [...(isFirst ? [[head]] : []), overChoice(over, n)];
   });
+}
+
+function itemChoice(over, item) {
+  const told = (isBall(item) ? \"\" : \"place \" + item.place) + (item.by === null ? \"\" : (isBall(item) ? \"\" : \", \") + \"corrected\");
+  if (!isBall(item)) return [capital(itemWords(item)), item.place, told, \"second\"];
+  const who = (item.batter === null ? \"\" : name(over.side, item.batter) + \", \") + \"off \" + bowlerOf(over, item.bowler);
+  return [item.over + \".\" + item.ball, item.place, who + (told ? \"\\n\" + told : \"\"), \"\", item.mark];
+}
+
+// Which ball of which over was wrong, or which entry between balls.
+function earlier() {
+  if (!hasBook() || items().length === 0) {
+    closeSheet();
+    return hasBook() ? tell(\"ask\", \"Nothing stands yet\", \"\") : tell(\"bad\", \"The book isn't here yet\", \"Tap it again in a moment.\");
+  }
+  const all = overs();
+  askList(\"Which over?\", overChoices(all), n =>
+    askList(\"Which ball\" + (all[n].over === null ? \"\" : \" of over \" + all[n].over) + \"?\", all[n].items.map(it => itemChoice(all[n], it)), place => {
+      closeSheet();
+      beginAmend(place, \"fix\");
+    }));
 }
 
 const MORE = {
@@ -1075,7 +1224,7 @@ const MORE = {
   hurt: [\"Retired hurt\", \"\", () => leave(\"retiredhurt\")],
   swap: [\"Change ends\", \"by the umpires\", () => write(\"swap\", \"the batters change ends\")],
   penalty: [\"Penalty runs\", \"\", penalty],
-  earlier: [\"Put right\", \"an earlier entry\", earlier],
+  earlier: [\"Put right\", \"any ball or entry\", earlier],
   undo: [\"Strike out\", \"the last entry\", () => write(\"undo\", \"the last entry is struck out\")],
   innings: [\"Innings\", \"begins\", askInnings],
   ending: [\"Innings\", \"ends\", askEnding],
@@ -1085,7 +1234,7 @@ const QUESTIONS = [[\"Check\", \"score\", \"score\"], [\"Bowlers\", \"bowlers\",
   [\"Last entries\", \"list 30\", \"list\"], [\"Cards\", \"card\", \"of both sides\"], [\"Rows\", \"\", \"and any line\"]];
 
 function more() {
-  const lines = mayWrite() ? Object.entries(MORE).filter(([key]) => !(isAhead && key === \"undo\")).map(([key, [text, small]]) => [text, key, small]) : [];
+  const lines = mayWrite() ? Object.entries(MORE).filter(([key]) => !((isAhead || amend) && key === \"undo\")).map(([key, [text, small]]) => [text, key, small]) : [];
   const asks = QUESTIONS.map(([text, value, small]) => [text, \"? \" + value, small, \"second\"]);
   ask(\"More\", [...lines, ...asks], key => {
     if (key === \"? \") { closeSheet(); return openTold(); }
@@ -1114,7 +1263,7 @@ function endAmend() {
 }
 
 function otherBowler() {
-  const line = told.entries.get(amend.place) || \"\";
+  const { line } = itemAt(amend.place) || { line: \"\" };
   if (!line.startsWith(\"ball \")) return;
   ask(\"Who bowled it?\", people(other(batsThere()), NUMBERS), (number, text) => write(line.replace(/^ball \\d+/, \"ball \" + number), text + \" bowled it\"));
 }
@@ -1142,7 +1291,7 @@ function secretView() {
 }
 
 function heldView() {
-  if (held) return { kind: \"go\", head: \"Writing: \" + held.label, detail: held.line, answers: [[\"Take back\", takeBack]] };
+  if (held) return { kind: \"go\", head: \"Writing: \" + held.label, detail: held.line, answers: [[\"Take back\", takeBack], [\"Write now\", flush]] };
   return sent ? { kind: sent.isQuestion ? \"\" : \"go\", head: (sent.isQuestion ? \"Asking: \" : \"Writing: \") + sent.label, detail: sent.isQuestion ? \"\" : sent.line } : null;
 }
 
@@ -1177,18 +1326,19 @@ function differsView() {
 // What may be tapped beside the pads where an entry is put right.
 function changes(line) {
   if (line.startsWith(\"ball \")) return [[\"Bowler\", otherBowler, \"another\"]];
-  return line.startsWith(\"in \") ? [[\"Batter\", () => ask(\"Who came in?\", people(batsThere(), NUMBERS), comeIn), \"another\"]] : [];
+  return line.startsWith(\"in \") ? [[\"Batter\", askComer, \"another\"]] : [];
 }
 
 function amendView() {
   if (!amend) return null;
   const { place, kind } = amend;
   const cancel = [\"Cancel\", endAmend];
-  if (kind === \"late\") return { kind: \"wait\", head: \"What came after place \" + place + \"?\", detail: \"It stands after: \" + entryWords(place) + \".\\nTap what was left out.\", answers: [cancel] };
-  const gone = [\"Void\", () => write(\"void\", \"nothing\"), \"it was none\"];
+  if (kind === \"late\") return { kind: \"wait\", head: \"Add: what was left out after \" + nameOf(place) + \"?\", detail: \"There stands: \" + entryWords(place) + \".\\nIt stays. Tap what came after it.\", answers: [cancel] };
+  const it = itemAt(place);
+  const gone = [\"Void\", () => write(\"void\", \"struck out\"), \"it was none\"];
   const more = [\"Add\", () => beginAmend(place, \"late\"), \"one after\"];
-  const answers = [gone, more, ...changes(told.entries.get(place) || \"\"), cancel];
-  return { kind: \"wait\", head: \"What was place \" + place + \"?\", detail: \"It stands as: \" + entryWords(place) + \".\\nTap what it was.\", answers };
+  const answers = [gone, more, ...changes(it ? it.line : \"\"), cancel];
+  return { kind: \"wait\", head: \"Put right: what was \" + nameOf(place) + \"?\", detail: \"There stands: \" + entryWords(place) + \".\\nTap what it was.\", answers };
 }
 
 function writeAhead() {
@@ -1236,8 +1386,26 @@ function choose(number) {
   show();
 }
 
+const battersRow = row => row.name + \" \" + row.runs + \" (\" + row.balls + \")\";
+
+// What both read to each other once an over is called: the total, who is in, who bowled and what came off it, and the overs left.
+function checkRows() {
+  const it = innings(), { this_over: open, last_over: last, striker, other: far, bowler: who, overs_left: left } = state.board.now;
+  if (open.length > 0 || last.length === 0) return [];
+  const { byes, legbyes, wides, noballs, penalty } = it.extras;
+  const rows = [striker, far].map(number => it.batting.find(row => row.number === number));
+  const both = rows.map((row, n) => row && battersRow(row) + (n === 0 ? \"*\" : \"\")).filter(text => text);
+  const runs = state.board.overs_runs[state.board.overs_runs.length - 1].runs;
+  return [
+    it.team + \" \" + it.runs + \" for \" + it.wickets + \", extras b \" + byes + \", lb \" + legbyes + \", w \" + wides + \", nb \" + noballs + \", p \" + penalty,
+    both.join(\"  \"),
+    name(other(batting()), who) + \" \" + bowlerFigures(who) + \"  \" + last.join(\" \") + \" = \" + runs,
+    ...(typeof left === \"number\" ? [one(left, \"over\") + \" left\"] : []),
+  ];
+}
+
 function bowlerAsked() {
-  const check = isAhead ? \"\" : told.check.join(\"\\n\");
+  const check = isAhead ? \"\" : checkRows().join(\"\\n\");
   if (isBowledOff() && bowler === null) {
     const end = [\"End innings\", () => endInnings(\"overs\"), \"overs bowled\", \"main\"];
     return { head: \"Its overs are bowled\", detail: check, answers: [end, [\"Another\", askEnding, \"cause\"], [\"Bowler\", anotherBowler, \"goes on\"]] };
@@ -1247,7 +1415,7 @@ function bowlerAsked() {
   return { head: check ? \"Who bowls? Read the check\" : \"Who bowls?\", detail: check, answers: some(options, choose, anotherBowler) };
 }
 
-const isClosed = () => [...told.entries.values()].includes(\"close\");
+const isClosed = () => items().some(it => it.line === \"close\");
 
 function inningsAsked() {
   if (isClosed()) return { head: \"The match is closed\", detail: state.board.now.result || \"\" };
@@ -1263,7 +1431,14 @@ function nothingAsked() {
 
 const overAsked = () => ({ head: one(balls(), \"ball\") + \" are bowled\", detail: lastWords(), answers: [[\"Over\", over, \"\", \"main\"]] });
 const ASKED = { innings: inningsAsked, batter: batterAsked, bowler: bowlerAsked, over: overAsked, nothing: nothingAsked };
-const lastWords = () => told.last ? \"Agreed: \" + inWords(told.last.line) + \".\" : \"\";
+
+// What the newest entry was, or what it has put right or added.
+function lastWords() {
+  const newest = state.news.entries - 1, touched = state.news.items || [];
+  const fixed = touched.find(it => it.by === newest), added = touched.find(it => it.place === newest);
+  if (fixed) return nameOf(fixed.place) + \" put right: \" + itemWords(fixed) + \".\";
+  return added ? (touched.length > 1 ? \"Added: \" : \"Agreed: \") + itemWords(added) + \".\" : \"\";
+}
 
 function askedView() {
   const made = ASKED[wants()];
@@ -1341,35 +1516,36 @@ function creaseRow(kind, who, text) {
 }
 
 function crease() {
-  const { striker, other: far, bowler: last } = state.board.now;
+  const { striker, other: far, bowler: last, this_over: open } = state.board.now;
   const of = (number, kind) => {
     const b = number === null ? null : innings().batting.find(it => it.number === number);
     return b ? [kind, b.name, b.runs + \" (\" + b.balls + \")\"] : [kind && \"\", \"\\u2013\", \"\"];
   };
-  const who = bowler !== null ? bowler : last;
+  // Who bowled the last over bowls no more.
+  const who = bowler !== null ? bowler : open.length > 0 && wants() !== \"bowler\" ? last : null;
   const bowls = who === null || who === undefined ? [\"bowls\", \"\\u2013\", \"\"] : [\"bowls\", name(other(batting()), who), bowlerFigures(who)];
   return innings() ? [of(striker, \"strike\"), of(far, \"\"), bowls] : [[\"\", \"\\u2013\", \"\"], [\"\", \"\\u2013\", \"\"], [\"bowls\", \"\\u2013\", \"\"]];
 }
 
 function aim() {
   const it = state.board.now;
-  if (it.result) return it.result;
+  if (it.result) return [it.result];
   const parts = [];
   if (it.free_hit) parts.push(\"Free hit\");
   if (it.needs !== null && it.needs !== undefined) parts.push(\"needs \" + it.needs + (it.balls_left ? \" off \" + it.balls_left : \"\"));
   if (it.powerplay) parts.push(\"Powerplay \" + it.powerplay);
-  return parts.join(\" \\u00b7 \");
+  return parts;
 }
 
 function drawScore() {
-  if (!isNew(\"score\", [version, bowler, told.side])) return;
+  if (!isNew(\"score\", [version, bowler, wants(), batting()])) return;
   const last = innings(), overs = state.board.now.overs;
   put(\"team\", last ? last.team : \"No play yet\");
   put(\"runs\", last ? last.runs + \"/\" + last.wickets : \"\");
   put(\"overs\", last && !state.board.now.result ? last.overs + (overs ? \" of \" + overs : \"\") + \" overs\" : \"\");
   put(\"which\", \"desk \" + state.desk.toUpperCase());
   put(\"told-heading\", \"Told at desk \" + state.desk.toUpperCase() + \", place \" + state.place + \" next\");
-  put(\"aim\", aim());
+  at(\"aim\").replaceChildren(...aim().flatMap((text, n) => [...(n === 0 ? [] : [\" \\u00b7 \"]), element(\"span\", text)]));
   at(\"crease\").tBodies[0].replaceChildren(...crease().map(row => creaseRow(...row)));
   document.title = (last ? last.team + \" \" + last.runs + \"/\" + last.wickets : state.title) + \", desk \" + state.desk.toUpperCase();
 }
@@ -1382,7 +1558,7 @@ function drawMarks() {
   if (!isNew(\"marks\", [state.over, amend])) return;
   at(\"marks\").replaceChildren(...state.over.map(({ place, mark }) => {
     const item = element(\"li\");
-    const made = choice([mark === \".\" ? \"\\u2022\" : mark, place, \"\", markKind(mark)], () => { if (drawnAt === position() && mayWrite()) beginAmend(place, \"fix\"); });
+    const made = choice([shownMark(mark), place, \"\", markKind(mark)], () => { if (drawnAt === position() && mayWrite()) beginAmend(place, \"fix\"); });
     made.setAttribute(\"aria-label\", \"Place \" + place + \", \" + (mark === \".\" ? \"no run\" : mark) + \": put it right\");
     made.setAttribute(\"aria-pressed\", String(amend !== null && amend.place === place));
     item.append(made);
@@ -1428,7 +1604,7 @@ function follows() {
 }
 
 function drawRows() {
-  if (!isNew(\"rows\", [told.rows.length, told.rows[told.rows.length - 1], told.last])) return;
+  if (!isNew(\"rows\", [told.rows.length, told.rows[told.rows.length - 1], version])) return;
   at(\"rows\").replaceChildren(...told.rows.map(row => element(\"div\", row || \" \", rowKind(row))));
   follows();
 }
@@ -1539,6 +1715,7 @@ addEventListener(\"keydown\", event => {
 addEventListener(\"pointerdown\", () => { isDown = true; downSince = now(); downAt = position(); }, true);
 addEventListener(\"pointerup\", () => { const since = downSince; setTimeout(() => { if (since === downSince) lift(); }, LIFTED); }, true);
 addEventListener(\"pointercancel\", lift, true);
+addEventListener(\"blur\", lift);
 addEventListener(\"click\", lift);
 at(\"pads\").addEventListener(\"click\", event => { const pad = event.target.closest(\"button\"); if (pad) press(pad); });
 at(\"back\").addEventListener(\"click\", back);
@@ -1556,11 +1733,13 @@ document.addEventListener(\"visibilitychange\", () => { if (!document.hidden && 
 function tick() {
   if ((isLost() || ticket !== null) && Date.now() - asked > (isOpen ? LOST : AGAIN)) listen();
   if (sent && sent.isTaken && now() - sent.since > ANSWER) sent = null;
+  if (isKnown() && !isLost() && !hasBook()) fetchBook();
   show();
 }
 
 setInterval(tick, 500);
-secret = keptSecret();
+secret = bytesIn(stored(KEPT));
+newest = secret ? Number(stored(REACHED)) : 0;
 readLink();
 listen();
 </script>

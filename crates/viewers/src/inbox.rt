@@ -1,17 +1,16 @@
 //! The lines that are posted to a desk.
 
-ghost use Rattle.std.specs.Prelude.{◌≡◌, ◌≤◌, ◌∷◌, ◌++◌, ◌+◌, [], IfSome, MatchOption, MatchResult, None, Some, if◌then◌else◌, length, take};
+ghost use Rattle.std.specs.Prelude.{◌≡◌, ◌≢◌, ◌<◌, ◌∷◌, ◌+◌, [], IfSome, MatchResult, None, Some, if◌then◌else◌, length};
 ghost use Rattle.posts.specs.Posts as posts;
 ghost use Rattle.posts.specs.Posts.{is_same_place};
 ghost use Rattle.posts.specs.Tickets as tickets;
-ghost use Rattle.viewers.specs.Inboxes as inboxes;
+ghost use Rattle.viewers.specs.Inboxes.{Adds, TypesNone, TypesOne};
 ghost use Rattle.viewers.specs.Veiled.{IsVeiled};
 
 use crate::asks::{Ask, Claim, Heading};
 use crate::own::{Own, Veiled, hex_line};
 use agree_core::Position;
 use arrayvec::ArrayVec;
-use links::LineBuffer;
 use posts::{Pass, Post, PostedLine, Posts, Refusal};
 use std::alloc::Global;
 
@@ -20,7 +19,8 @@ use std::alloc::Global;
 pub struct Inbox {
     posts: Posts,
     at: Position,
-    lines: ArrayVec<PostedLine, 8>,
+    /// Each of these is some line.
+    lines: ArrayVec<Option<PostedLine>, 8>,
 }
 
 impl Inbox {
@@ -56,19 +56,15 @@ impl Inbox {
         !self.lines.is_empty()
     }
 
-    /// Takes the oldest line, if there is one: it stands in front of the buffer.
-    pub fn next_line(&mut self, buffer: &mut LineBuffer) -> Option<usize>
-        ensures line { MatchOption result ((self.old.lines.items ≡ []) × (self.new ≡ self.old))
-            (λ count. inboxes.lines_in self.old.lines ≡ take count buffer.new ∷ inboxes.lines_in self.new.lines) }
-        ensures count { IfSome result (λ count. count ≤ 128) }
+    /// Takes the oldest line, if there is one.
+    pub fn next_line(&mut self) -> Option<PostedLine>
+        ensures none { self.old.lines.items ≡ [] → (result ≡ None) × (self.new ≡ self.old) }
+        ensures line { 0 < length self.old.lines.items → self.old.lines.items ≡ result ∷ self.new.lines.items }
     {
         if self.lines.is_empty() {
             return None;
         }
-        let line = self.lines.remove(0);
-        let count = line.len();
-        buffer[..count].copy_from_slice(line.as_slice());
-        Some(count)
+        self.lines.remove(0)
     }
 
     /// Gives a nonce, if there is one.
@@ -136,13 +132,13 @@ impl Inbox {
     /// What a post comes to: its line waits from here on, or why not.
     fn posted(&mut self, post: &Post<'_>) -> Option<Refusal>
         ensures comes_to { MatchResult (posts.verdict self.old.posts.secret self.old.posts.out post.now self.old.at (length self.old.lines.items))
-            (λ line. (result ≡ None) × (inboxes.lines_in self.new.lines ≡ inboxes.lines_in self.old.lines ++ line ∷ []))
+            (λ line. (result ≡ None) × Adds self.old.posts.secret self.old.at line self.old.lines.items self.new.lines.items)
             (λ why. (result ≡ Some why) × (self.new.lines ≡ self.old.lines)) }
         ensures out { self.new.posts.out ≡ posts.out_after self.old.posts.secret self.old.posts.out post.now }
     {
         match self.posts.judge(post, self.at, self.lines.len()) {
             Ok(line) => {
-                self.lines.push(line);
+                self.lines.push(Some(line));
                 None
             }
             Err(why) => Some(why),
@@ -158,8 +154,11 @@ pub fn give(inbox: &mut Option<Inbox>) -> Ask {
     }
 }
 
-/// Takes a post with this hidden line, and answers what it came to.
-pub fn take(inbox: &mut Option<Inbox>, heading: Heading, hidden: &[u8]) -> Ask {
+/// Takes a post with this hidden line, and answers what it came to: it is typed where its line waits from here on.
+pub fn take(inbox: &mut Option<Inbox>, heading: Heading, hidden: &[u8]) -> Ask
+    ensures typed { result ≡ Ask.Typed → TypesOne inbox.old inbox.new }
+    ensures other { result ≢ Ask.Typed → TypesNone inbox.old inbox.new }
+{
     let Some(inbox) = inbox else {
         return Ask::Missing;
     };

@@ -4,6 +4,7 @@
 mod asks;
 mod crowd;
 mod desk_page;
+mod guest;
 mod host;
 mod inbox;
 mod laws;
@@ -20,6 +21,7 @@ mod viewer;
 
 pub use asks::{Ask, Asked, Claim, Heading};
 pub use crowd::Viewers;
+pub use guest::{Guest, Stay};
 pub use host::is_named;
 pub use inbox::Inbox;
 pub use laws::what_others_are_served;
@@ -29,4 +31,4 @@ pub use replies::reply;
 pub use shown::Shown;
 pub use station::Station;
 pub use stream::{Stream, Wire};
-pub use viewer::{Guest, Stay, Viewer};
+pub use viewer::Viewer;

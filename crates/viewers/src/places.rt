@@ -3,11 +3,12 @@
 ghost use Rattle.std.specs.Prelude.{◌≡◌, [], None, false, get_or};
 ghost use Rattle.viewers.specs.Places.{HasNoSigned, KeepsAll, KeepsOthers, KeepsSigned, KeepsUnsigned, is_signed};
 
+use crate::guest::Stay;
 use crate::inbox::Inbox;
 use crate::shown::Shown;
 use crate::station::Station;
 use crate::stream::Stream;
-use crate::viewer::{Stay, Viewer};
+use crate::viewer::Viewer;
 use std::alloc::{AllocError, Global};
 use std::net::IpAddr;
 

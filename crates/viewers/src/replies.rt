@@ -368,6 +368,7 @@ pub fn reply(
         Ask::Page => page(alloc, server, station, head),
         Ask::Lines => shown_text(alloc, server, station, TEXT, shown.lines.as_slice(), head),
         Ask::State => shown_text(alloc, server, station, JSON, shown.state.as_slice(), head),
+        Ask::Book => shown_text(alloc, server, station, JSON, shown.book.as_slice(), head),
         Ask::Events => stream(alloc, server, station),
         Ask::Given(nonce) => nonce_text(alloc, server, station, nonce),
         Ask::Typed => short_answer(alloc, server, station, TYPED, head),

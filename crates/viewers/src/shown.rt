@@ -1,7 +1,7 @@
 //! The newest texts of a station.
 
 ghost use Rattle.std.specs.Prelude.{◌≡◌};
-ghost use Rattle.viewers.specs.Replies.{SameOpenly, ShowsOpenly};
+ghost use Rattle.viewers.specs.Replies.{SameOpenly, ShowsBook, ShowsOpenly};
 
 use crate::own::Veiled;
 use crate::station::Station;
@@ -15,6 +15,8 @@ pub struct Shown {
     pub lines: Vec<u8>,
     /// The state as JSON, one line: of a desk without what its scorer wrote.
     pub state: Vec<u8>,
+    /// What stands in a desk's book as JSON, one line.
+    pub book: Vec<u8>,
     /// How often the state was another one.
     pub number: u64,
     /// What only who has the secret of a desk's page reads.
@@ -30,6 +32,7 @@ impl Shown {
             station,
             lines: Vec::new(alloc),
             state: Vec::new(alloc),
+            book: Vec::new(alloc),
             number: 0,
             veiled: Veiled {
                 number: 0,
@@ -42,6 +45,7 @@ impl Shown {
     pub fn put_lines(&mut self, lines: Vec<u8>)
         ensures lines { self.new.lines ≡ lines }
         ensures state { self.new.state ≡ self.old.state }
+        ensures book { self.new.book ≡ self.old.book }
         ensures number { self.new.number ≡ self.old.number }
         ensures station { self.new.station ≡ self.old.station }
     {
@@ -59,6 +63,13 @@ impl Shown {
             self.number = self.number.saturating_add(1);
         }
         self.state = state;
+    }
+
+    /// This is what stands in the book from here on.
+    pub fn put_book(&mut self, book: Vec<u8>)
+        ensures { ShowsBook book.items self.old self.new }
+    {
+        self.book = book;
     }
 
     /// This is what only who has the secret reads from here on.

@@ -6,6 +6,7 @@ ghost use Rattle.viewers.specs.Replies.{beat_text, number_for};
 ghost use Rattle.viewers.specs.Said.{Tells, said_in, taken_by};
 
 use crate::asks::{Ask, Asked, Heading, Wish, bytes_at, wish_in};
+use crate::guest::{Guest, Stay};
 use crate::inbox::{Inbox, give, hand_out, is_passed, take};
 use crate::logs::SaidLog;
 use crate::replies::{beat, reply, told};
@@ -18,7 +19,6 @@ use http1::{Event, Limits, Server, WriteError};
 use httparse::spans::{EMPTY_HEADER_SPAN, HeaderSpan, Span};
 use std::alloc::Global;
 use std::io;
-use std::net::SocketAddr;
 use waits::VIEWER_PATIENCE;
 
 /// How many pieces are read or written at once.
@@ -47,28 +47,6 @@ enum Stage {
     Answered,
     /// All was sent, and it was told that nothing follows.
     Ended,
-}
-
-/// What a viewer is at, as far as others who ask for a place are concerned.
-#[derive(Clone, Copy)]
-pub enum Stay {
-    /// It hasn't asked for anything yet.
-    Asking,
-    /// It was answered.
-    Answered,
-    /// It is told each new state.
-    Watching,
-}
-
-/// Who comes.
-#[derive(Clone, Copy)]
-pub struct Guest {
-    /// At which address.
-    pub at: SocketAddr,
-    /// From which network.
-    pub from: u64,
-    /// Whether no place was free.
-    pub is_behind: bool,
 }
 
 /// A browser's connection, which asks for one thing. What it was sent and is still to be sent is just what was said to it:
@@ -210,7 +188,7 @@ impl<S: Stream> Viewer<S> {
         let mut fields: [HeaderSpan; 32] = [EMPTY_HEADER_SPAN; MOST_FIELDS];
         let read = match self.server.read(self.input.as_slice(), &mut fields) {
             Ok(read) => read,
-            Err(why) => return Some(refused(why.status())),
+            Err(why) => return Some(Wish::refused(why.status())),
         };
         let wish = match read.event {
             Event::Head(head) => {
@@ -298,7 +276,7 @@ impl<S: Stream> Viewer<S> {
     fn read_head(&mut self, alloc: Global, shown: &Shown, inbox: &mut Option<Inbox>, now: u64) {
         match self.wish(shown.station) {
             Some(Wish::Answer(asked)) => {
-                let asked = ready(asked, shown, self.guest.is_behind);
+                let asked = asked.ready(shown, self.guest.is_behind);
                 self.answer(alloc, asked, shown);
             }
             Some(Wish::Watch(pass)) => self.watch(alloc, is_passed(inbox, &pass), shown),
@@ -501,26 +479,5 @@ impl<S: Stream> Viewer<S> {
         }
         self.since = now;
         self.send(now);
-    }
-}
-
-/// That a head is refused with this status.
-fn refused(status: u16) -> Wish {
-    Wish::Answer(Asked {
-        ask: Ask::Faulty(status),
-        is_head: false,
-    })
-}
-
-/// What is asked for, where it can be had: nothing may have been handed over to be shown yet, or no place be free.
-fn ready(asked: Asked, shown: &Shown, is_behind: bool) -> Asked {
-    let ask = match asked.ask {
-        Ask::Page | Ask::Lines | Ask::State | Ask::Events if is_behind => Ask::Full,
-        Ask::Lines | Ask::State if shown.number == 0 => Ask::Unready,
-        ask => ask,
-    };
-    Asked {
-        ask,
-        is_head: asked.is_head,
     }
 }

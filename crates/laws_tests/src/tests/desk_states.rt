@@ -6,7 +6,7 @@ use agree_core::{DeskId, Position};
 use arrayvec::ArrayString;
 use cards::{MatchSheet, read_sheet};
 use corrections::Book;
-use desk_state::state_text;
+use desk_state::{book_text, state_text};
 use notation::{Entry, Plain, Side};
 use scoreboard::{LastHeard, board_text};
 use std::alloc::{AllocError, Global};
@@ -34,8 +34,8 @@ const BEGIN: &str =
 const SIDES: &str =
     ",\"sides\":{\"home\":{\"name\":\"Alder\",\"players\":[\"Ames\",\"Boyd\",\"Carr\",\"Dean\",\"Eves\",\"Ford\",\"Gray\",\"Hill\",\"Ives\",\"King\",\"Lund\"]},\"away\":{\"name\":\"Birch\",\"players\":[\"Moss\",\"Nash\",\"Orr\",\"Pike\",\"Quin\",\"Rowe\",\"Sage\",\"Tate\",\"Usher\",\"Vale\",\"Wade\"]}},\"board\":";
 
-/// Steps of a match: lines, and what the state says of what comes next.
-const STEPS: [(&[&str], &str); 5] = [
+/// Steps of a match: lines, and what the state says of what comes next, and of what is new in the book.
+const STEPS: [(&[&str], &str, &str); 5] = [
     (
         &[
             "innings home",
@@ -46,6 +46,7 @@ const STEPS: [(&[&str], &str); 5] = [
             "late 3 ball 7 bat 0",
         ],
         "\"wants\":\"ball\",\"may_come_in\":[],\"may_bowl\":[1,2,3,4,5,6,7,8,9,10,11],\"over\":[{\"place\":3,\"mark\":\"1\"},{\"place\":5,\"mark\":\".\"},{\"place\":4,\"mark\":\"1wd\"}]",
+        ",\"news\":{\"entries\":6,\"from\":4,\"items\":[{\"place\":5,\"line\":\"ball 7 bat 0\",\"innings\":1,\"over\":1,\"ball\":2,\"batter\":2,\"bowler\":7,\"mark\":\".\",\"by\":null},{\"place\":4,\"line\":\"ball 7 wide 0\",\"innings\":1,\"over\":1,\"ball\":3,\"batter\":2,\"bowler\":7,\"mark\":\"1wd\",\"by\":null}]}",
     ),
     (
         &[
@@ -56,10 +57,12 @@ const STEPS: [(&[&str], &str); 5] = [
             "ball 7 bat 2",
         ],
         "\"wants\":\"over\",\"may_come_in\":[],\"may_bowl\":[1,2,3,4,5,6,7,8,9,10,11],\"over\":[{\"place\":3,\"mark\":\"1\"},{\"place\":5,\"mark\":\".\"},{\"place\":4,\"mark\":\"1wd\"},{\"place\":6,\"mark\":\"4\"},{\"place\":7,\"mark\":\"W\"},{\"place\":9,\"mark\":\"6\"},{\"place\":10,\"mark\":\"2\"}]",
+        ",\"news\":{\"entries\":11,\"from\":10,\"items\":[{\"place\":10,\"line\":\"ball 7 bat 2\",\"innings\":1,\"over\":1,\"ball\":7,\"batter\":3,\"bowler\":7,\"mark\":\"2\",\"by\":null}]}",
     ),
     (
         &["over", "fix 10 void", "fix 9 ball 7 bye 1"],
         "\"wants\":\"bowler\",\"may_come_in\":[],\"may_bowl\":[1,2,3,4,5,6,8,9,10,11],\"over\":[{\"place\":3,\"mark\":\"1\"},{\"place\":5,\"mark\":\".\"},{\"place\":4,\"mark\":\"1wd\"},{\"place\":6,\"mark\":\"4\"},{\"place\":7,\"mark\":\"W\"},{\"place\":9,\"mark\":\"1b\"}]",
+        ",\"news\":{\"entries\":14,\"from\":9,\"items\":[{\"place\":9,\"line\":\"ball 7 bye 1\",\"innings\":1,\"over\":1,\"ball\":6,\"batter\":3,\"bowler\":7,\"mark\":\"1b\",\"by\":13},{\"place\":10,\"line\":\"void\",\"by\":12},{\"place\":11,\"line\":\"over\",\"by\":null}]}",
     ),
     (
         &[
@@ -69,6 +72,7 @@ const STEPS: [(&[&str], &str); 5] = [
             "gone timedout 4",
         ],
         "\"wants\":\"batter\",\"may_come_in\":[3,5,6,7,8,9,10,11],\"may_bowl\":[1,2,3,4,5,6,9,10,11],\"over\":[{\"place\":14,\"mark\":\".\"}]",
+        ",\"news\":{\"entries\":18,\"from\":15,\"items\":[{\"place\":17,\"line\":\"gone timedout 4\",\"by\":null}]}",
     ),
     (
         &[
@@ -80,6 +84,7 @@ const STEPS: [(&[&str], &str); 5] = [
             "ball 1 bat 0 six",
         ],
         "\"wants\":\"nothing\",\"may_come_in\":[],\"may_bowl\":[],\"over\":[{\"place\":22,\"mark\":\"6\"},{\"place\":23,\"mark\":\"6\"}]",
+        ",\"news\":{\"entries\":24,\"from\":21,\"items\":[{\"place\":23,\"line\":\"ball 1 bat 0 six\",\"innings\":2,\"over\":1,\"ball\":2,\"batter\":5,\"bowler\":1,\"mark\":\"6\",\"by\":null}]}",
     ),
 ];
 
@@ -100,10 +105,10 @@ const HEARD: LastHeard = LastHeard {
 /// What ends a board's state then.
 const END: &str = ",\"heard\":{\"a\":7,\"b\":null},\"trouble\":null}\n";
 
-/// The text begins so, says this of what comes next, and then has both sides and the board's state.
-fn expect_state(rt: &impl Abort, text: &[u8], begin: &str, next: &str, board: &[u8]) {
+/// The text begins so, says this of what comes next and of what is new, and then has both sides and the board's state.
+fn expect_state(rt: &impl Abort, text: &[u8], begin: &str, next: &str, news: &str, board: &[u8]) {
     let mut left = text;
-    for front in [begin, next, SIDES] {
+    for front in [begin, next, news, SIDES] {
         left = behind(rt, left, front);
     }
     assert!(rt; left.ends_with(b"}}\n"), "{next}");
@@ -113,10 +118,24 @@ fn expect_state(rt: &impl Abort, text: &[u8], begin: &str, next: &str, board: &[
     );
 }
 
+/// All that stands in the book behind the first step.
+const FIRST_BOOK: &str =
+    "{\"entries\":6,\"items\":[{\"place\":0,\"line\":\"innings home\",\"by\":null},{\"place\":1,\"line\":\"in 1\",\"by\":null},{\"place\":2,\"line\":\"in 2\",\"by\":null},{\"place\":3,\"line\":\"ball 7 bat 1\",\"innings\":1,\"over\":1,\"ball\":1,\"batter\":1,\"bowler\":7,\"mark\":\"1\",\"by\":null},{\"place\":5,\"line\":\"ball 7 bat 0\",\"innings\":1,\"over\":1,\"ball\":2,\"batter\":2,\"bowler\":7,\"mark\":\".\",\"by\":null},{\"place\":4,\"line\":\"ball 7 wide 0\",\"innings\":1,\"over\":1,\"ball\":3,\"batter\":2,\"bowler\":7,\"mark\":\"1wd\",\"by\":null}]}\n";
+
+/// The same as anybody is given it.
+fn stands(rt: &impl Abort, alloc: Global) -> Result<(), AllocError> {
+    let mut book = Book::new(alloc, 1)?;
+    let (lines, _, _) = STEPS[0];
+    enter(rt, &mut book, lines);
+    let text = book_text(alloc, &book)?;
+    assert!(rt; text.as_slice() == FIRST_BOOK.as_bytes());
+    Ok(())
+}
+
 /// Each step's state, at a desk that has cast no vote.
 fn follow(rt: &impl Abort, alloc: Global, sheet: &MatchSheet) -> Result<(), AllocError> {
     let mut book = Book::new(alloc, 1)?;
-    for (lines, next) in &STEPS {
+    for (lines, next, news) in &STEPS {
         enter(rt, &mut book, lines);
         let at = Position {
             place: 18,
@@ -124,7 +143,7 @@ fn follow(rt: &impl Abort, alloc: Global, sheet: &MatchSheet) -> Result<(), Allo
         };
         let board = board_text(alloc, sheet, &book, HEARD, None)?;
         let text = state_text(alloc, sheet, &book, DeskId::B, at, None, &[])?;
-        expect_state(rt, text.as_slice(), BEGIN, next, board.as_slice());
+        expect_state(rt, text.as_slice(), BEGIN, next, news, board.as_slice());
     }
     Ok(())
 }
@@ -141,18 +160,20 @@ fn wait(rt: &impl Abort, alloc: Global, sheet: &MatchSheet) -> Result<(), AllocE
     let begin =
         "{\"format\":\"yermudosh desk 1\",\"match\":\"2026\",\"title\":\"A \\\"state\\\"\",\"desk\":\"a\",\"place\":0,\"round\":0,\"pending\":\"innings home\",\"held\":[\"in 1\",\"in \\\"2\\\"\",\"\\\\\"],";
     let next = "\"wants\":\"innings\",\"may_come_in\":[],\"may_bowl\":[],\"over\":[]";
+    let news = ",\"news\":{\"entries\":0,\"from\":0,\"items\":[]}";
     let board = board_text(alloc, sheet, &book, HEARD, None)?;
-    expect_state(rt, text.as_slice(), begin, next, board.as_slice());
+    expect_state(rt, text.as_slice(), begin, next, news, board.as_slice());
     Ok(())
 }
 
-/// Both, by the sheet; nothing where memory was refused.
+/// All, by the sheet; nothing where memory was refused.
 fn all(rt: &impl Abort, alloc: Global) -> Option<()> {
     let sheet = match read_sheet(alloc, SHEET.as_bytes()) {
         Ok(sheet) => sheet,
         Err(_) => return None,
     };
     follow(rt, alloc, &sheet).ok()?;
+    stands(rt, alloc).ok()?;
     wait(rt, alloc, &sheet).ok()
 }
 

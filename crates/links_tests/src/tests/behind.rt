@@ -2,8 +2,10 @@
 ghost use Rattle.std.specs.Prelude.{◌<◌};
 
 use super::*;
-use links::{CarriedLog, Link, Receivers, SealedBuffer, SealedBytes, SealedCarrier, Taken, Window};
-use seal::{Seal, Sealed};
+use links::{Link, Receivers, Taken, Window};
+use seal::{
+    CarriedLog, Ring, Seal, Sealed, SealedBuffer, SealedBytes, SealedCarrier, TaggedBytes, form_for,
+};
 use wire::MessageBytes;
 
 mod catching_up;
@@ -23,7 +25,7 @@ struct World {
     /// How many datagrams were sent to all, and how many back, and the last of them.
     sent: Cell<usize>,
     back: Cell<usize>,
-    last: Cell<SealedBytes>,
+    last: Cell<TaggedBytes>,
     /// How long the last datagram was waited for.
     waited: Cell<u64>,
 }
@@ -37,7 +39,7 @@ impl World {
             brings: Cell::new(None),
             sent: Cell::new(0),
             back: Cell::new(0),
-            last: Cell::new([0; 64]),
+            last: Cell::new([0; 80]),
             waited: Cell::new(0),
         }
     }
@@ -51,23 +53,23 @@ struct Post<'a> {
 }
 
 impl SealedCarrier for Post<'_> {
-    ghost use Rattle.links.specs.Logs.{carried_of};
+    ghost use Rattle.seal.specs.Carried.{carried_of};
 
     ghost carried = { λ post. carried_of post.log };
 
-    fn carry(&mut self, bytes: &SealedBytes) {
+    fn carry(&mut self, bytes: &TaggedBytes) {
         self.world.sent.set(self.world.sent.get().saturating_add(1));
         self.world.last.set(*bytes);
         self.log = self.log.sent(Receivers::ToAll, bytes);
     }
 
-    fn carry_back(&mut self, bytes: &SealedBytes) {
+    fn carry_back(&mut self, bytes: &TaggedBytes) {
         self.world.back.set(self.world.back.get().saturating_add(1));
         self.world.last.set(*bytes);
         self.log = self.log.sent(Receivers::ToOne, bytes);
     }
 
-    fn carry_to(&mut self, peer: usize, bytes: &SealedBytes) {
+    fn carry_to(&mut self, peer: usize, bytes: &TaggedBytes) {
         self.world.to.set(peer);
         self.carry_back(bytes);
     }
@@ -100,7 +102,12 @@ fn windowed(alloc: Global, world: &World) -> Windowed<'_> {
         now: &world.now,
         log: ClockLog::Empty,
     };
-    Window::new(alloc, Sealed::new(post, seal()), hand, 7)
+    Window::new(
+        alloc,
+        Sealed::new(post, Ring::new(Asker::Board, seal(), seal())),
+        hand,
+        7,
+    )
 }
 
 /// The match's seal.
@@ -176,7 +183,7 @@ fn rests(rt: &impl Abort, window: &mut Windowed<'_>, world: &World, now: u64, wa
 
 /// The last datagram was this one.
 fn has_said(rt: &impl Abort, world: &World, message: &MessageBytes) {
-    assert!(rt; world.last.get() == seal().sealed(message));
+    assert!(rt; form_for(0, &world.last.get()) == seal().sealed(message));
 }
 
 /// A board's ask for a place is given, and desk A answers it.

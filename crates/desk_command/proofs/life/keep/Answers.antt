@@ -4,5 +4,6 @@ use Rattle.desk_command.proofs.life.keep.Goals as goal
 
 pub returns : goal.returns
 returns g c =
-    lived _ _ _ _ c.args.sheet.now _ c.args.desk c.args.disk (logs_of g.L.Link.log g.K.Keys.inputs g.C.Clock.readings g.W.Sink.contents c.args.outside.now) (logs_of g.L.Link.log g.K.Keys.inputs g.C.Clock.readings g.W.Sink.contents c.keep_desk.new.outside) _ _
-    c.requires.innings c.requires.untyped c.keep_desk.ensures.lives
+    let r = c.requires in
+    lived c.args.sheet.now _ c.args.desk c.args.disk (logs_of g.L.Link.log g.K.Keys.inputs g.C.Clock.readings g.W.Sink.contents c.args.outside.now) (logs_of g.L.Link.log g.K.Keys.inputs g.C.Clock.readings g.W.Sink.contents c.keep_desk.new.outside) _ _
+    r.innings r.unsaid r.untyped r.untold c.keep_desk.ensures.lives

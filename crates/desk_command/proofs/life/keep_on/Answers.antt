@@ -1,17 +1,29 @@
+use Rattle.std.proofs.Common.{◌∙◌, List, ap, subst, sym}
 use Rattle.ahead.proofs.OrderLemmas.{casts_in_order}
+use Rattle.cards.specs.Sheet.{Sheet}
+use Rattle.links.specs.Logs.{passed_of}
+use Rattle.seal.specs.Carried.{carried_of}
+use Rattle.links.specs.Passed.{Passed}
+use Rattle.setup.specs.Carried.{WasCarried}
+use Rattle.desk_command.proofs.KeepingLemmas.{lives_so}
+use Rattle.desk_command.specs.Traces.{IsWideSheetOf}
 use Rattle.desk_command.proofs.life.keep_on.Goals as goal
 
-pub invariant_of-life : goal.invariant_of-life
-invariant_of-life g c =
-    let ahead = c.keep_on_disk-ended.new.outside.keys in
-    record {
-      kept = ∣ record {
-        sheet = c.args.sheet.now;
-        disk = c.args.disk;
-        log = (ahead.queue).log;
-        on = c.requires.on;
-        of_typed = rw (c.of-typed.ensures, c.given.ensures, c.keys.ensures) ahead.typed;
-        in_order = casts_in_order _ (ahead.queue).ordered;
-        lives = c.keep_on_disk-ended.ensures;
-      } ∣₁;
-    }
+pub invariant_of-life-clause-read : goal.invariant_of-life-clause-read
+invariant_of-life-clause-read g c =
+    ∣ subst (λ (sheet : Sheet). IsWideSheetOf (c.args.source.text).value.items sheet) (sym c.of.ensures) c.requires.read ∣₁
+
+pub invariant_of-life-clause-kept : goal.invariant_of-life-clause-kept
+invariant_of-life-clause-kept g c =
+    let ahead = c.keep-ended.new.outside.keys in
+    let said = ap passed_of c.of-5.ensures ∙ c.passed.ensures in
+    let told = sym c.written.ensures ∙ ap g.W.Write.contents c.into_inner-screen.ensures in
+    ∣ record {
+      disk = c.args.disk;
+      log = (ahead.queue).log;
+      on = c.requires.on;
+      of_typed = rw (c.of-2.ensures, c.given.ensures, c.keys-3.ensures) ahead.typed;
+      in_order = casts_in_order _ (ahead.queue).ordered;
+      carried = subst (λ (l : List Passed). WasCarried l (carried_of c.of-6.result.value)) (sym said) (rw c.of-6.ensures c.carried.ensures);
+      lives = lives_so c.of.ensures said told c.keep-ended.ensures;
+    } ∣₁

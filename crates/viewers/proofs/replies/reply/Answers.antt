@@ -20,6 +20,15 @@ returns-in-State c =
     (λ bytes. bytes.items ≡ texts.answer_text c.args.server.now a c.args.head c.args.shown.now))
     (sym c.in-State.is) state
 
+pub returns-in-Book : goal.returns-in-Book
+returns-in-Book c =
+    let book = subst (λ t. IfOk c.shown_text-in-Book.result
+    (λ bytes. bytes.items ≡ texts.whole_text c.args.server.now c.args.shown.now.station 200 (codes "OK") texts.json t c.args.head))
+    c.as_slice-in-Book.ensures.value c.shown_text-in-Book.ensures in
+    subst (λ a. IfOk c.shown_text-in-Book.result
+    (λ bytes. bytes.items ≡ texts.answer_text c.args.server.now a c.args.head c.args.shown.now))
+    (sym c.in-Book.is) book
+
 pub returns-in-Missing : goal.returns-in-Missing
 returns-in-Missing c =
     subst (λ a. IfOk c.short_answer-in-Missing.result

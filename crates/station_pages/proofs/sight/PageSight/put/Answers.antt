@@ -1,10 +1,15 @@
-use Rattle.std.proofs.Common.{◌∙◌, ◌++◌, ◌∷◌, [], ℕ, List, ap₂, inr}
-use Rattle.station_pages.specs.Sights.{texts_in}
+use Rattle.std.proofs.Common.{inl, refl, subst}
+use Rattle.agree_core.specs.declared.messages.DeskId.{DeskId}
+use Rattle.screen.specs.Sights.{sight_at}
+use Rattle.station_pages.specs.Sights.{ServesState}
 use Rattle.station_pages.proofs.sight.PageSight.put.Goals as goal
 
-pub returns-in-Ok-clause-shows : goal.returns-in-Ok-clause-shows
-returns-in-Ok-clause-shows g c =
-    inr (
-      c.args.held.now,
-      c.given.ensures ∙ ap₂ (λ (openly own : List ℕ). texts_in c.args.self.now.log ++ (openly, own) ∷ []) c.in-Ok.ensures.openly c.in-Ok.ensures.own,
-    )
+pub returns-then-put_book-clause-others : goal.returns-then-put_book-clause-others
+returns-then-put_book-clause-others g c =
+    let shown = c.put_book.new.page.viewers.shown in
+    let sight = sight_at c.args.sheet.now (g.B.BookOf.innings_a_side c.args.book.now) (g.B.BookOf.content c.args.book.now) c.args.at c.args.own in
+    (shown, c.put_book.ensures.others, subst (λ (desk : DeskId). ServesState desk shown c.put_state.new.page.viewers.shown sight) c.put_book.ensures.desk c.put_state.ensures.others)
+
+pub returns-else-put_book-clause-others : goal.returns-else-put_book-clause-others
+returns-else-put_book-clause-others g c =
+    (c.put_book.new.page.viewers.shown, c.put_book.ensures.others, inl (record { station = refl; lines = refl; state = refl; book = refl; number = refl }))

@@ -1,0 +1,18 @@
+-- A board's process that was kept.
+use Rattle.std.proofs.Common.{◌≡◌, ℕ, List, Option, Result}
+use Rattle.cards.specs.Sheet.{Sheet}
+use Rattle.links.specs.Passed.{Passed}
+use Rattle.live.specs.Boards.{BoardLives}
+use Rattle.live.specs.Runs.{untyped}
+use Rattle.live.specs.Sights.{Sight}
+use Rattle.station_texts.specs.declared.notices.Notice.{Notice}
+use Rattle.streams.specs.declared.watched.WriteFailed.{WriteFailed}
+use Rattle.board_command.specs.Keeping.{MatchBoard, entries_in, innings_in}
+
+-- the same told otherwise: of its sheet, what passed, what was written, its notices, and what it handed over to be shown
+pub lives_so : {sheet same : Sheet} {begun last : MatchBoard} {p q m n : List Passed} {before after : List ℕ} {s t u v : Option (List ℕ)} {turns : ℕ}
+    {a b c d : List Notice} {e f g h : List Sight} {ended : Result (Unit {0}) WriteFailed}
+    → same ≡ sheet → q ≡ p → n ≡ m → t ≡ s → v ≡ u → b ≡ a → d ≡ c → f ≡ e → h ≡ g
+    → BoardLives entries_in innings_in sheet begun last (untyped p before s) (untyped m after u) turns a c e g ended
+    → BoardLives entries_in innings_in same begun last (untyped q before t) (untyped n after v) turns b d f h ended
+lives_so i j k l m n o p q lives = rw (i, j, k, l, m, n, o, p, q) lives

@@ -1,0 +1,80 @@
+-- The process of a board on this machine, and what it leaves to be seen.
+use Rattle.std.specs.Prelude.{◌≡◌, ℕ, List, [], Some, Result}
+use Rattle.notation.specs.declared.entry.Entry.{Entry}
+use Rattle.corrections.specs.Book.{Contents}
+use Rattle.corrections.specs.declared.checked_book.CheckedBook.{CheckedBook}
+use Rattle.corrections.specs.contracts.checked_book.CheckedBookBookOf.TheImpl as book_impl
+use Rattle.agree_core.specs.Boards.{fresh_board}
+use Rattle.board.specs.Board.{book_of, game_of, state_of}
+use Rattle.board.specs.declared.board.Board.{Board}
+use Rattle.cards.specs.Sheet.{Sheet}
+use Rattle.links.specs.declared.log.Log.{Log}
+use Rattle.links.specs.Logs.{passed_of}
+use Rattle.links.specs.Passed.{Passed}
+use Rattle.live.specs.Boards.{BoardLives}
+use Rattle.live.specs.Runs.{untyped}
+use Rattle.live.specs.Sights.{Sight}
+use Rattle.live.specs.SightLogs.{sights_of}
+use Rattle.live.specs.declared.sight_log.SightLog.{SightLog}
+use Rattle.machine.specs.declared.row_log.Written.{Written}
+use Rattle.machine.specs.Screens.{text_of}
+use Rattle.seal.specs.declared.carrier.CarriedLog.{CarriedLog}
+use Rattle.seal.specs.Carried.{carried_of}
+use Rattle.setup.specs.Carried.{WasCarried}
+use Rattle.station_texts.specs.declared.{notice_log.NoticeLog.NoticeLog, notices.Notice.Notice}
+use Rattle.station_texts.specs.NoticeLogs.{notices_of}
+use Rattle.streams.specs.declared.watched.WriteFailed.{WriteFailed}
+
+-- the sheet of its match, what it said and heard, what passed for that at its socket, what was written to its screen, the notices
+-- that it told, the books that it handed to be shown, and how it ended
+pub record Traces : Type 0 where
+  pub sheet : Sheet
+  pub passed : List Passed
+  pub carried : List Passed
+  pub told : List ℕ
+  pub notices : List Notice
+  pub shown : List Sight
+  pub ended : Result (Unit {0}) WriteFailed
+
+-- what a checked book has
+abbrev pub entries_in : Contents → List Entry
+entries_in book = book.entries
+
+abbrev pub innings_in : Contents → ℕ
+innings_in book = book.innings_a_side
+
+-- the same by the logs of each
+abbrev pub traces_of :
+    Sheet → Log → CarriedLog → Written → NoticeLog → SightLog CheckedBook → Result (Unit {0}) WriteFailed → Traces
+traces_of sheet passed carried told notices shown ended = record {
+  sheet = sheet;
+  passed = passed_of passed;
+  carried = carried_of carried;
+  told = text_of told;
+  notices = notices_of notices;
+  shown = sights_of entries_in innings_in shown;
+  ended = ended;
+}
+
+-- with a checked book
+abbrev pub MatchBoard : Type 0
+MatchBoard = Board CheckedBook book_impl.ghosts
+
+-- a board of the sheet's match that has heard nothing, with an empty book
+pub record IsFresh (sheet : Sheet) (board : MatchBoard) : Type 0 where
+  pub state : state_of entries_in board ≡ fresh_board
+  pub game : game_of board ≡ sheet.game
+  pub innings : innings_in (book_of board) ≡ sheet.innings
+
+-- A board was kept, from when nothing had passed or was told, until just this had passed at its socket, was written to its
+-- screen, was told and was shown, and it ended so.
+pub record WasKept (traces : Traces) : Type 0 where
+  pub begun : MatchBoard
+  pub last : MatchBoard
+  pub before : List ℕ
+  pub after : List ℕ
+  pub turns : ℕ
+  pub fresh : IsFresh traces.sheet begun
+  pub carried : WasCarried traces.passed traces.carried
+  pub lives : BoardLives entries_in innings_in traces.sheet begun last (untyped [] before (Some []))
+      (untyped traces.passed after (Some traces.told)) turns [] traces.notices [] traces.shown traces.ended

@@ -1,0 +1,139 @@
+//! The process of a board on this machine: there is a life of a board only where its process was kept.
+
+ghost use Rattle.std.specs.Prelude.{◌≡◌, []};
+ghost use Rattle.setup.specs.SheetText.{IsSheetOf};
+ghost use Rattle.machine.specs.Screens.{written_of};
+ghost use Rattle.board_command.specs.Keeping.{IsFresh, WasKept, entries_in, innings_in, traces_of};
+ghost use Rattle.live.specs.SightLogs.{sights_of};
+
+use crate::hearing::Listening;
+use crate::notes::Notes;
+use board::{Board, Trouble, Witness};
+use cards::MatchSheet;
+use corrections::CheckedBook;
+use links::{Clock, Log};
+use live::{Shows, SightLog, keep_board};
+use machine::{Outlet, Screen, Written};
+use seal::CarriedLog;
+use setup::{SheetFile, StationLink};
+use station_texts::NoticeLog;
+use std::io::Write;
+use std::snapshot::Snapshot;
+use streams::{Sink, Watched, WriteFailed};
+
+/// The life of a board: the path of its sheet, and how it ended. Of what it had to do with clauses alone read: the bytes of its
+/// sheet, what was read of them, what it said and heard, what passed for that at its socket, what was written to its screen, the
+/// notices that it told, and the books that it handed to be shown.
+#[derive(Drop)]
+pub struct BoardLife<'a> {
+    sheet_path: &'a str,
+    ended: Result<(), WriteFailed>,
+    text: Snapshot<Vec<u8>>,
+    sheet: Snapshot<MatchSheet>,
+    passed: Snapshot<Log>,
+    carried: Snapshot<CarriedLog>,
+    told: Written,
+    notices: Snapshot<NoticeLog>,
+    shown: Snapshot<SightLog<CheckedBook>>,
+    pub ghost read: { ∥ IsSheetOf text.value.items sheet.value ∥₁ },
+    pub ghost kept: { ∥ WasKept (traces_of sheet.value passed.value carried.value told notices.value shown.value ended) ∥₁ },
+}
+
+impl BoardLife<'_> {
+    /// How it ended.
+    pub fn ended(&self) -> Result<(), WriteFailed>
+        ensures { result ≡ self.now.ended }
+    {
+        self.ended
+    }
+}
+
+/// What shows a board's book, with all that it was handed.
+#[derive(Drop)]
+struct Noted<S> {
+    shows: S,
+    log: SightLog<CheckedBook>,
+}
+
+impl<S: Shows<CheckedBook>> Shows<CheckedBook> for Noted<S> {
+    ghost seen = { λ noted. sights_of entries_in innings_in noted.log };
+
+    ghost goes_on = { λ old sight now new. S.goes_on old.shows sight now new.shows };
+
+    ghost failed = { λ noted. S.failed noted.shows };
+
+    fn show(
+        &mut self,
+        sheet: &MatchSheet,
+        book: &CheckedBook,
+        trouble: Option<Trouble>,
+        now: u64,
+    ) -> Result<(), WriteFailed> {
+        let shown = self.shows.show(sheet, book, trouble, now);
+        self.log = self.log.handed(sheet, book, trouble);
+        shown
+    }
+}
+
+/// Keeps a board that has heard nothing, over a link at which nothing passed, until a write to its screen fails: its life.
+#[inline(never)]
+pub fn keep_on<
+    'a,
+    E: Sink + Drop,
+    M: Write + Drop,
+    N: Clock + Drop,
+    C: Clock,
+    O: Outlet + Drop,
+    S: Shows<CheckedBook> + Drop,
+>(
+    source: SheetFile<'a>,
+    board: Board<CheckedBook>,
+    witness: Witness,
+    link: Listening<'_, StationLink<'_, M>, N>,
+    clock: &mut C,
+    screen: Screen<O>,
+    errors: E,
+    shows: S,
+) -> BoardLife<'a>
+    requires fresh { IsFresh source.sheet board }
+    requires read { IsSheetOf (source.text).value.items source.sheet }
+    requires witness { witness ≡ [] }
+    requires unsaid { (link.link).above ≡ [] }
+    requires untold { written_of screen ≡ [] }
+    ensures sheet { result.sheet_path.now ≡ source.entry.path.now }
+{
+    let SheetFile {
+        path: sheet_path,
+        text,
+        sheet,
+    } = source;
+    let mut board = board;
+    let mut link = link;
+    let mut shown = Noted {
+        shows,
+        log: SightLog::Empty,
+    };
+    let mut watch = Notes::watching(witness, errors);
+    let mut out = Watched::new(screen);
+    let ended = keep_board(
+        &mut board,
+        &sheet,
+        &mut link,
+        clock,
+        &mut watch,
+        &mut out,
+        &mut shown,
+        u64::MAX,
+    );
+    BoardLife {
+        sheet_path,
+        ended,
+        text,
+        sheet: Snapshot::of(&sheet),
+        passed: Snapshot::of(link.link().passed()),
+        carried: Snapshot::of(link.link().link().carrier().passed()),
+        told: out.into_inner().written(),
+        notices: Snapshot::of(watch.notices.log()),
+        shown: Snapshot::of(&shown.log),
+    }
+}

@@ -1,2 +1,0 @@
--- What the public calls claim: Check.
-pub mod Check

@@ -1,0 +1,91 @@
+//! What is printed of a book: its cards, its lines, or what archives, tables and browsers take.
+
+ghost use Rattle.std.specs.Prelude.{◌≡◌, [], ◌++◌, codes, IfErr, OnOk};
+ghost use Rattle.agree_core.specs.Books.{AllTaken};
+ghost use Rattle.corrections.specs.Refusal.{book_refusal};
+ghost use Rattle.streams.specs.Watched.{IsHandedOn, Prints, TellsFailure};
+ghost use Rattle.toml.specs.View.{table_view};
+ghost use Rattle.commands.specs.Product.{IsOfPrinting, PrintsProduct};
+ghost use Rattle.setup.specs.Ends.{EndsWriting};
+
+use crate::lines::print_lines;
+use books::print_card;
+use cards::MatchSheet;
+use corrections::CheckedBook;
+use delivery_rows::{Table, table_of};
+use export::text_of;
+use page::print_page;
+use setup::StopFault;
+use std::alloc::Global;
+use streams::{Sink, Watched, WriteFailed};
+use toml::Table as Document;
+
+/// What is printed of a book.
+#[derive(Clone, Copy)]
+pub enum Product {
+    /// Both cards of each innings, and then the page.
+    Cards,
+    /// The full line of each entry, in order. As pen lines they are that same book.
+    Lines,
+    /// One JSON value: what happened ball by ball with the results of the Laws, each entry as it was penned, and what the
+    /// sheet's document hands on.
+    Json,
+    /// One HTML page: a template with that value in it.
+    Page,
+    /// A table of its deliveries or penalties, as CSV.
+    Rows(Table),
+}
+
+/// Prints a text, and hands it on. It fails only where a write fails; how much was written then isn't said.
+pub fn print_whole<W: Sink>(text: &str, out: &mut Watched<W>) -> Result<(), WriteFailed>
+    ensures text { OnOk result (Prints W.contents out.old out.new text.now) }
+    ensures failed { TellsFailure result out.old out.new }
+    ensures handed_on { OnOk result (IsHandedOn W.calls out.new) }
+{
+    write!(out, "{text}")?;
+    out.flush()
+}
+
+/// The same, and a newline.
+fn print_line<W: Sink>(text: &str, out: &mut Watched<W>) -> Result<(), WriteFailed>
+    ensures text { OnOk result (Prints W.contents out.old out.new (text.now ++ codes "\n")) }
+    ensures failed { TellsFailure result out.old out.new }
+    ensures handed_on { OnOk result (IsHandedOn W.calls out.new) }
+{
+    writeln!(out, "{text}")?;
+    out.flush()
+}
+
+/// Prints a product of a legal book, with the sheet and its document. Where memory is refused, nothing is written.
+pub fn print_product<W: Sink>(
+    alloc: Global,
+    product: Product,
+    sheet: &MatchSheet,
+    document: &Document,
+    book: &CheckedBook,
+    out: &mut Watched<W>,
+) -> Result<(), StopFault>
+    requires same_match { book.now.innings_a_side ≡ sheet.now.innings }
+    requires legal { AllTaken (book_refusal sheet.now.innings) [] book.now.entries }
+    ensures written { OnOk result (PrintsProduct W.contents out.old out.new product sheet.now (table_view document.now)
+        book.now.entries) }
+    ensures only { IfErr result IsOfPrinting }
+    ensures writes { EndsWriting W.calls StopFault.Write result out.old out.new }
+{
+    match product {
+        Product::Cards => Ok(print_card(sheet, book, out)?),
+        Product::Lines => Ok(print_lines(book, out)?),
+        Product::Json => {
+            let text = text_of(alloc, sheet, document, book)?;
+            Ok(print_line(text.as_str(), out)?)
+        }
+        Product::Page => {
+            let text = text_of(alloc, sheet, document, book)?;
+            Ok(print_page(text.as_str(), out)?)
+        }
+        Product::Rows(table) => {
+            let text = table_of(alloc, table, sheet, document, book)?;
+            Ok(print_whole(text.as_str(), out)?)
+        }
+    }
+}

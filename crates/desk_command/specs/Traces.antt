@@ -1,0 +1,50 @@
+-- What the process of a desk on this machine leaves to be seen.
+use Rattle.std.specs.Prelude.{◌≡◌, ℕ, List, Result}
+use Rattle.cards.specs.Sheet.{Sheet, in_columns}
+use Rattle.links.specs.declared.log.{InputLog.InputLog, Log.Log}
+use Rattle.links.specs.Logs.{elsewhere_of, inputs_of, passed_of}
+use Rattle.links.specs.Passed.{Passed}
+use Rattle.links.specs.Typing.{Input}
+use Rattle.live.specs.declared.desk_life.LifeEnd.{LifeEnd}
+use Rattle.machine.specs.declared.row_log.Written.{Written}
+use Rattle.machine.specs.Screens.{text_of}
+use Rattle.posts.specs.PostedLogs.{lines_of}
+use Rattle.posts.specs.declared.posted_log.PostedLog.{PostedLog}
+use Rattle.seal.specs.declared.carrier.CarriedLog.{CarriedLog}
+use Rattle.seal.specs.Carried.{carried_of}
+use Rattle.setup.specs.SheetText.{IsSheetOf}
+use Rattle.station_pages.specs.PageWords.{for_desk}
+
+-- the sheet is what these bytes are read as, for rows of some width
+pub record IsWideSheetOf (text : List ℕ) (sheet : Sheet) : Type 0 where
+  pub columns : ℕ
+  pub read : Sheet
+  pub is : IsSheetOf text read
+  pub wide : sheet ≡ in_columns columns read
+
+-- what was typed is all that its scorer entered but the words of its page; what of that came from elsewhere than the keyboard is
+-- just what was posted in the page
+pub record WasEntered (typed entered : InputLog) (posted : PostedLog) : Type 0 where
+  pub words : inputs_of typed ≡ for_desk (inputs_of entered)
+  pub page : elsewhere_of entered ≡ lines_of posted
+
+-- the sheet of its match, what was typed, what it said and heard, what passed for that at its socket, what was written to its
+-- screen, and how it ended
+pub record Traces : Type 0 where
+  pub sheet : Sheet
+  pub typed : List Input
+  pub passed : List Passed
+  pub carried : List Passed
+  pub told : List ℕ
+  pub ended : Result (Unit {0}) LifeEnd
+
+-- the same by the logs of each
+abbrev pub traces_of : Sheet → InputLog → Log → CarriedLog → Written → Result (Unit {0}) LifeEnd → Traces
+traces_of sheet typed passed carried told ended = record {
+  sheet = sheet;
+  typed = inputs_of typed;
+  passed = passed_of passed;
+  carried = carried_of carried;
+  told = text_of told;
+  ended = ended;
+}

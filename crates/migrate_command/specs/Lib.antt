@@ -1,2 +1,0 @@
--- What the public calls claim: Migrate.
-pub mod Migrate

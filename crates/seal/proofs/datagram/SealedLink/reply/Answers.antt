@@ -1,6 +1,0 @@
-use Rattle.std.proofs.Common.{arith}
-use Rattle.seal.proofs.OpeningLemmas.{sent_more}
-use Rattle.seal.proofs.datagram.SealedLink.reply.Goals as goal
-
-pub returns : goal.returns
-returns g c = sent_more _ c.args.self.now.seal _ _ c.args.bytes.now _ (omega arith) c.sealed.ensures c.carry_back.ensures

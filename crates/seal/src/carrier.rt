@@ -1,0 +1,79 @@
+//! What carries sealed datagrams between a station and its peers, and what passed at it.
+
+ghost use Rattle.std.specs.Prelude.{◌≡◌, ◌∷◌, ◌++◌, List, [], take};
+ghost use Rattle.links.specs.Passed.{Passed, Sent, IsTakenUpTo};
+ghost use Rattle.links.specs.declared.link.Receivers.TheVariants.{ToAll, ToOne};
+
+use links::{Receivers, Taken};
+use std::snapshot::Snapshot;
+
+/// A sealed datagram: a message's bytes, and the 16 of its tag.
+pub type SealedBytes = [u8; 64];
+
+/// A message that is sent: its bytes, the 16 of its tag for the first peer, and the 16 of its tag for all others. No peer is sent
+/// both tags (`form_for`).
+pub type TaggedBytes = [u8; 80];
+
+/// How many bytes of a sealed datagram are taken at most: more than it has, so that a longer one is seen as such.
+pub const SEALED_ROOM: usize = 65;
+
+/// Room for a sealed datagram that is taken.
+pub type SealedBuffer = [u8; SEALED_ROOM];
+
+/// Carries sealed datagrams between a station and its peers: to each a message with the tag that is for it. Nothing is known of
+/// what it loses, changes or makes up; only what was handed to it and what it gave is told.
+pub trait SealedCarrier {
+    /// What passed, as it was, the oldest first.
+    ghost carried: { Self → List Passed };
+
+    /// Sends a message to every peer. What can't be sent is lost.
+    fn carry(&mut self, bytes: &TaggedBytes)
+        ensures { carried self.new ≡ carried self.old ++ Sent ToAll bytes.now ∷ [] };
+
+    /// Sends a message to the peer whose datagram was taken last, if to no other. What can't be sent is lost.
+    fn carry_back(&mut self, bytes: &TaggedBytes)
+        ensures { carried self.new ≡ carried self.old ++ Sent ToOne bytes.now ∷ [] };
+
+    /// Sends a message to the peer of this number, if there is one. What can't be sent is lost.
+    fn carry_to(&mut self, peer: usize, bytes: &TaggedBytes)
+        ensures { carried self.new ≡ carried self.old ++ Sent ToOne bytes.now ∷ [] };
+
+    /// Which peer's datagram was taken last, as a number of its own.
+    fn last_peer(&self) -> usize;
+
+    /// Takes the next datagram that came from a peer: the front of the buffer. One is waited for, so many milliseconds at
+    /// most, and no longer than until a scorer may have typed. Others' datagrams, and those whose taking fails, are lost.
+    fn bring(&mut self, buffer: &mut SealedBuffer, wait: u64) -> Taken
+        ensures { IsTakenUpTo 65 result buffer.new (carried self.old) (carried self.new) };
+}
+
+/// Every message that was sent with its tags, and every datagram that came, in order. Clauses alone read it.
+#[derive(Drop)]
+pub enum CarriedLog {
+    Empty,
+    Sent(Snapshot<CarriedLog>, Snapshot<Receivers>, Snapshot<TaggedBytes>),
+    Came(Snapshot<CarriedLog>, Snapshot<SealedBuffer>, Snapshot<usize>),
+}
+
+impl CarriedLog {
+    ghost use Rattle.links.specs.Passed.{Came};
+    ghost use Rattle.seal.specs.Carried.{carried_of};
+
+    /// This log, and then a message that was sent to these.
+    pub fn sent(&self, to: Receivers, bytes: &TaggedBytes) -> CarriedLog
+        ensures { carried_of result ≡ carried_of self.now ++ Sent to bytes.now ∷ [] }
+    {
+        CarriedLog::Sent(Snapshot::of(self), Snapshot::of(&to), Snapshot::of(bytes))
+    }
+
+    /// This log, and then a datagram that came: the front of the buffer.
+    pub fn came(&self, buffer: &SealedBuffer, count: usize) -> CarriedLog
+        ensures { carried_of result ≡ carried_of self.now ++ Came (take count buffer.now) ∷ [] }
+    {
+        CarriedLog::Came(
+            Snapshot::of(self),
+            Snapshot::of(buffer),
+            Snapshot::of(&count),
+        )
+    }
+}

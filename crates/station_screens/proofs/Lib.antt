@@ -1,0 +1,2 @@
+-- A lemma on what passes at a station.
+pub mod CarriedLemmas
