@@ -41,7 +41,19 @@ def key_in(file):
         key = it.read().rstrip(b" \t\n\f\r")
     if not 16 <= len(key) <= 1024:
         raise ValueError(f"{file} has no key")
+    if key.startswith(b"yermudosh key of "):
+        raise ValueError(f"{file} has two keys, of which one seals for each hearer")
     return key
+
+
+def pair_in(file):
+    """The two keys in a station's file: the one that it shares with its first peer, and the one that it shares with all others.
+    A desk's first peer is the other desk, and a board's is desk A."""
+    with open(file, "rb") as it:
+        owner, *keys = it.read().rstrip(b" \t\n\f\r").split(b"\n")
+    if owner not in (b"yermudosh key of " + name for name in (b"desk a", b"desk b", b"boards")) or [*map(len, keys)] != [64, 64]:
+        raise ValueError(f"{file} has no two keys")
+    return keys
 
 
 class Seal:

@@ -1,6 +1,6 @@
 """Matches of real processes: two desks and boards with their files, beside each other or with a network between, and scorers who keep a
 book at them."""
-import json, sys, tempfile, time
+import json, os, sys, tempfile, time
 from . import TOP, stations
 from .places import SHEET, content, ground, printed, ran, value_in, written
 from .ports import at, free_ports
@@ -11,7 +11,7 @@ from .waiting import Wrong, expect, wait_for, wants
 
 class Match:
     """Two desks and boards of a match in a folder: their ports, their files, and the stations that run. A network is what `relay` makes
-    of the ports."""
+    of the ports. Where the key is a folder, each station has its file there."""
 
     def __init__(self, folder, sheet=SHEET, boards="c", relay=None, key=None):
         self.folder, self.sheet, self.key, self.board_names, self.stations, self.ended = folder, sheet, key, boards, {}, []
@@ -34,11 +34,16 @@ class Match:
     def json(self, name="c") -> str:
         return f"{self.folder}/{name}.json"
 
+    def key_of(self, name) -> str | None:
+        if self.key and os.path.isdir(self.key):
+            return f"{self.key}/{name if name in 'ab' else 'board'}.key"
+        return self.key
+
     def desk_options(self, letter) -> dict:
         other = "ab".replace(letter, "")
         boards = [self.there(letter, it) for it in self.board_names]
         own = {"letter": letter, "file": self.file(letter), "at": self.at(letter), "other": self.there(letter, other)}
-        return {**own, "sheet": self.sheet, "boards": boards, "key": self.key}
+        return {**own, "sheet": self.sheet, "boards": boards, "key": self.key_of(letter)}
 
     def begin(self, *names, **more):
         """Has these begin, desks by their letters and boards by their names, and answers the last."""
@@ -47,7 +52,7 @@ class Match:
                 self.stations[name] = self.desk(**{**self.desk_options(name), **more})
             else:
                 files = {"text": self.text(name), "json": self.json(name), **more}
-                self.stations[name] = Board(self.at(name), self.there(name, "a"), self.there(name, "b"), sheet=self.sheet, key=self.key, **files)
+                self.stations[name] = Board(self.at(name), self.there(name, "a"), self.there(name, "b"), sheet=self.sheet, key=self.key_of(name), **files)
         return self.stations[names[-1]]
 
     def desk(self, **options) -> Desk:
