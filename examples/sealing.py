@@ -46,14 +46,22 @@ def key_in(file):
     return key
 
 
+OWNERS = (b"desk a", b"desk b", b"board1", b"board2", b"board3", b"board4")
+
+
 def pair_in(file):
-    """The two keys in a station's file: the one that it shares with its first peer, and the one that it shares with all others.
-    A desk's first peer is the other desk, and a board's is desk A."""
+    """The two keys in a station's file. A desk's are the one that it shares with the other desk, and the one of which those are made
+    that it shares with boards. A board's are those that it shares with desk A and with desk B."""
     with open(file, "rb") as it:
         owner, *keys = it.read().rstrip(b" \t\n\f\r").split(b"\n")
-    if owner not in (b"yermudosh key of " + name for name in (b"desk a", b"desk b", b"boards")) or [*map(len, keys)] != [64, 64]:
+    if owner not in (b"yermudosh key of " + name for name in OWNERS) or [*map(len, keys)] != [64, 64]:
         raise ValueError(f"{file} has no two keys")
     return keys
+
+
+def board_key(key, board):
+    """The key that a desk shares with the first to the fourth board, of the second key in the desk's file: HKDF-Expand (RFC 5869)."""
+    return hmac.digest(key, b"board %d\x01" % board, "sha256").hex().encode()
 
 
 class Seal:

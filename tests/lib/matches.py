@@ -36,7 +36,7 @@ class Match:
 
     def key_of(self, name) -> str | None:
         if self.key and os.path.isdir(self.key):
-            return f"{self.key}/{name if name in 'ab' else 'board'}.key"
+            return f"{self.key}/{name if name in 'ab' else f'board{self.board_names.index(name) + 1}'}.key"
         return self.key
 
     def desk_options(self, letter) -> dict:

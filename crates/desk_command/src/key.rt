@@ -1,12 +1,13 @@
 //! `ground key`: a new key.
 
-ghost use Rattle.std.specs.Prelude.{◌≡◌, IfOk};
+ghost use Rattle.std.specs.Prelude.{◌≡◌, ◌≤◌, ◌∷◌, ◌++◌, [], IfOk};
 ghost use Rattle.setup.specs.Keys as keys;
 
-use agree_core::Asker;
 use hex::encode_to_slice;
 use machine_files::{Name, WriteFault, cause_of, may_have};
-use setup::{StopFault, Stopped, owner_line, pair_name};
+use setup::{
+    KEY_OWNERS, KeyDigits, KeyOwner, StopFault, Stopped, board_key, key_digits, pair_text,
+};
 use std::alloc::{AllocError, Global};
 use std::fs::{self, File, OpenOptions};
 use std::io::{self, ErrorKind, Write};
@@ -25,20 +26,17 @@ pub fn key_text(key: &[u8; 32]) -> KeyText
     text
 }
 
-/// The text of the file of a station's two new keys: the one that it shares with its first peer, and the one that it shares with
-/// all others.
-pub fn pair_text(
+/// The text of a file of two keys.
+fn pair_lines(
     alloc: Global,
-    station: Asker,
-    first: &[u8; 32],
-    rest: &[u8; 32],
+    owner: KeyOwner,
+    first: &KeyDigits,
+    second: &KeyDigits,
 ) -> Result<Vec<u8>, AllocError>
-    ensures { IfOk result (λ text. text.items ≡ keys.pair_lines station first.now rest.now) }
+    ensures { IfOk result (λ text. text.items ≡ keys.pair_text owner first.now second.now ++ 10 ∷ []) }
 {
-    let mut text = Vec::new(alloc);
-    text.extend_from_slice(owner_line(station))?;
-    text.extend_from_slice(key_text(first).as_slice())?;
-    text.extend_from_slice(key_text(rest).as_slice())?;
+    let mut text = pair_text(alloc, owner, first.as_slice(), second.as_slice())?;
+    text.push(b'\n')?;
     Ok(text)
 }
 
@@ -83,48 +81,58 @@ fn write_key(rt: &HostRuntime, path: &str) -> io::Result<()> {
     write_file(rt, path, key_text(&key).as_slice())
 }
 
-/// The new keys of a match, one for each pair of those who hear each other's votes.
+/// The new keys of a match: both desks', and those of which desk A and desk B make the ones for boards.
 #[derive(Drop)]
 struct PairKeys {
-    desks: [u8; 32],
-    a: [u8; 32],
-    b: [u8; 32],
+    desks: KeyDigits,
+    a: KeyDigits,
+    b: KeyDigits,
 }
 
 impl PairKeys {
     /// Three keys of the system's randomness.
     fn new(rt: &HostRuntime) -> io::Result<PairKeys> {
         Ok(PairKeys {
-            desks: new_key(rt)?,
-            a: new_key(rt)?,
-            b: new_key(rt)?,
+            desks: key_digits(&new_key(rt)?),
+            a: key_digits(&new_key(rt)?),
+            b: key_digits(&new_key(rt)?),
         })
     }
 
-    /// The text of a station's file: its two of the three.
-    fn text(&self, alloc: Global, station: Asker) -> Result<Vec<u8>, AllocError>
-        ensures { IfOk result (λ text. text.items ≡ keys.pair_file self.now.desks self.now.a self.now.b station) }
+    /// The text of a board's file: the keys that it shares with both desks.
+    fn board_text(&self, alloc: Global, owner: KeyOwner, board: u8) -> Result<Vec<u8>, AllocError>
+        requires { board ≤ 9 }
+        ensures { IfOk result (λ text. text.items ≡
+            keys.pair_text owner (keys.board_key self.now.a board) (keys.board_key self.now.b board) ++ 10 ∷ []) }
     {
-        match station {
-            Asker::A => pair_text(alloc, station, &self.desks, &self.a),
-            Asker::B => pair_text(alloc, station, &self.desks, &self.b),
-            Asker::Board => pair_text(alloc, station, &self.a, &self.b),
+        let first = board_key(self.a.as_slice(), board);
+        pair_lines(alloc, owner, &first, &board_key(self.b.as_slice(), board))
+    }
+
+    /// The text of a file: its owner's two keys.
+    fn text(&self, alloc: Global, owner: KeyOwner) -> Result<Vec<u8>, AllocError>
+        ensures { IfOk result (λ text. text.items ≡ keys.pair_file self.now.desks self.now.a self.now.b owner) }
+    {
+        match owner {
+            KeyOwner::DeskA => pair_lines(alloc, owner, &self.desks, &self.a),
+            KeyOwner::DeskB => pair_lines(alloc, owner, &self.desks, &self.b),
+            KeyOwner::Board1 => self.board_text(alloc, owner, 1),
+            KeyOwner::Board2 => self.board_text(alloc, owner, 2),
+            KeyOwner::Board3 => self.board_text(alloc, owner, 3),
+            KeyOwner::Board4 => self.board_text(alloc, owner, 4),
         }
     }
 }
 
-/// For whom there is a file of two keys.
-const STATIONS: [Asker; 3] = [Asker::A, Asker::B, Asker::Board];
-
-/// The path of a station's keys in a folder.
-fn pair_path(alloc: Global, folder: &str, station: Asker) -> Result<String, AllocError> {
-    let name = pair_name(station);
+/// The path of a file of keys in a folder.
+fn pair_path(alloc: Global, folder: &str, owner: KeyOwner) -> Result<String, AllocError> {
+    let name = owner.file_name();
     format!(in alloc; "{folder}{name}")
 }
 
-/// Asks that the file of a station's keys isn't in a folder.
-fn expect_new(rt: &HostRuntime, folder: &str, station: Asker) -> io::Result<()> {
-    let path = pair_path(rt.alloc(), folder, station)?;
+/// Asks that a file of keys isn't in a folder.
+fn expect_new(rt: &HostRuntime, folder: &str, owner: KeyOwner) -> io::Result<()> {
+    let path = pair_path(rt.alloc(), folder, owner)?;
     match fs::symlink_metadata(rt, path.as_str()) {
         Ok(_) => Err(io::Error::from(ErrorKind::AlreadyExists)),
         Err(why) if why.kind() == ErrorKind::NotFound => Ok(()),
@@ -132,45 +140,45 @@ fn expect_new(rt: &HostRuntime, folder: &str, station: Asker) -> io::Result<()> 
     }
 }
 
-/// Makes the file of a station's keys in a folder.
-fn write_pair(rt: &HostRuntime, folder: &str, keys: &PairKeys, station: Asker) -> io::Result<()> {
-    let path = pair_path(rt.alloc(), folder, station)?;
-    let text = keys.text(rt.alloc(), station)?;
+/// Makes a file of keys in a folder.
+fn write_pair(rt: &HostRuntime, folder: &str, keys: &PairKeys, owner: KeyOwner) -> io::Result<()> {
+    let path = pair_path(rt.alloc(), folder, owner)?;
+    let text = keys.text(rt.alloc(), owner)?;
     write_file(rt, path.as_str(), text.as_slice())
 }
 
-/// Takes the files of these stations' keys in a folder away again.
-fn remove_each(rt: &HostRuntime, folder: &str, stations: &[Asker]) {
-    for station in stations {
-        if let Ok(path) = pair_path(rt.alloc(), folder, *station) {
+/// Takes these files of keys in a folder away again.
+fn remove_each(rt: &HostRuntime, folder: &str, owners: &[KeyOwner]) {
+    for owner in owners {
+        if let Ok(path) = pair_path(rt.alloc(), folder, *owner) {
             let _ = fs::remove_file(rt, path.as_str());
         }
     }
 }
 
-/// The fault of a station's new keys that can't be written.
-fn pair_fault(station: Asker, error: &io::Error) -> StopFault {
-    StopFault::PairKeys(station, cause_of(error))
+/// The fault of a file of new keys that can't be written.
+fn pair_fault(owner: KeyOwner, error: &io::Error) -> StopFault {
+    StopFault::PairKeys(owner, cause_of(error))
 }
 
-/// Makes the three files in a folder, or none.
+/// Makes all files of keys in a folder, or none.
 fn write_each(rt: &HostRuntime, folder: &str, keys: &PairKeys) -> Result<(), StopFault> {
-    for index in 0..STATIONS.len() {
-        let station = STATIONS[index];
-        if let Err(why) = write_pair(rt, folder, keys, station) {
-            remove_each(rt, folder, &STATIONS[..index]);
-            return Err(pair_fault(station, &why));
+    for index in 0..KEY_OWNERS.len() {
+        let owner = KEY_OWNERS[index];
+        if let Err(why) = write_pair(rt, folder, keys, owner) {
+            remove_each(rt, folder, &KEY_OWNERS[..index]);
+            return Err(pair_fault(owner, &why));
         }
     }
     Ok(())
 }
 
-/// Makes three new keys in a folder, where none of their files is there.
+/// Makes the keys of a match in a folder, where none of their files is there.
 fn write_pairs(rt: &HostRuntime, folder: &str) -> Result<(), StopFault> {
-    for station in STATIONS {
-        expect_new(rt, folder, station).map_err(|why| pair_fault(station, &why))?;
+    for owner in KEY_OWNERS {
+        expect_new(rt, folder, owner).map_err(|why| pair_fault(owner, &why))?;
     }
-    let keys = PairKeys::new(rt).map_err(|why| pair_fault(Asker::A, &why))?;
+    let keys = PairKeys::new(rt).map_err(|why| pair_fault(KeyOwner::DeskA, &why))?;
     write_each(rt, folder, &keys)
 }
 
@@ -187,8 +195,8 @@ fn is_folder(rt: &HostRuntime, path: &str) -> bool {
     fs::metadata(rt, path).is_ok_and(|found| found.is_dir())
 }
 
-/// `ground key`: writes a key of the system's randomness to a new file; or, to a folder, three files with keys for each pair. A
-/// file that is there is refused, and stays: then none is written.
+/// `ground key`: writes a key of the system's randomness to a new file; or, to a folder, six files with keys for each pair, both
+/// desks' and four boards'. A file that is there is refused, and stays: then none is written.
 #[inline(never)]
 pub fn start_key<'a>(rt: &HostRuntime, to: &'a str) -> Result<bool, Stopped<'a>> {
     let written = if is_folder(rt, to) {

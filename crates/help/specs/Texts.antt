@@ -82,7 +82,7 @@ rows Key =
     codes "  ./ground key --to key.txt" ∷
     codes "" ∷
     codes "  --to K  the file, which must not be there yet; or a folder, for a.key, b.key" ∷
-    codes "          and board.key: each desk's own, and one for boards" ∷ []
+    codes "          and board1.key to board4.key: one for each desk and board" ∷ []
 rows Check =
     codes "check: reads full lines from standard input, says which aren't taken and why," ∷
     codes "and prints the six lines of a board. It has no sheet, so players are numbers." ∷

@@ -79,7 +79,7 @@ and nobody else. Make a new one whenever a match is begun on new files.
   ./ground key --to key.txt
 
   --to K  the file, which must not be there yet; or a folder, for a.key, b.key
-          and board.key: each desk's own, and one for boards
+          and board1.key to board4.key: one for each desk and board
 ";
 
 const CHECK: &str = "\

@@ -1,9 +1,7 @@
 //! Addresses of stations.
 
+use seal::MOST_PEERS;
 use std::net::{IpAddr, SocketAddr};
-
-/// How many peers a station has at most: the other desk and four boards, or both desks.
-pub const MOST_PEERS: usize = 5;
 
 /// Where a station listens, and the text that says so.
 #[derive(Clone, Copy)]

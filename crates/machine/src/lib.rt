@@ -12,7 +12,8 @@ mod screen;
 mod sockets;
 mod waiting;
 
-pub use address::{Address, MOST_PEERS, addresses_in};
+pub use address::{Address, addresses_in};
+pub use seal::MOST_PEERS;
 pub use keyboard::Keyboard;
 pub use monotonic_clock::MonotonicClock;
 pub use peers::Peers;

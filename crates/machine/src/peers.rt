@@ -2,10 +2,11 @@
 
 ghost use Rattle.std.specs.Prelude.{◌≡◌, ◌≤◌, ◌⊎◌, ℕ, [], IfOk, length};
 
-use crate::address::MOST_PEERS;
 use crate::waiting::{NO_DESCRIPTOR, WaitEnds, wait_at};
 use links::{Receivers, Taken};
-use seal::{CarriedLog, Opener, SealedBuffer, SealedBytes, SealedCarrier, TaggedBytes, form_for};
+use seal::{
+    CarriedLog, MOST_PEERS, Opener, SealedBuffer, SealedBytes, SealedCarrier, TaggedMessage, form_for,
+};
 use std::io::{self, ErrorKind, Write};
 use std::net::{Net, SocketAddr, UdpSocket};
 use std::os::fd::AsRawFd;
@@ -150,28 +151,28 @@ impl<E: Write + Drop> Mail<E> {
     }
 
     /// Sends a message to every peer, or to the one at an address: to each with the tag that is for it.
-    fn send(&mut self, bytes: &TaggedBytes, only: Option<SocketAddr>) {
+    fn send(&mut self, message: &TaggedMessage, only: Option<SocketAddr>) {
         for index in 0..MOST_PEERS {
             if let Some(address) = self.peers[index]
                 && is_meant(only, address)
             {
-                let form = form_for(index, bytes);
+                let form = form_for(index, message);
                 self.refused[index] = self.send_to(&form, address, self.refused[index]);
             }
         }
     }
 
     /// Sends a message to the peer whose datagram was taken last.
-    fn send_back(&mut self, bytes: &TaggedBytes) {
+    fn send_back(&mut self, message: &TaggedMessage) {
         if self.last.is_some() {
-            self.send(bytes, self.last);
+            self.send(message, self.last);
         }
     }
 
     /// Sends a message to the peer at this place.
-    fn send_one(&mut self, peer: usize, bytes: &TaggedBytes) {
+    fn send_one(&mut self, peer: usize, message: &TaggedMessage) {
         if peer < MOST_PEERS && self.peers[peer].is_some() {
-            self.send(bytes, self.peers[peer]);
+            self.send(message, self.peers[peer]);
         }
     }
 
@@ -264,19 +265,19 @@ impl<E: Write + Drop> SealedCarrier for Peers<E> {
 
     ghost carried = { λ peers. carried_of peers.log };
 
-    fn carry(&mut self, bytes: &TaggedBytes) {
-        self.mail.send(bytes, None);
-        self.log = self.log.sent(Receivers::ToAll, bytes);
+    fn carry(&mut self, message: &TaggedMessage) {
+        self.mail.send(message, None);
+        self.log = self.log.sent(Receivers::ToAll, message);
     }
 
-    fn carry_back(&mut self, bytes: &TaggedBytes) {
-        self.mail.send_back(bytes);
-        self.log = self.log.sent(Receivers::ToOne, bytes);
+    fn carry_back(&mut self, message: &TaggedMessage) {
+        self.mail.send_back(message);
+        self.log = self.log.sent(Receivers::ToOne, message);
     }
 
-    fn carry_to(&mut self, peer: usize, bytes: &TaggedBytes) {
-        self.mail.send_one(peer, bytes);
-        self.log = self.log.sent(Receivers::ToOne, bytes);
+    fn carry_to(&mut self, peer: usize, message: &TaggedMessage) {
+        self.mail.send_one(peer, message);
+        self.log = self.log.sent(Receivers::ToOne, message);
     }
 
     fn last_peer(&self) -> usize {

@@ -20,9 +20,9 @@ use Rattle.live.specs.Desks.{DeskCall}
 use Rattle.seal.proofs.Unforged.{opened_was_sent}
 use Rattle.processes.specs.Exchanges.{handed_out}
 use Rattle.processes.specs.Happenings.{BoardBegun, BoardCalled, BoardCame, BoardGreeted, DeskBegun, DeskCalled, DeskCame, DeskEnded, DeskGreeted, FileMigrated, Flow, Happening, Happens, PowerLost, WasSent, after, after_one}
-use Rattle.seal.specs.Rings.{Seals, seal_by}
+use Rattle.seal.specs.Rings.{Seals, ring_of_board}
 use Rattle.seal.specs.declared.ring.Ring.{Ring}
-use Rattle.processes.specs.Sealing.{BoardAuthentic, DeskAuthentic, IsAuthentic, ring_of_boards, ring_of_desk}
+use Rattle.processes.specs.Sealing.{BoardAuthentic, DeskAuthentic, IsAuthentic, ring_of_desk}
 use Rattle.processes.specs.Weaving.{Came, NothingIsForged, is_at_board, is_at_desk, same_desk}
 use Rattle.processes.proofs.BoardLives.{BoardLocal, MayBoard, next_board}
 use Rattle.processes.proofs.DeskLives.{DeskLocal, MayDesk, next_desk}
@@ -48,7 +48,8 @@ at_own d = grind arith
 was_sent : (ring : Ring) (game : ℕ) (sent : List Message) (message : List ℕ) → All IsMessage sent → IsAuthentic ring game sent message → WasSent game sent message
 was_sent ring game sent message fine h m says = may_be_given sent m (λ v e.
     let came = h v (subst (Says game message) e says) in
-    opened_was_sent (seal_by ring message) game sent came.0 message fine came.3 came.1 came.2 m says)
+    let by = came.2.1 in
+    opened_was_sent by.0 game sent came.0 message fine by.3 came.1 by.2 m says)
 
 desk_came : (ring : Ring) (game : ℕ) (sent : List Message) (call : DeskCall) → All IsMessage sent → DeskAuthentic ring game sent call → DeskCame game sent call
 desk_came ring game sent (desks.Given message what) fine h = was_sent ring game sent message fine h
@@ -93,7 +94,7 @@ module _ {Disk : Type 0} (view : DeskId → FileVersion → FileView Disk) (seen
     happens (BoardGreeted n sheet text shown) c t b = (b n (eq-eqb n n refl), none)
     happens (BoardCalled n sheet call out l text shown) c t b =
         let m = b n (eq-eqb n n refl) in
-        ((m.0, m.1, board_came (ring_of_boards seals) game v.sent call sent c, m.2, m.3, m.4), m.5)
+        ((m.0, m.1, board_came (ring_of_board seals n) game v.sent call sent c, m.2, m.3, m.4), m.5)
     happens (BoardBegun n) c t b = (b n (eq-eqb n n refl), none)
 
   module _ (w : Configuration Disk) where

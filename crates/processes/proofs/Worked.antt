@@ -24,7 +24,8 @@ use Rattle.agree_core.specs.declared.seat.Heard as hearing
 use Rattle.agree_core.specs.FileView.{FileView, Holds}
 use Rattle.agree_core.specs.Openings.{NotOpened, Opened, OpenRefusal}
 use Rattle.cards.specs.Sheet.{Sheet}
-use Rattle.seal.specs.Rings.{Seals, sealed_by}
+use Rattle.seal.specs.Rings.{Seals, ring_of_board, seals_by}
+use Rattle.seal.specs.Sealed.{sealed}
 use Rattle.seal.specs.declared.ring.Ring.{Ring}
 use Rattle.shorthand.proofs.Standing.{full_lines_stand}
 use Rattle.vote_store.specs.View.{file_view, votes_shown}
@@ -47,7 +48,7 @@ use Rattle.station_texts.specs.Saying.{IsNoWord, SaysEntry}
 use Rattle.processes.specs.Files.{NoneShowNone}
 use Rattle.processes.specs.Lives.{Beginning, BeginsFirst, BoardProcess, BoardRuns, CallsMade, IsBoardLife, IsLife, ProcessEnd, RunsFrom, Stage, board_happens, fresh_turn, life_happens}
 use Rattle.live.specs.Sights.{Sight, sight_of}
-use Rattle.processes.specs.Sealing.{IsAuthentic, ring_of_boards, ring_of_desk}
+use Rattle.processes.specs.Sealing.{IsAuthentic, ring_of_desk}
 use Rattle.processes.proofs.DeskSteps.{stays_refl}
 use Rattle.processes.specs.Weaving.{IsWoven, is_at_board, is_at_desk, start}
 use Rattle.processes.specs.Worked.{LivedIsWoven, a_again, a_bytes, a_penned, a_says, b_bytes, b_noted, b_penned, b_says}
@@ -93,11 +94,11 @@ one_out : (m : Message) → IsMessage m → All IsMessage (m ∷ [])
 one_out m fine = All-cons IsMessage m [] fine none_out
 
 -- a station had sealed it
-a_sealed : (ring : Ring) (more : List Message) → IsAuthentic ring 7 (a_says ∷ more) a_bytes
-a_sealed ring more = λ v says. (sealed_by ring a_bytes, refl, refl, λ m long same. (0, refl))
+a_sealed : (ring : Ring) (seal : List ℕ) (more : List Message) → slice_get (seals_by ring a_bytes) 0 ≡ Some seal → IsAuthentic ring 7 (a_says ∷ more) a_bytes
+a_sealed ring seal more there = λ v says. (sealed seal a_bytes, refl, (0, (seal, there, refl, λ m long same. (0, refl))))
 
-b_sealed : (ring : Ring) → IsAuthentic ring 7 (a_says ∷ b_says ∷ board_asks ∷ []) b_bytes
-b_sealed ring = λ v says. (sealed_by ring b_bytes, refl, refl, λ m long same. (1, refl))
+b_sealed : (ring : Ring) (seal : List ℕ) → slice_get (seals_by ring b_bytes) 0 ≡ Some seal → IsAuthentic ring 7 (a_says ∷ b_says ∷ board_asks ∷ []) b_bytes
+b_sealed ring seal there = λ v says. (sealed seal b_bytes, refl, (0, (seal, there, refl, λ m long same. (1, refl))))
 
 -- ---- desk A
 
@@ -233,7 +234,7 @@ begins_first d = (disk_without, ((λ none. absurd (omega (arith, none))), (λ so
 
 woven : (s : Sheet) (seals : Seals) → IsWoven (λ disk. disk) only no_faults seals toy 7 1 (start New 1 (new_desk A) (new_desk B)) (lived s)
 woven s seals = record {
-  order = (((((((((((((((((tt, tt), tt), tt), a_sealed (ring_of_desk seals B) []), tt), tt), tt), tt), tt), tt), a_sealed (ring_of_boards seals) (b_says ∷ board_asks ∷ [])), b_sealed (ring_of_boards seals)), tt), tt), tt), tt), tt);
+  order = (((((((((((((((((tt, tt), tt), tt), a_sealed (ring_of_desk seals B) seals.desks [] refl), tt), tt), tt), tt), tt), tt), a_sealed (ring_of_board seals 0) (seals.a 0) (b_says ∷ board_asks ∷ []) refl), b_sealed (ring_of_board seals 0) (seals.b 0) refl), tt), tt), tt), tt), tt);
   desks = desk_lives s;
   boards = board_lives s;
   no_others = no_others s;

@@ -15,8 +15,8 @@ use Rattle.processes.specs.Files.{NoneShowNone}
 use Rattle.processes.specs.Headline.{ProcessHeadline}
 use Rattle.processes.specs.Laws.{IsFlow}
 use Rattle.processes.specs.Parting.{NoneIsParted, NoneTells}
-use Rattle.processes.specs.Sealing.{BoardAuthentic, DeskAuthentic, ring_of_boards, ring_of_desk}
-use Rattle.seal.specs.Rings.{Seals}
+use Rattle.processes.specs.Sealing.{BoardAuthentic, DeskAuthentic, ring_of_desk}
+use Rattle.seal.specs.Rings.{Seals, ring_of_board}
 
 -- it happens at this desk; at this board
 abbrev pub same_desk : DeskId → DeskId → Bool
@@ -45,7 +45,7 @@ is_at_board n what = false
 -- where sealed bytes came and opened, a station had sealed them with that pair's seal before
 abbrev pub Came : {Disk : Type 0} → Seals → ℕ → Configuration Disk → Happening Disk → Type 0
 Came seals game w (DeskCalled d s call out l text) = DeskAuthentic (ring_of_desk seals d) game w.sent call
-Came seals game w (BoardCalled n s call out l text seen) = BoardAuthentic (ring_of_boards seals) game w.sent call
+Came seals game w (BoardCalled n s call out l text seen) = BoardAuthentic (ring_of_board seals n) game w.sent call
 Came seals game w what = Unit {0}
 
 abbrev pub NothingIsForged : {Disk : Type 0} → Seals → ℕ → Configuration Disk → List (Happening Disk) → Type 0

@@ -1,11 +1,14 @@
 -- What passes at a sealed link.
-use Rattle.std.proofs.Common.{◌≡◌, ℕ, zero, suc, Some, List, [], ◌∷◌, ◌++◌, Bool, true, false, length, length-append, take, arith, refl, sym, ap, ◌∙◌, append-nil}
-use Rattle.std.specs.Prelude.{slice_get}
+use Rattle.std.proofs.Common.{◌≡◌, ◌||◌, ◌⊎◌, inl, inr, ℕ, zero, suc, Some, List, [], ◌∷◌, ◌++◌, Bool, true, false, length, length-append, take, arith, refl, sym, ap, subst, ◌∙◌, append-nil}
+use Rattle.std.specs.Prelude.{bytes_eq, slice_get}
+use Rattle.std.specs.List.{list_any}
 use Rattle.std.proofs.lemmas.List.{length-take}
 use Rattle.std.proofs.lemmas.List.Concat.{flat_map-append}
 use Rattle.std.proofs.lemmas.Slice.Eq.{bytes_eq-Decides}
-use Rattle.seal.specs.Sealed.{tag}
-use Rattle.seal.specs.Rings.{seal_by, sealed_by, tagged}
+use Rattle.seal.specs.Sealed.{sealed, tag}
+use Rattle.seal.specs.Rings.{IsForm, IsFormBy, seals_by, tagged}
+use Rattle.seal.specs.Tagged.{bytes_of}
+use Rattle.seal.specs.declared.carrier.TaggedMessage.{TaggedMessage}
 use Rattle.seal.specs.declared.ring.Ring.{Ring}
 use Rattle.seal.proofs.SealedForms.{front, front_tagged, length-tag}
 use Rattle.seal.specs.Opening.{GivenWasBrought, WasBrought, came_open, opening, opening_of, opens}
@@ -17,24 +20,76 @@ pub opening_more : (ring : Ring) (carried : List Passed) (p : Passed) → openin
 opening_more ring carried p = flat_map-append (opening_of ring) carried (p ∷ []) ∙ ap (λ (l : List Passed). opening ring carried ++ l) (append-nil (opening_of ring p))
 
 -- a message that was sent
-pub sent_more : (to : Receivers) (ring : Ring) (old new : List Passed) (m bytes : List ℕ) → length m ≡ 48 → bytes ≡ tagged ring m → new ≡ old ++ Sent to bytes ∷ []
-    → opening ring new ≡ opening ring old ++ Sent to m ∷ []
-sent_more to ring old new m bytes h e is =
-    ap (opening ring) is ∙ opening_more ring old (Sent to bytes) ∙ ap (λ (l : List ℕ). opening ring old ++ Sent to l ∷ []) (front_tagged ring m bytes h e)
+pub sent_more : (to : Receivers) (ring : Ring) (old new : List Passed) (m : List ℕ) (sent : TaggedMessage) → length m ≡ 48 → sent ≡ tagged ring m
+    → new ≡ old ++ Sent to (bytes_of sent) ∷ [] → opening ring new ≡ opening ring old ++ Sent to m ∷ []
+sent_more to ring old new m sent h e is =
+    ap (opening ring) is ∙ opening_more ring old (Sent to (bytes_of sent))
+    ∙ ap (λ (l : List ℕ). opening ring old ++ Sent to l ∷ []) (ap (λ (t : TaggedMessage). take 48 (bytes_of t)) e ∙ front_tagged ring m h)
+
+-- by a seal of a list bytes open where the test of each says so
+abbrev pub any_test : List ℕ → List ℕ → List (List ℕ) → Bool
+any_test m bytes seals = list_any (λ seal. bytes_eq bytes (sealed seal m)) seals
+
+by_first : (s : List ℕ) (seals : List (List ℕ)) (m bytes : List ℕ) (b : Bool) → bytes_eq bytes (sealed s m) ≡ b
+    → (b ≡ false → IsFormBy seals m bytes) → IsFormBy (s ∷ seals) m bytes
+by_first s seals m bytes true t rest = (zero, (s, refl, (bytes_eq-Decides bytes (sealed s m)).0 t))
+by_first s seals m bytes false t rest = let found = rest refl in (suc found.0, found.1)
+
+some_opens : (seals : List (List ℕ)) (m bytes : List ℕ) → any_test m bytes seals ≡ true → IsFormBy seals m bytes
+some_opens [] m bytes e = absurd (cc)
+some_opens (s ∷ seals) m bytes e =
+    by_first s seals m bytes (bytes_eq bytes (sealed s m)) refl (λ no. some_opens seals m bytes (rw no at e))
+
+-- by one seal more
+pub before_or_last : (seals : List (List ℕ)) (s m bytes : List ℕ) → IsFormBy (seals ++ s ∷ []) m bytes → IsFormBy seals m bytes ⊎ (bytes ≡ sealed s m)
+before_or_last [] s m bytes (zero, is) = let one : s ≡ is.0 = cc in inr (is.2 ∙ ap (λ (l : List ℕ). sealed l m) (sym one))
+before_or_last [] s m bytes (suc i, is) = absurd (cc)
+before_or_last (x ∷ seals) s m bytes (zero, is) = inl (zero, is)
+before_or_last (x ∷ seals) s m bytes (suc i, is) = later_or_last (before_or_last seals s m bytes (i, is))
+  where
+    later_or_last : IsFormBy seals m bytes ⊎ (bytes ≡ sealed s m) → IsFormBy (x ∷ seals) m bytes ⊎ (bytes ≡ sealed s m)
+    later_or_last (inl found) = inl (suc found.0, found.1)
+    later_or_last (inr e) = inr e
+
+any_true : (b : Bool) → (b || true) ≡ true
+any_true true = refl
+any_true false = refl
+
+opens_some : (seals : List (List ℕ)) (m bytes : List ℕ) (i : ℕ) (seal : List ℕ) → slice_get seals i ≡ Some seal → bytes ≡ sealed seal m → any_test m bytes seals ≡ true
+opens_some [] m bytes i seal there e = absurd (cc)
+opens_some (s ∷ seals) m bytes zero seal there e =
+    let one : s ≡ seal = cc in
+    ap (λ (b : Bool). b || any_test m bytes seals) ((bytes_eq-Decides bytes (sealed s m)).1 (e ∙ ap (λ (l : List ℕ). sealed l m) (sym one)))
+opens_some (s ∷ seals) m bytes (suc i) seal there e =
+    ap (λ (b : Bool). bytes_eq bytes (sealed s m) || b) (opens_some seals m bytes i seal there e) ∙ any_true (bytes_eq bytes (sealed s m))
+
+-- what opens has its message in front
+pub front_of : (seals : List (List ℕ)) (m bytes : List ℕ) → length m ≡ 48 → IsFormBy seals m bytes → take 48 bytes ≡ m
+front_of seals m bytes h is = front is.1.0 m bytes h is.1.2
+
+form_at : (ring : Ring) (m n bytes : List ℕ) → m ≡ n → IsForm ring m bytes → IsForm ring n bytes
+form_at ring m n bytes e is = subst (λ (l : List ℕ). IsForm ring l bytes) e is
+
+is_open : (ring : Ring) (m bytes : List ℕ) → length m ≡ 48 → IsForm ring m bytes → opens ring bytes ≡ true
+is_open ring m bytes h is =
+    let there = form_at ring m (take 48 bytes) bytes (sym (front_of (seals_by ring m) m bytes h is)) is in
+    opens_some (seals_by ring (take 48 bytes)) (take 48 bytes) bytes there.0 there.1.0 there.1.1 there.1.2
+
+open_form : (ring : Ring) (bytes : List ℕ) → opens ring bytes ≡ true → IsForm ring (take 48 bytes) bytes
+open_form ring bytes t = some_opens (seals_by ring (take 48 bytes)) (take 48 bytes) bytes t
 
 -- bytes that are a message's sealed form open as it
-pub opens_as : (ring : Ring) (m bytes : List ℕ) → length m ≡ 48 → bytes ≡ sealed_by ring m → opening_of ring (Came bytes) ≡ Came m ∷ []
-opens_as ring m bytes h e =
-    let is : take 48 bytes ≡ m = front (seal_by ring m) m bytes h e in
-    ap (λ (b : Bool). came_open b bytes) ((bytes_eq-Decides bytes (sealed_by ring (take 48 bytes))).1 (e ∙ ap (sealed_by ring) (sym is)))
-    ∙ ap (λ (l : List ℕ). Came l ∷ []) is
+pub opens_as : (ring : Ring) (m bytes : List ℕ) → length m ≡ 48 → IsForm ring m bytes → opening_of ring (Came bytes) ≡ Came m ∷ []
+opens_as ring m bytes h is =
+    ap (λ (b : Bool). came_open b bytes) (is_open ring m bytes h is) ∙ ap (λ (l : List ℕ). Came l ∷ []) (front_of (seals_by ring m) m bytes h is)
 
 -- bytes that are their front's sealed form have a message in front
-pub front_size : (ring : Ring) (bytes : List ℕ) → bytes ≡ sealed_by ring (take 48 bytes) → length (take 48 bytes) ≡ 48
-front_size ring bytes e =
-    let behind = length-tag (seal_by ring (take 48 bytes)) (take 48 bytes) in
-    let both = length-append (take 48 bytes) (tag (seal_by ring (take 48 bytes)) (take 48 bytes)) in
-    let size = ap length e in
+pub front_size : (seals : List (List ℕ)) (bytes : List ℕ) → IsFormBy seals (take 48 bytes) bytes → length (take 48 bytes) ≡ 48
+front_size seals bytes is =
+    let seal = is.1.0 in
+    let behind = length-tag seal (take 48 bytes) in
+    let both = length-append (take 48 bytes) (tag seal (take 48 bytes)) in
+    let size = ap length is.1.2 in
     let front = length-take 48 bytes in
     omega (arith, behind, both, size, front)
 
@@ -43,29 +98,29 @@ never true n = absurd (n refl)
 never false n = refl
 
 -- what tells of bytes that they are a message's sealed form, where they are, tells whether they open
-pub tells_open : (b : Bool) (ring : Ring) (m bytes : List ℕ) → length m ≡ 48 → (b ≡ true → bytes ≡ sealed_by ring m)
-    → ((n : List ℕ) → length n ≡ 48 → bytes ≡ sealed_by ring n → b ≡ true) → b ≡ opens ring bytes
-tells_open true ring m bytes h only each =
-    sym ((bytes_eq-Decides bytes (sealed_by ring (take 48 bytes))).1 (only refl ∙ ap (sealed_by ring) (sym (front (seal_by ring m) m bytes h (only refl)))))
+pub tells_open : (b : Bool) (ring : Ring) (m bytes : List ℕ) → length m ≡ 48 → (b ≡ true → IsForm ring m bytes)
+    → ((n : List ℕ) → length n ≡ 48 → IsForm ring n bytes → b ≡ true) → b ≡ opens ring bytes
+tells_open true ring m bytes h only each = sym (is_open ring m bytes h (only refl))
 tells_open false ring m bytes h only each = sym (never (opens ring bytes) (λ t.
-    let same = (bytes_eq-Decides bytes (sealed_by ring (take 48 bytes))).0 t in
-    let is : false ≡ true = each (take 48 bytes) (front_size ring bytes same) same in absurd (cc)))
+    let form = open_form ring bytes t in
+    let is : false ≡ true = each (take 48 bytes) (front_size (seals_by ring (take 48 bytes)) bytes form) form in absurd (cc)))
 
 closed : (b : Bool) (bytes : List ℕ) → (b ≡ true → ⊥) → came_open b bytes ≡ []
 closed b bytes n = grind arith
 
 -- bytes that are no message's sealed form open as nothing
-pub opens_not : (ring : Ring) (bytes : List ℕ) → ((m : List ℕ) → length m ≡ 48 → bytes ≡ sealed_by ring m → ⊥) → opening_of ring (Came bytes) ≡ []
+pub opens_not : (ring : Ring) (bytes : List ℕ) → ((m : List ℕ) → length m ≡ 48 → IsForm ring m bytes → ⊥) → opening_of ring (Came bytes) ≡ []
 opens_not ring bytes none = closed (opens ring bytes) bytes (λ t.
-    let same = (bytes_eq-Decides bytes (sealed_by ring (take 48 bytes))).0 t in none (take 48 bytes) (front_size ring bytes same) same)
+    let form = open_form ring bytes t in
+    none (take 48 bytes) (front_size (seals_by ring (take 48 bytes)) bytes form) form)
 
 -- one that came and opens, and one that doesn't
-pub came_more : (ring : Ring) (old new : List Passed) (m bytes : List ℕ) → length m ≡ 48 → bytes ≡ sealed_by ring m → new ≡ old ++ Came bytes ∷ []
+pub came_more : (ring : Ring) (old new : List Passed) (m bytes : List ℕ) → length m ≡ 48 → IsForm ring m bytes → new ≡ old ++ Came bytes ∷ []
     → opening ring new ≡ opening ring old ++ Came m ∷ []
 came_more ring old new m bytes h e is =
     ap (opening ring) is ∙ opening_more ring old (Came bytes) ∙ ap (λ (l : List Passed). opening ring old ++ l) (opens_as ring m bytes h e)
 
-pub came_none : (ring : Ring) (old new : List Passed) (bytes : List ℕ) → ((m : List ℕ) → length m ≡ 48 → bytes ≡ sealed_by ring m → ⊥)
+pub came_none : (ring : Ring) (old new : List Passed) (bytes : List ℕ) → ((m : List ℕ) → length m ≡ 48 → IsForm ring m bytes → ⊥)
     → new ≡ old ++ Came bytes ∷ [] → opening ring new ≡ opening ring old
 came_none ring old new bytes none is =
     ap (opening ring) is ∙ opening_more ring old (Came bytes) ∙ ap (λ (l : List Passed). opening ring old ++ l) (opens_not ring bytes none) ∙ append-nil (opening ring old)
@@ -78,9 +133,9 @@ later ring p carried m h = (h.0, h.1, h.2, (suc h.3.0, h.3.1))
 came_first : (ring : Ring) (bytes : List ℕ) (carried : List Passed) (m : List ℕ) → ((i : ℕ) → slice_get (opening ring carried) i ≡ Some (Came m) → WasBrought ring carried m)
     → (b : Bool) → opens ring bytes ≡ b → (i : ℕ) → slice_get (came_open b bytes ++ opening ring carried) i ≡ Some (Came m) → WasBrought ring (Came bytes ∷ carried) m
 came_first ring bytes carried m rest true t zero e =
-    let same : bytes ≡ sealed_by ring (take 48 bytes) = (bytes_eq-Decides bytes (sealed_by ring (take 48 bytes))).0 t in
+    let form = open_form ring bytes t in
     let is : take 48 bytes ≡ m = cc in
-    (bytes, ap length (sym is) ∙ front_size ring bytes same, same ∙ ap (sealed_by ring) is, (zero, refl))
+    (bytes, ap length (sym is) ∙ front_size (seals_by ring (take 48 bytes)) bytes form, form_at ring (take 48 bytes) m bytes is form, (zero, refl))
 came_first ring bytes carried m rest true t (suc i) e = later ring (Came bytes) carried m (rest i e)
 came_first ring bytes carried m rest false t i e = later ring (Came bytes) carried m (rest i e)
 

@@ -1,13 +1,14 @@
 -- What passes at a sealed link: the opening of what its carrier carries.
 use Rattle.std.specs.Prelude.{◌≡◌, ℕ, Bool, true, false, List, [], ◌∷◌, bytes_eq, length, slice_get, take, Some}
-use Rattle.std.specs.List.{flat_map}
-use Rattle.seal.specs.Rings.{sealed_by}
+use Rattle.std.specs.List.{flat_map, list_any}
+use Rattle.seal.specs.Rings.{IsForm, seals_by}
+use Rattle.seal.specs.Sealed.{sealed}
 use Rattle.seal.specs.declared.ring.Ring.{Ring}
 use Rattle.links.specs.Passed.{Passed, Sent, Came}
 
--- the bytes are the sealed form of a message, which is their front, by the seal of who sent it
+-- the bytes are the sealed form of a message, which is their front, by a seal of who sent it
 abbrev pub opens : Ring → List ℕ → Bool
-opens ring bytes = bytes_eq bytes (sealed_by ring (take 48 bytes))
+opens ring bytes = list_any (λ seal. bytes_eq bytes (sealed seal (take 48 bytes))) (seals_by ring (take 48 bytes))
 
 -- of bytes that came the message, where they open, and nothing where they don't
 abbrev pub came_open : Bool → List ℕ → List Passed
@@ -24,7 +25,7 @@ opening ring carried = flat_map (opening_of ring) carried
 -- bytes that were brought, of which this message is the opening
 abbrev pub WasBrought : Ring → List Passed → List ℕ → Type 0
 WasBrought ring carried message =
-    (bytes : List ℕ) × (length message ≡ 48) × (bytes ≡ sealed_by ring message)
+    (bytes : List ℕ) × (length message ≡ 48) × IsForm ring message bytes
     × ((k : ℕ) × (slice_get carried k ≡ Some (Came bytes)))
 
 -- each message that a sealed link gave was brought

@@ -3,16 +3,21 @@
 ghost use Rattle.std.specs.Prelude.{◌≡◌, ◌∷◌, ◌++◌, List, [], take};
 ghost use Rattle.links.specs.Passed.{Passed, Sent, IsTakenUpTo};
 ghost use Rattle.links.specs.declared.link.Receivers.TheVariants.{ToAll, ToOne};
+ghost use Rattle.seal.specs.Tagged.{bytes_of};
 
 use links::{Receivers, Taken};
 use std::snapshot::Snapshot;
+use wire::MessageBytes;
 
 /// A sealed datagram: a message's bytes, and the 16 of its tag.
 pub type SealedBytes = [u8; 64];
 
-/// A message that is sent: its bytes, the 16 of its tag for the first peer, and the 16 of its tag for all others. No peer is sent
-/// both tags (`form_for`).
-pub type TaggedBytes = [u8; 80];
+/// A message that is sent, and its tag for each of five peers. Each is sent its own alone (`form_for`).
+#[derive(Clone, Copy)]
+pub struct TaggedMessage {
+    pub message: MessageBytes,
+    pub tags: [[u8; 16]; 5],
+}
 
 /// How many bytes of a sealed datagram are taken at most: more than it has, so that a longer one is seen as such.
 pub const SEALED_ROOM: usize = 65;
@@ -27,16 +32,16 @@ pub trait SealedCarrier {
     ghost carried: { Self → List Passed };
 
     /// Sends a message to every peer. What can't be sent is lost.
-    fn carry(&mut self, bytes: &TaggedBytes)
-        ensures { carried self.new ≡ carried self.old ++ Sent ToAll bytes.now ∷ [] };
+    fn carry(&mut self, message: &TaggedMessage)
+        ensures { carried self.new ≡ carried self.old ++ Sent ToAll (bytes_of message.now) ∷ [] };
 
     /// Sends a message to the peer whose datagram was taken last, if to no other. What can't be sent is lost.
-    fn carry_back(&mut self, bytes: &TaggedBytes)
-        ensures { carried self.new ≡ carried self.old ++ Sent ToOne bytes.now ∷ [] };
+    fn carry_back(&mut self, message: &TaggedMessage)
+        ensures { carried self.new ≡ carried self.old ++ Sent ToOne (bytes_of message.now) ∷ [] };
 
     /// Sends a message to the peer of this number, if there is one. What can't be sent is lost.
-    fn carry_to(&mut self, peer: usize, bytes: &TaggedBytes)
-        ensures { carried self.new ≡ carried self.old ++ Sent ToOne bytes.now ∷ [] };
+    fn carry_to(&mut self, peer: usize, message: &TaggedMessage)
+        ensures { carried self.new ≡ carried self.old ++ Sent ToOne (bytes_of message.now) ∷ [] };
 
     /// Which peer's datagram was taken last, as a number of its own.
     fn last_peer(&self) -> usize;
@@ -51,7 +56,7 @@ pub trait SealedCarrier {
 #[derive(Drop)]
 pub enum CarriedLog {
     Empty,
-    Sent(Snapshot<CarriedLog>, Snapshot<Receivers>, Snapshot<TaggedBytes>),
+    Sent(Snapshot<CarriedLog>, Snapshot<Receivers>, Snapshot<TaggedMessage>),
     Came(Snapshot<CarriedLog>, Snapshot<SealedBuffer>, Snapshot<usize>),
 }
 
@@ -60,10 +65,10 @@ impl CarriedLog {
     ghost use Rattle.seal.specs.Carried.{carried_of};
 
     /// This log, and then a message that was sent to these.
-    pub fn sent(&self, to: Receivers, bytes: &TaggedBytes) -> CarriedLog
-        ensures { carried_of result ≡ carried_of self.now ++ Sent to bytes.now ∷ [] }
+    pub fn sent(&self, to: Receivers, message: &TaggedMessage) -> CarriedLog
+        ensures { carried_of result ≡ carried_of self.now ++ Sent to (bytes_of message.now) ∷ [] }
     {
-        CarriedLog::Sent(Snapshot::of(self), Snapshot::of(&to), Snapshot::of(bytes))
+        CarriedLog::Sent(Snapshot::of(self), Snapshot::of(&to), Snapshot::of(message))
     }
 
     /// This log, and then a datagram that came: the front of the buffer.

@@ -1,58 +1,27 @@
-//! A station's seals: one that it shares with its first peer, one for all others, and by which of them what comes opens.
+//! A station's seals, one for each of its peers, and by which of them what comes opens.
 
-ghost use Rattle.std.specs.Prelude.{◌≡◌, ◌≤◌, ◌++◌, ℕ, List, drop, false, if◌then◌else◌, length, nat_eq, take, true};
+ghost use Rattle.std.specs.Prelude.{◌≡◌, ◌<◌, ◌≤◌, ◌+◌, ℕ, List, drop, false, if◌then◌else◌, length, nat_eq, slice_get, take, true};
 ghost use Rattle.seal.specs.Rings as rings;
+ghost use Rattle.seal.specs.Sealed.{sealed};
 
-use crate::carrier::{SealedBytes, TaggedBytes};
+use crate::carrier::{SealedBytes, TaggedMessage};
 use crate::datagram::{SEALED, Seal, joined};
 use agree_core::Asker;
 use links::{DatagramBuffer, ROOM};
-use wire::{MessageBytes, SIZE};
+use wire::MessageBytes;
 
-/// How many bytes a message with both its tags has.
-const TAGGED: usize = 80;
-
-/// How many bytes a tag has.
-const TAG: usize = 16;
+/// How many peers a station has at most: a desk has the other one and four boards.
+pub const MOST_PEERS: usize = 5;
 
 /// Where the number of its sender stands in a message.
 const SENDER: usize = 12;
 
-/// The message in front of both its tags.
-fn message_in(bytes: &TaggedBytes) -> MessageBytes
-    ensures { result ≡ take 48 bytes.now }
+/// What goes to a peer of a message with its tags: the message, and the tag that is for this peer.
+pub fn form_for(peer: usize, message: &TaggedMessage) -> SealedBytes
+    requires { peer < 5 }
+    ensures { result ≡ rings.form_for peer message.now }
 {
-    let mut message = [0; SIZE];
-    message.copy_from_slice(&bytes[..SIZE]);
-    message
-}
-
-/// The tag that stands there.
-fn tag_in(bytes: &TaggedBytes, at: usize) -> [u8; 16]
-    requires { at ≤ 64 }
-    ensures { result ≡ take 16 (drop at bytes.now) }
-{
-    let mut tag = [0; TAG];
-    tag.copy_from_slice(&bytes[at..at + TAG]);
-    tag
-}
-
-/// What goes to a peer of a message with both its tags: the message, and the tag that is for this peer.
-pub fn form_for(peer: usize, bytes: &TaggedBytes) -> SealedBytes
-    ensures { result ≡ rings.form_for peer bytes.now }
-{
-    let at = if peer == 0 { SIZE } else { SEALED };
-    joined(&message_in(bytes), &tag_in(bytes, at))
-}
-
-/// A sealed form, and a tag behind it.
-fn with_tag(sealed: &SealedBytes, tag: &[u8; 16]) -> TaggedBytes
-    ensures { result ≡ sealed.now ++ tag.now }
-{
-    let mut bytes = [0; TAGGED];
-    bytes[..SEALED].copy_from_slice(sealed.as_slice());
-    bytes[SEALED..].copy_from_slice(tag.as_slice());
-    bytes
+    joined(&message.message, &message.tags[peer])
 }
 
 /// The number of the first peer of a station, as it stands in messages: the other desk of a desk, and desk A of a board.
@@ -65,24 +34,38 @@ fn first_sender(station: Asker) -> u8
     }
 }
 
-/// A station's seals: one that it shares with its first peer, and one that it shares with all others. A desk's first peer is
-/// the other desk, and a board's is desk A.
+/// Puts the message of which these bytes are the sealed form by one of these seals into the front of a buffer, and tells whether
+/// there is one: a buffer stays where there is none.
+fn opened_by(seals: &[Seal], bytes: &[u8], buffer: &mut DatagramBuffer) -> bool
+    ensures only { result ≡ true → rings.IsFormBy seals.now (take 48 buffer.new) bytes.now }
+    ensures each { (message : List ℕ) → length message ≡ 48
+        → rings.IsFormBy seals.now message bytes.now → (result ≡ true) × (take 48 buffer.new ≡ message) }
+    ensures none { result ≡ false → buffer.new ≡ buffer.old }
+{
+    for seal in seals {
+        if seal.opened(bytes, buffer) {
+            return true;
+        }
+    }
+    false
+}
+
+/// A station's seals, one that it shares with each of its peers. A desk's first peer is the other desk, the others are boards. A
+/// board's first peer is desk A, and all others are desk B.
 #[derive(Drop)]
 pub struct Ring {
-    first: Seal,
-    rest: Seal,
+    seals: [Seal; MOST_PEERS],
     /// The number of the first peer, as it stands in messages.
     first_sender: u8,
 }
 
 impl Ring {
-    /// The ring of a station, of the seal that it shares with its first peer, and the one that it shares with all others.
-    pub fn new(station: Asker, first: Seal, rest: Seal) -> Ring
-        ensures { result ≡ rings.ring_of station first rest }
+    /// The ring of a station, of the seals that it shares with its peers.
+    pub fn new(station: Asker, seals: [Seal; MOST_PEERS]) -> Ring
+        ensures { result ≡ rings.ring_of station seals }
     {
         Ring {
-            first,
-            rest,
+            seals,
             first_sender: first_sender(station),
         }
     }
@@ -91,25 +74,25 @@ impl Ring {
     pub fn copied(&self) -> Ring
         ensures { result ≡ self.now }
     {
+        let [first, second, third, fourth, fifth] = &self.seals;
         Ring {
-            first: self.first.copied(),
-            rest: self.rest.copied(),
+            seals: [
+                first.copied(),
+                second.copied(),
+                third.copied(),
+                fourth.copied(),
+                fifth.copied(),
+            ],
             first_sender: self.first_sender,
         }
     }
 
-    /// The seal that is shared with the first peer.
-    pub fn first(&self) -> &Seal
-        ensures { result.now ≡ self.now.first }
+    /// The seal that is shared with a peer.
+    pub fn seal_for(&self, peer: usize) -> &Seal
+        requires { peer < 5 }
+        ensures { result.now ≡ rings.seal_for self.now peer }
     {
-        &self.first
-    }
-
-    /// The seal that is shared with all others.
-    pub fn rest(&self) -> &Seal
-        ensures { result.now ≡ self.now.rest }
-    {
-        &self.rest
+        &self.seals[peer]
     }
 
     /// What tells whether datagrams open, and can seal none.
@@ -121,37 +104,47 @@ impl Ring {
         }
     }
 
-    /// A message with its tags, for the first peer and for all others.
-    pub fn tagged(&self, message: &MessageBytes) -> TaggedBytes
+    /// A message with its tags, one for each peer.
+    pub fn tagged(&self, message: &MessageBytes) -> TaggedMessage
         ensures { result ≡ rings.tagged self.now message.now }
     {
-        let sealed = self.first.sealed(message);
-        with_tag(&sealed, &self.rest.tag(message.as_slice()))
-    }
-
-    /// The seal of who has this number.
-    fn seal_of(&self, sender: u8) -> &Seal
-        ensures { result.now ≡ (if nat_eq sender self.now.first_sender then self.now.first else self.now.rest) }
-    {
-        if sender == self.first_sender {
-            &self.first
-        } else {
-            &self.rest
+        let [first, second, third, fourth, fifth] = &self.seals;
+        TaggedMessage {
+            message: *message,
+            tags: [
+                first.tag(message.as_slice()),
+                second.tag(message.as_slice()),
+                third.tag(message.as_slice()),
+                fourth.tag(message.as_slice()),
+                fifth.tag(message.as_slice()),
+            ],
         }
     }
 
-    /// Puts the message of which these bytes are the sealed form, by the seal of who sent it, into the front of a buffer, and
-    /// tells whether there is one: a buffer stays where there is none.
+    /// The seals by which a message of who has this number opens.
+    fn seals_of(&self, sender: u8) -> &[Seal]
+        ensures { result.now ≡ rings.seals_of self.now sender }
+    {
+        let seals = &self.seals[..];
+        if sender == self.first_sender {
+            &seals[..1]
+        } else {
+            &seals[1..]
+        }
+    }
+
+    /// Puts the message of which these bytes are the sealed form, by a seal of who sent it, into the front of a buffer, and tells
+    /// whether there is one: a buffer stays where there is none.
     pub fn opened(&self, bytes: &[u8], buffer: &mut DatagramBuffer) -> bool
-        ensures only { result ≡ true → bytes.now ≡ rings.sealed_by self.now (take 48 buffer.new) }
+        ensures only { result ≡ true → rings.IsForm self.now (take 48 buffer.new) bytes.now }
         ensures each { (message : List ℕ) → length message ≡ 48
-            → bytes.now ≡ rings.sealed_by self.now message → (result ≡ true) × (take 48 buffer.new ≡ message) }
+            → rings.IsForm self.now message bytes.now → (result ≡ true) × (take 48 buffer.new ≡ message) }
         ensures none { result ≡ false → buffer.new ≡ buffer.old }
     {
         if bytes.len() != SEALED {
             return false;
         }
-        self.seal_of(bytes[SENDER]).opened(bytes, buffer)
+        opened_by(self.seals_of(bytes[SENDER]), bytes, buffer)
     }
 }
 

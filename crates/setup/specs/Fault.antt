@@ -1,7 +1,6 @@
 -- Why a command ended: the lines that standard error has of it, and whether something is refused.
 use Rattle.std.specs.Prelude.{ℕ, ⊤, List, ◌++◌, codes, decimal, Bool, true, false, Option, Some, None}
 use Rattle.streams.specs.declared.input.InputFault.{InputFault}
-use Rattle.agree_core.specs.declared.messages.Asker.{Asker}
 use Rattle.cards.specs.SheetFault as sheet
 use Rattle.cards.specs.declared.fault.SheetFault.{SheetFault}
 use Rattle.schedules.specs.ScheduleFault as schedule
@@ -16,8 +15,10 @@ use Rattle.books.specs.Rejected.{rejection_line}
 use Rattle.machine_files.specs.WriteFault.{ending_of, words_of}
 use Rattle.machine_files.specs.declared.write_fault.{Cause.Cause, WriteFault.WriteFault}
 use Rattle.machine_files.specs.declared.write_fault.Cause.TheVariants as causes
+use Rattle.setup.specs.KeyOwners.{file_name}
 use Rattle.setup.specs.declared.key_fault.KeyFault.{KeyFault}
 use Rattle.setup.specs.declared.key_fault.KeyFault.TheVariants as keys
+use Rattle.setup.specs.declared.key_owner.KeyOwner.{KeyOwner}
 use Rattle.setup.specs.declared.fault.{StopFault.StopFault, TheConstants.TURNS}
 use Rattle.setup.specs.declared.fault.StopFault.TheVariants.{NoMemory, Read, Write, Sheet, SheetTold, Schedule, Votes, VotesNamed, BadVotes, NotOneHistory, FilesDiffer, Line, NotAgreed, Listen, Disk, FileMoved, File, PairKeys, Lost, CopyLost, Key}
 
@@ -139,17 +140,11 @@ key_words keys.Alike = codes "a key has 8 different bytes or more"
 key_words keys.NoPair = codes "isn't as key wrote it"
 key_words keys.OfDeskA = codes "is the key of desk a"
 key_words keys.OfDeskB = codes "is the key of desk b"
-key_words keys.OfBoards = codes "is the key of boards"
+key_words keys.OfBoard = codes "is the key of a board"
 
--- what stands behind a folder's name, of the new file of a station's keys there
-abbrev pub pair_name : Asker → List ℕ
-pair_name Asker.A = codes "/a.key"
-pair_name Asker.B = codes "/b.key"
-pair_name Asker.Board = codes "/board.key"
-
--- the line of such a file that can't be written, and why
-abbrev pub pair_file_line : List ℕ → Asker → Cause → List ℕ
-pair_file_line path station why = codes "cannot write: " ++ path ++ pair_name station ++ codes ": " ++ words_of why ++ codes "\n"
+-- the line of a file of new keys in a folder that can't be written, and why
+abbrev pub pair_file_line : List ℕ → KeyOwner → Cause → List ℕ
+pair_file_line path owner why = codes "cannot write: " ++ path ++ file_name owner ++ codes ": " ++ words_of why ++ codes "\n"
 
 -- the line of a file that has no key, and why
 abbrev pub no_key_line : List ℕ → KeyFault → List ℕ
@@ -174,7 +169,7 @@ fault_line path Listen = codes "cannot listen at " ++ path ++ codes "\n"
 fault_line path Disk = codes "cannot write\nstart the same command again\n"
 fault_line path FileMoved = codes "cannot write\nits file was moved, deleted or replaced: put it back\n"
 fault_line path (File why) = file_line path why
-fault_line path (PairKeys station why) = pair_file_line path station why
+fault_line path (PairKeys owner why) = pair_file_line path owner why
 fault_line path (Lost why) = loss_lines path why
 fault_line path (CopyLost why) = copy_loss_lines path why
 fault_line path (Key why) = no_key_line path why

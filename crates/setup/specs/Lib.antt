@@ -5,6 +5,7 @@ pub mod Counting
 pub mod Ends
 pub mod Fault
 pub mod Files
+pub mod KeyOwners
 pub mod Keys
 pub mod SheetText
 pub mod inner

@@ -5,7 +5,7 @@ ghost use Rattle.streams.specs.Watched.{Prints, TellsFailure};
 ghost use Rattle.setup.specs.Fault as texts;
 
 use crate::key_fault::KeyFault;
-use agree_core::Asker;
+use crate::key_owner::KeyOwner;
 use books::{BookFault, Rejected, print_rejected, print_torn};
 use cards::SheetFault;
 use desk::OpenRefusal;
@@ -56,7 +56,7 @@ pub enum StopFault {
     /// A file of a desk, a board or a new key can't be written.
     File(WriteFault),
     /// The file of a station's new keys in a folder can't be written.
-    PairKeys(Asker, Cause),
+    PairKeys(KeyOwner, Cause),
     /// The file of a desk that runs can't be written.
     Lost(WriteFault),
     /// The copy of a desk that runs can't be written.
@@ -300,28 +300,17 @@ fn print_file_fault<W: Sink>(
     writeln!(out, "cannot write: {path}{ending}: {words}")
 }
 
-/// The name of a station's file of two keys, behind its folder's.
-pub fn pair_name(station: Asker) -> &'static str
-    ensures { result.now ≡ texts.pair_name station }
-{
-    match station {
-        Asker::A => "/a.key",
-        Asker::B => "/b.key",
-        Asker::Board => "/board.key",
-    }
-}
-
 /// Which file of a station's new keys in a folder can't be written, and why.
 fn print_pair_fault<W: Sink>(
     out: &mut Watched<W>,
     path: &str,
-    station: Asker,
+    owner: KeyOwner,
     why: Cause,
 ) -> Result<(), WriteFailed>
-    ensures text { OnOk result (Prints W.contents out.old out.new (texts.pair_file_line path.now station why)) }
+    ensures text { OnOk result (Prints W.contents out.old out.new (texts.pair_file_line path.now owner why)) }
     ensures failed { TellsFailure result out.old out.new }
 {
-    let (name, words) = (pair_name(station), why.words());
+    let (name, words) = (owner.file_name(), why.words());
     writeln!(out, "cannot write: {path}{name}: {words}")
 }
 
@@ -399,7 +388,7 @@ pub fn print_fault<W: Sink>(
             "cannot write\nits file was moved, deleted or replaced: put it back"
         ),
         StopFault::File(why) => print_file_fault(out, path, why),
-        StopFault::PairKeys(station, why) => print_pair_fault(out, path, station, why),
+        StopFault::PairKeys(owner, why) => print_pair_fault(out, path, owner, why),
         StopFault::Lost(why) => print_loss(out, path, why),
         StopFault::CopyLost(why) => print_copy_loss(out, path, why),
         StopFault::Key(why) => print_no_key(out, path, why),

@@ -24,8 +24,8 @@ pub enum KeyFault {
     OfDeskA,
     /// It has the keys of desk B.
     OfDeskB,
-    /// It has the keys of boards.
-    OfBoards,
+    /// It has the keys of a board.
+    OfBoard,
 }
 
 impl KeyFault {
@@ -43,7 +43,7 @@ impl KeyFault {
             KeyFault::NoPair => "isn't as key wrote it",
             KeyFault::OfDeskA => "is the key of desk a",
             KeyFault::OfDeskB => "is the key of desk b",
-            KeyFault::OfBoards => "is the key of boards",
+            KeyFault::OfBoard => "is the key of a board",
         }
     }
 }

@@ -7,6 +7,7 @@ mod counting;
 mod fault;
 mod gaps;
 mod key_fault;
+mod key_owner;
 mod opening;
 mod pair_keys;
 mod sealing;
@@ -18,11 +19,12 @@ mod votes_file;
 
 pub use crate::copies::{CopiedDisk, Kept, paired_disk, tell_copies};
 pub use crate::counting::{Counting, compared};
-pub use crate::fault::{StopFault, Stopped, TURNS, pair_name, print_fault, printable};
+pub use crate::fault::{StopFault, Stopped, TURNS, print_fault, printable};
 pub use crate::gaps::{Gaps, fill_gaps};
 pub use crate::key_fault::KeyFault;
+pub use crate::key_owner::{KEY_OWNERS, KeyOwner};
 pub use crate::opening::{Output, bytes_at, old_votes_at, open_input, output, sheet_at};
-pub use crate::pair_keys::owner_line;
+pub use crate::pair_keys::{KeyDigits, board_key, key_digits, pair_text};
 pub use crate::sealing::{Sealing, StationLink, key_in, station_of};
 pub use crate::sheet::sheet_run;
 pub use crate::short_sheet::{

@@ -1,14 +1,21 @@
-//! Keys for each pair: of three, a station's file has the two that it shares with others.
+//! Keys for each pair: a station's file has the two from which its seals are made.
 
-ghost use Rattle.std.specs.Prelude.{◌≡◌, IfOk, length};
+ghost use Rattle.std.specs.Prelude.{◌≡◌, ◌≤◌, IfOk, length};
+ghost use Rattle.setup.specs.KeyOwners as owners;
 ghost use Rattle.setup.specs.Keys as keys;
 
 use crate::counting::are_same;
 use crate::fault::StopFault;
 use crate::key_fault::KeyFault;
+use crate::key_owner::{KeyOwner, owner_of};
 use crate::sealing::{FEWEST_DIFFERENT, different};
 use agree_core::Asker;
+use hex::encode_to_slice;
+use seal::hmac;
 use std::alloc::{AllocError, Global};
+
+/// A key of a pair, as it stands in a file: 64 hex digits.
+pub type KeyDigits = [u8; 64];
 
 /// How long a file's first line is.
 const OWNER: usize = 24;
@@ -19,44 +26,69 @@ const SECOND: usize = 89;
 /// How long its text is, without the end of its last line.
 const TEXT: usize = 153;
 
-/// The first line of a file of two keys: which stations it is for.
-pub fn owner_line(station: Asker) -> &'static [u8]
-    ensures { result.now ≡ keys.owner_line station }
+/// The digits of a key.
+pub fn key_digits(key: &[u8; 32]) -> KeyDigits
+    ensures { result ≡ keys.key_digits key.now }
 {
-    match station {
-        Asker::A => b"yermudosh key of desk a\n",
-        Asker::B => b"yermudosh key of desk b\n",
-        Asker::Board => b"yermudosh key of boards\n",
-    }
+    let mut digits = [0; 64];
+    let _ = encode_to_slice(key.as_slice(), &mut digits);
+    digits
+}
+
+/// The key that a desk shares with the first to the fourth board, of the second key in the desk's file: HKDF-Expand (RFC 5869) with
+/// SHA-256, of 32 bytes.
+pub fn board_key(key: &[u8], board: u8) -> KeyDigits
+    requires { board ≤ 9 }
+    ensures { result ≡ keys.board_key key.now board }
+{
+    let info = [b'b', b'o', b'a', b'r', b'd', b' ', b'0' + board, 1];
+    key_digits(&hmac(key, info.as_slice()))
 }
 
 /// The text of a file of two keys, without the end of its last line.
-fn pair_text(
+pub fn pair_text(
     alloc: Global,
-    station: Asker,
+    owner: KeyOwner,
     first: &[u8],
-    rest: &[u8],
+    second: &[u8],
 ) -> Result<Vec<u8>, AllocError>
-    ensures { IfOk result (λ text. text.items ≡ keys.pair_text station first.now rest.now) }
+    ensures { IfOk result (λ text. text.items ≡ keys.pair_text owner first.now second.now) }
 {
     let mut text = Vec::new(alloc);
-    text.extend_from_slice(owner_line(station))?;
+    text.extend_from_slice(owner.line())?;
     text.extend_from_slice(first)?;
     text.push(b'\n')?;
-    text.extend_from_slice(rest)?;
+    text.extend_from_slice(second)?;
     Ok(text)
 }
 
-/// Why a file that begins so isn't for this station.
-fn fault_of(text: &[u8]) -> KeyFault {
-    if text.starts_with(owner_line(Asker::A)) {
-        KeyFault::OfDeskA
-    } else if text.starts_with(owner_line(Asker::B)) {
-        KeyFault::OfDeskB
-    } else if text.starts_with(owner_line(Asker::Board)) {
-        KeyFault::OfBoards
-    } else {
-        KeyFault::NoPair
+/// Why a file of this owner isn't for another station.
+fn fault_of(owner: KeyOwner) -> KeyFault {
+    match owner {
+        KeyOwner::DeskA => KeyFault::OfDeskA,
+        KeyOwner::DeskB => KeyFault::OfDeskB,
+        _ => KeyFault::OfBoard,
+    }
+}
+
+/// Whether two stations are the same.
+fn is_station(station: Asker, other: Asker) -> bool
+    ensures { result ≡ owners.is_station station other }
+{
+    matches!(
+        (station, other),
+        (Asker::A, Asker::A) | (Asker::B, Asker::B) | (Asker::Board, Asker::Board)
+    )
+}
+
+/// Whose file this is, which has to be the station's.
+fn expect_owner(text: &[u8], station: Asker) -> Result<KeyOwner, KeyFault>
+    ensures { IfOk result (λ owner. owners.owner_station owner ≡ station) }
+{
+    match owner_of(text) {
+        Some(owner) if is_station(owner.station(), station) => Ok(owner),
+        Some(owner) => Err(fault_of(owner)),
+        None => Err(KeyFault::NoPair),
     }
 }
 
@@ -77,24 +109,21 @@ fn expect_key(line: &[u8]) -> Result<(), KeyFault> {
     Ok(())
 }
 
-/// The two keys in the bytes of a station's file: the one that it shares with its first peer, and the one that it shares with all
-/// others. The white space at its end is cut.
+/// The two keys in the bytes of a station's file. The white space at its end is cut.
 pub fn pair_in(alloc: Global, bytes: &[u8], station: Asker) -> Result<(&[u8], &[u8]), StopFault>
     ensures { IfOk result (λ pair. keys.HasPairKeys bytes.now station pair.0.now pair.1.now) }
 {
     let text = bytes.trim_ascii_end();
-    if !text.starts_with(owner_line(station)) {
-        return Err(StopFault::Key(fault_of(text)));
-    }
+    let owner = expect_owner(text, station).map_err(|why| StopFault::Key(why))?;
     if text.len() != TEXT {
         return Err(StopFault::Key(KeyFault::NoPair));
     }
-    let (first, rest) = (&text[OWNER..SECOND - 1], &text[SECOND..]);
+    let (first, second) = (&text[OWNER..SECOND - 1], &text[SECOND..]);
     expect_key(first).map_err(|why| StopFault::Key(why))?;
-    expect_key(rest).map_err(|why| StopFault::Key(why))?;
-    let written = pair_text(alloc, station, first, rest)?;
+    expect_key(second).map_err(|why| StopFault::Key(why))?;
+    let written = pair_text(alloc, owner, first, second)?;
     if !are_same(text, written.as_slice()) {
         return Err(StopFault::Key(KeyFault::NoPair));
     }
-    Ok((first, rest))
+    Ok((first, second))
 }

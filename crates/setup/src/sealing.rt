@@ -4,7 +4,7 @@ ghost use Rattle.std.specs.Prelude.{◌≡◌, ◌≤◌, ◌+◌, [], None, IfO
 ghost use Rattle.agree_core.specs.Desks.{asker};
 ghost use Rattle.cards.specs.Digest.{sheet_digest};
 ghost use Rattle.seal.specs.Carried.{carried_of};
-ghost use Rattle.seal.specs.Rings.{ring_of};
+ghost use Rattle.seal.specs.Rings as rings;
 ghost use Rattle.seal.specs.Sealed.{seal_of};
 ghost use Rattle.streams.specs.Watched.{stream_of};
 ghost use Rattle.setup.specs.Keys as keys;
@@ -12,7 +12,7 @@ ghost use Rattle.setup.specs.Keys as keys;
 use crate::fault::{StopFault, Stopped, printable};
 use crate::key_fault::KeyFault;
 use crate::opening::{open_input, peers_at};
-use crate::pair_keys::pair_in;
+use crate::pair_keys::{board_key, pair_in};
 use agree_core::{Asker, DeskId};
 use cards::{MatchSheet, digest_of};
 use hex::encode_to_slice;
@@ -105,8 +105,39 @@ fn ring_of_one(key: &[u8], station: Asker, digest: &[u8; 32]) -> Ring
     ensures { result ≡ keys.ring_of_one station (seal_of key.now digest.now) }
 {
     let seal = Seal::new(key, digest);
-    let rest = seal.copied();
-    Ring::new(station, seal, rest)
+    let (second, third) = (seal.copied(), seal.copied());
+    let (fourth, fifth) = (seal.copied(), seal.copied());
+    Ring::new(station, [seal, second, third, fourth, fifth])
+}
+
+/// The seal that a desk shares with a board, of the second key in the desk's file.
+fn board_seal(key: &[u8], board: u8, digest: &[u8; 32]) -> Seal
+    requires { board ≤ 9 }
+    ensures { result ≡ seal_of (keys.board_key key.now board) digest.now }
+{
+    Seal::new(board_key(key, board).as_slice(), digest)
+}
+
+/// The seals of a desk, of the two keys in its file: with the other desk, and with four boards.
+fn desk_seals(first: &[u8], second: &[u8], digest: &[u8; 32]) -> [Seal; 5]
+    ensures { result ≡ rings.desk_seals (seal_of first.now digest.now) (λ n. seal_of (keys.board_key second.now (n + 1)) digest.now) }
+{
+    [
+        Seal::new(first, digest),
+        board_seal(second, 1, digest),
+        board_seal(second, 2, digest),
+        board_seal(second, 3, digest),
+        board_seal(second, 4, digest),
+    ]
+}
+
+/// The seals of a board, of the two keys in its file: with desk A, and with desk B.
+fn board_seals(first: &[u8], second: &[u8], digest: &[u8; 32]) -> [Seal; 5]
+    ensures { result ≡ rings.board_seals (seal_of first.now digest.now) (seal_of second.now digest.now) }
+{
+    let b = Seal::new(second, digest);
+    let (third, fourth, fifth) = (b.copied(), b.copied(), b.copied());
+    [Seal::new(first, digest), b, third, fourth, fifth]
 }
 
 /// The ring of a station, of its file of these bytes with two keys.
@@ -118,8 +149,12 @@ fn ring_of_pairs(
 ) -> Result<Ring, StopFault>
     ensures { IfOk result (λ ring. keys.HasRing bytes.now station digest.now ring) }
 {
-    let (first, rest) = pair_in(alloc, bytes, station)?;
-    Ok(Ring::new(station, Seal::new(first, digest), Seal::new(rest, digest)))
+    let (first, second) = pair_in(alloc, bytes, station)?;
+    let seals = match station {
+        Asker::A | Asker::B => desk_seals(first, second, digest),
+        Asker::Board => board_seals(first, second, digest),
+    };
+    Ok(Ring::new(station, seals))
 }
 
 /// The seals of a station, of the bytes of its key's file and the digest of the sheet.
@@ -305,27 +340,40 @@ impl Sealing {
     fn tell_keys_of_desks<E: Write>(&self, errors: &mut E) -> io::Result<()> {
         let mut text = *b"sheet 0000-0000\nkey a 0000-0000\nkey b 0000-0000\n";
         put_digits(&mut text, 6, self.sheet_fingerprint());
-        put_digits(&mut text, 22, self.ring.first().fingerprint());
-        put_digits(&mut text, 38, self.ring.rest().fingerprint());
+        put_digits(&mut text, 22, self.ring.seal_for(0).fingerprint());
+        put_digits(&mut text, 38, self.ring.seal_for(1).fingerprint());
         errors.write_all(&text[..])
+    }
+
+    /// The same, of a desk with keys for each pair: the fingerprint of the one that both desks have, and those of the boards', in
+    /// their order.
+    fn tell_keys_of_boards<E: Write>(&self, errors: &mut E) -> io::Result<()> {
+        let mut text = *b"sheet 0000-0000\nkey 0000-0000\nboard keys 0000-0000 0000-0000 0000-0000 0000-0000\n";
+        put_digits(&mut text, 6, self.sheet_fingerprint());
+        put_digits(&mut text, 20, self.ring.seal_for(0).fingerprint());
+        for board in 0..4 {
+            put_digits(&mut text, 41 + 10 * board, self.ring.seal_for(board + 1).fingerprint());
+        }
+        errors.write_all(&text[..])
+    }
+
+    /// The same, where all stations have one key, or none.
+    fn tell_one_key<E: Write>(&self, errors: &mut E) -> io::Result<()> {
+        let mut text = *b"sheet 0000-0000\nkey 0000-0000\n";
+        put_digits(&mut text, 6, self.sheet_fingerprint());
+        put_digits(&mut text, 20, self.ring.seal_for(0).fingerprint());
+        let count = if self.has_key { 30 } else { 16 };
+        errors.write_all(&text[..count])
     }
 
     /// Tells what is read to the other stations, by one write: the fingerprint of the sheet, and those of the keys, where there
     /// are some.
     pub fn tell_fingerprints<E: Write>(&self, errors: &mut E) -> io::Result<()> {
-        if self.is_of_pairs && matches!(self.station, Asker::Board) {
-            return self.tell_keys_of_desks(errors);
+        match (self.is_of_pairs, self.station) {
+            (false, _) => self.tell_one_key(errors),
+            (true, Asker::Board) => self.tell_keys_of_desks(errors),
+            (true, _) => self.tell_keys_of_boards(errors),
         }
-        let mut text = *b"sheet 0000-0000\nkey 0000-0000\nboard key 0000-0000\n";
-        put_digits(&mut text, 6, self.sheet_fingerprint());
-        put_digits(&mut text, 20, self.ring.first().fingerprint());
-        put_digits(&mut text, 40, self.ring.rest().fingerprint());
-        let count = match (self.has_key, self.is_of_pairs) {
-            (false, _) => 16,
-            (true, false) => 30,
-            (true, true) => 50,
-        };
-        errors.write_all(&text[..count])
     }
 
     /// A station's sealed datagrams at its address, of which none passed yet. Its waits end for these too.

@@ -4,7 +4,7 @@ ghost use Rattle.std.specs.Prelude.{◌<◌};
 use super::*;
 use links::{Link, Receivers, Taken, Window};
 use seal::{
-    CarriedLog, Ring, Seal, Sealed, SealedBuffer, SealedBytes, SealedCarrier, TaggedBytes, form_for,
+    CarriedLog, Ring, Seal, Sealed, SealedBuffer, SealedBytes, SealedCarrier, TaggedMessage, form_for,
 };
 use wire::MessageBytes;
 
@@ -25,7 +25,7 @@ struct World {
     /// How many datagrams were sent to all, and how many back, and the last of them.
     sent: Cell<usize>,
     back: Cell<usize>,
-    last: Cell<TaggedBytes>,
+    last: Cell<TaggedMessage>,
     /// How long the last datagram was waited for.
     waited: Cell<u64>,
 }
@@ -39,7 +39,10 @@ impl World {
             brings: Cell::new(None),
             sent: Cell::new(0),
             back: Cell::new(0),
-            last: Cell::new([0; 80]),
+            last: Cell::new(TaggedMessage {
+                message: [0; 48],
+                tags: [[0; 16]; 5],
+            }),
             waited: Cell::new(0),
         }
     }
@@ -57,21 +60,21 @@ impl SealedCarrier for Post<'_> {
 
     ghost carried = { λ post. carried_of post.log };
 
-    fn carry(&mut self, bytes: &TaggedBytes) {
+    fn carry(&mut self, message: &TaggedMessage) {
         self.world.sent.set(self.world.sent.get().saturating_add(1));
-        self.world.last.set(*bytes);
-        self.log = self.log.sent(Receivers::ToAll, bytes);
+        self.world.last.set(*message);
+        self.log = self.log.sent(Receivers::ToAll, message);
     }
 
-    fn carry_back(&mut self, bytes: &TaggedBytes) {
+    fn carry_back(&mut self, message: &TaggedMessage) {
         self.world.back.set(self.world.back.get().saturating_add(1));
-        self.world.last.set(*bytes);
-        self.log = self.log.sent(Receivers::ToOne, bytes);
+        self.world.last.set(*message);
+        self.log = self.log.sent(Receivers::ToOne, message);
     }
 
-    fn carry_to(&mut self, peer: usize, bytes: &TaggedBytes) {
+    fn carry_to(&mut self, peer: usize, message: &TaggedMessage) {
         self.world.to.set(peer);
-        self.carry_back(bytes);
+        self.carry_back(message);
     }
 
     fn last_peer(&self) -> usize {
@@ -104,7 +107,7 @@ fn windowed(alloc: Global, world: &World) -> Windowed<'_> {
     };
     Window::new(
         alloc,
-        Sealed::new(post, Ring::new(Asker::Board, seal(), seal())),
+        Sealed::new(post, Ring::new(Asker::Board, [seal(), seal(), seal(), seal(), seal()])),
         hand,
         7,
     )
