@@ -1,5 +1,5 @@
 -- The worked life is such as what happens to processes.
-use Rattle.std.proofs.Common.{◌≡◌, ℕ, zero, suc, Some, None, Option, List, [], ◌∷◌, Ok, refl, sym, ap, ◌∙◌, inl, arith}
+use Rattle.std.proofs.Common.{◌≡◌, ℕ, zero, suc, Some, None, Option, List, [], ◌∷◌, Ok, refl, sym, ap, ◌∙◌, inl, arith, slice_get}
 use Rattle.std.specs.Prelude.{All, codes}
 use Rattle.std.specs.Fmt.{digits}
 use Rattle.std.specs.List.{filter}
@@ -234,7 +234,7 @@ begins_first d = (disk_without, ((λ none. absurd (omega (arith, none))), (λ so
 
 woven : (s : Sheet) (seals : Seals) → IsWoven (λ disk. disk) only no_faults seals toy 7 1 (start New 1 (new_desk A) (new_desk B)) (lived s)
 woven s seals = record {
-  order = (((((((((((((((((tt, tt), tt), tt), a_sealed (ring_of_desk seals B) seals.desks [] refl), tt), tt), tt), tt), tt), tt), a_sealed (ring_of_board seals 0) (seals.a 0) (b_says ∷ board_asks ∷ []) refl), b_sealed (ring_of_board seals 0) (seals.b 0) refl), tt), tt), tt), tt), tt);
+  order = (((((((((((((((((tt, tt), tt), tt), a_sealed (ring_of_desk seals B) seals.desks [] refl), tt), tt), tt), tt), tt), tt), a_sealed (ring_of_board seals 1) (seals.a 1) (b_says ∷ board_asks ∷ []) refl), b_sealed (ring_of_board seals 1) (seals.b 1) refl), tt), tt), tt), tt), tt);
   desks = desk_lives s;
   boards = board_lives s;
   no_others = no_others s;

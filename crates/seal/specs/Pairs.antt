@@ -19,15 +19,15 @@ EachNamesItsSender = (game : ℕ) (m : Message) → sender_in (written game m) �
 -- by which seals stations seal for each other
 pub record SealsByPair (seals : Seals) : Type 0 where
   pub a_for_b : seal_for (ring_of_a seals) 0 ≡ seals.desks
-  pub a_for_board : (n : ℕ) → n < 4 → seal_for (ring_of_a seals) (suc n) ≡ seals.a n
+  pub a_for_board : (n : ℕ) → n < 4 → seal_for (ring_of_a seals) (suc n) ≡ seals.a (suc n)
   pub b_for_a : seal_for (ring_of_b seals) 0 ≡ seals.desks
-  pub b_for_board : (n : ℕ) → n < 4 → seal_for (ring_of_b seals) (suc n) ≡ seals.b n
+  pub b_for_board : (n : ℕ) → n < 4 → seal_for (ring_of_b seals) (suc n) ≡ seals.b (suc n)
   pub board_for_a : (n : ℕ) → seal_for (ring_of_board seals n) 0 ≡ seals.a n
   pub board_for_b : (n : ℕ) → seal_for (ring_of_board seals n) 1 ≡ seals.b n
 
 -- the seals that a desk shares with boards
 abbrev pub of_boards : (ℕ → List ℕ) → List (List ℕ)
-of_boards shared = shared 0 ∷ shared 1 ∷ shared 2 ∷ shared 3 ∷ []
+of_boards shared = shared 1 ∷ shared 2 ∷ shared 3 ∷ shared 4 ∷ []
 
 -- and by which a message opens, with the number of its sender. A desk's own number is in what a board hands back to it. What opens
 -- at a board as a desk's vote has a seal that no other board has.

@@ -58,13 +58,13 @@ pub record Seals : Type 0 where
 
 -- the seals of a desk: the one that it shares with the other desk, and those with four boards
 abbrev pub desk_seals : List ℕ → (ℕ → List ℕ) → List (List ℕ)
-desk_seals desks boards = desks ∷ boards 0 ∷ boards 1 ∷ boards 2 ∷ boards 3 ∷ []
+desk_seals desks boards = desks ∷ boards 1 ∷ boards 2 ∷ boards 3 ∷ boards 4 ∷ []
 
 -- and of a board: the one that it shares with desk A, and the one with desk B
 abbrev pub board_seals : List ℕ → List ℕ → List (List ℕ)
 board_seals a b = a ∷ replicate 4 b
 
--- the rings of the stations of such a match, boards counted from 0. None has all seals.
+-- the rings of the stations of such a match, boards counted from 1. None has all seals.
 abbrev pub ring_of_a : Seals → Ring
 ring_of_a seals = ring_of Asker.A (desk_seals seals.desks seals.a)
 

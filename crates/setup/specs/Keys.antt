@@ -35,7 +35,7 @@ pair_text owner first second = owner_line owner ++ first ++ 10 ∷ second
 -- the key that a desk shares with a board, of the second in its file: HKDF-Expand (RFC 5869) of 32 bytes, with the board's number
 -- in its info
 abbrev pub board_key : List ℕ → ℕ → List ℕ
-board_key key board = key_digits (hmac key (codes "board " ++ 48 + board ∷ 1 ∷ []))
+board_key key board = key_digits (hmac key (codes "board " ++ (48 + board) ∷ 1 ∷ []))
 
 -- a station's file of these bytes has these two keys of 64 bytes each
 pub record HasPairKeys (bytes : List ℕ) (station : Asker) (first second : List ℕ) : Type 0 where
@@ -49,7 +49,7 @@ pub record HasPairKeys (bytes : List ℕ) (station : Asker) (first second : List
 abbrev pub pair_seals : Asker → List ℕ → List ℕ → List ℕ → List (List ℕ)
 pair_seals Asker.Board first second digest = board_seals (seal_of first digest) (seal_of second digest)
 pair_seals desk first second digest =
-    desk_seals (seal_of first digest) (λ n. seal_of (board_key second (n + 1)) digest)
+    desk_seals (seal_of first digest) (λ n. seal_of (board_key second n) digest)
 
 -- a file of these bytes has one key for all stations: any file that doesn't begin as one of two keys
 abbrev pub IsPlainKey : List ℕ → List ℕ → Type 0

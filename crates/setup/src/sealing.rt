@@ -120,7 +120,7 @@ fn board_seal(key: &[u8], board: u8, digest: &[u8; 32]) -> Seal
 
 /// The seals of a desk, of the two keys in its file: with the other desk, and with four boards.
 fn desk_seals(first: &[u8], second: &[u8], digest: &[u8; 32]) -> [Seal; 5]
-    ensures { result ≡ rings.desk_seals (seal_of first.now digest.now) (λ n. seal_of (keys.board_key second.now (n + 1)) digest.now) }
+    ensures { result ≡ rings.desk_seals (seal_of first.now digest.now) (λ n. seal_of (keys.board_key second.now n) digest.now) }
 {
     [
         Seal::new(first, digest),
