@@ -1,7 +1,7 @@
 // @ts-check
 // Runs the program's module over the machine's files: node ground.mjs WORDS.. The module is the one within released/book.html, or within
 // book.html beside this file.
-// Words that read and print work. A desk, a board, `key` and what else asks for sockets, locks, a terminal or whether a path is a folder
+// Words that read and print work, and `key`. A desk, a board and what else asks for sockets, locks, a terminal or a file to be written anew
 // end with status 3 once they do.
 import fs from "node:fs";
 import { fileURLToPath } from "node:url";
@@ -58,6 +58,8 @@ export function machine(words) {
     streams: [0, 1, 2].map(machine_file),
     open: path => machine_file(fs.openSync(path, "r")),
     make: (path, rights) => machine_file(fs.openSync(path, "wx", rights)),
+    look: (path, is_of_link) => (is_of_link ? fs.lstatSync : fs.statSync)(path, { bigint: true }),
+    remove: path => fs.unlinkSync(path),
   };
 }
 

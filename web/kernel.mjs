@@ -11,13 +11,32 @@
  * @property {() => void} [sync] returns once the disk has what was written
  * @property {() => void} [close]
  *
- * What is around the program: its words without its name; standard input, output and errors; and how a file is opened to
- * be read, or made new with these rights.
+ * What is told of a file, as Linux numbers it; times are nanoseconds since 1970 began.
+ * @typedef {object} FileFacts
+ * @property {bigint} mode its kind and who may what
+ * @property {bigint} size
+ * @property {bigint} [nlink]
+ * @property {bigint} [uid]
+ * @property {bigint} [gid]
+ * @property {bigint} [ino]
+ * @property {bigint} [dev]
+ * @property {bigint} [rdev]
+ * @property {bigint} [blksize]
+ * @property {bigint} [blocks]
+ * @property {bigint} [atimeNs]
+ * @property {bigint} [mtimeNs]
+ * @property {bigint} [ctimeNs]
+ * @property {bigint} [birthtimeNs]
+ *
+ * What is around the program: its words without its name; standard input, output and errors; how a file is opened to be read, or
+ * made new with these rights; what is told of a file, or of a link to one; and how a name is removed.
  * @typedef {object} Place
  * @property {string[]} words
  * @property {OpenFile[]} streams
  * @property {(path: string) => OpenFile} open
  * @property {(path: string, rights: number) => OpenFile} make
+ * @property {(path: string, is_of_link: boolean) => FileFacts} look
+ * @property {(path: string) => void} remove
  */
 
 /**
@@ -46,6 +65,14 @@ export class Lacking extends Error {
 const ANYWAY = 0o400 | 0o2000000;
 const TO_READ = 0;
 const TO_MAKE = 0o1 | 0o100 | 0o200;
+// Where a path begins that isn't whole, and that what a link leads to isn't meant.
+const HERE = -100;
+const OF_LINK = 0x100;
+// A plain file that its owner may read.
+const TO_BE_READ = 0o100400n;
+// How many bytes are told of a file, and which of it: all but where it is mounted.
+const FACTS = 256n;
+const TOLD = 0xfff;
 // How many bytes of chance are had at once.
 const MOST_CHANCE = 256n;
 
@@ -125,6 +152,33 @@ export class Run {
   }
 }
 
+/**
+ * Lays out what is told of a file (`struct statx`).
+ * @param {DataView} at
+ * @param {FileFacts} facts
+ */
+function put_facts(at, facts) {
+  const whole = (/** @type {number} */ where, /** @type {bigint | undefined} */ value) => at.setBigUint64(where, value ?? 0n, true);
+  const half = (/** @type {number} */ where, /** @type {bigint | undefined} */ value) => at.setUint32(where, Number(BigInt.asUintN(32, value ?? 0n)), true);
+  half(0, BigInt(TOLD));
+  half(4, facts.blksize);
+  [facts.nlink, facts.uid, facts.gid].forEach((value, number) => half(16 + 4 * number, value));
+  at.setUint16(28, Number(facts.mode), true);
+  [facts.ino, facts.size, facts.blocks].forEach((value, number) => whole(32 + 8 * number, value));
+  [facts.atimeNs, facts.birthtimeNs, facts.ctimeNs, facts.mtimeNs].forEach((value, number) => {
+    const second = 1_000_000_000n;
+    const past = BigInt.asIntN(64, value ?? 0n) % second;
+    const within = past < 0n ? past + second : past;
+    at.setBigInt64(64 + 16 * number, ((value ?? 0n) - within) / second, true);
+    half(72 + 16 * number, within);
+  });
+  [facts.rdev, facts.dev].forEach((value, number) => {
+    const device = value ?? 0n;
+    half(128 + 8 * number, ((device >> 8n) & 0xfffn) | ((device >> 32n) & 0xfffff000n));
+    half(132 + 8 * number, (device & 0xffn) | ((device >> 12n) & 0xffffff00n));
+  });
+}
+
 /** @typedef {Record<string, (...given: any[]) => number | bigint | void>} Calls */
 
 /**
@@ -189,6 +243,18 @@ function file_calls(run) {
       if (!to.write) throw failure("EBADF");
       return to.write(run.bytes(at, count));
     })),
+    statx: (folder, path, how, _, at) => run.tried(() => {
+      const name = run.text(path);
+      if (folder !== HERE || (how & ~OF_LINK) !== 0) throw new Lacking("what is told of an open file");
+      const facts = run.place.look(name, how === OF_LINK);
+      run.bytes(at, FACTS).fill(0);
+      put_facts(new DataView(run.buffer, Number(at), Number(FACTS)), facts);
+      return 0;
+    }),
+    unlink: path => run.tried(() => {
+      run.place.remove(run.text(path));
+      return 0;
+    }),
     // It is asked of standard input, which is as a pipe here.
     lseek: number => BigInt(run.tried(() => {
       run.file(number);
@@ -272,14 +338,21 @@ function held_file(held) {
 export function in_memory(words, files, input, told) {
   /** @param {number} which @returns {OpenFile} */
   const stream = which => ({ write: bytes => told[which].push(bytes.slice()) && bytes.length });
+  /** @param {string} path */
+  const bytes_of = path => {
+    if (!Object.hasOwn(files, path)) throw failure("ENOENT");
+    return files[path];
+  };
   return {
     words,
     streams: [held_file(input), stream(0), stream(1)],
-    open: path => {
-      if (!Object.hasOwn(files, path)) throw failure("ENOENT");
-      return held_file(files[path]);
-    },
+    open: path => held_file(bytes_of(path)),
     make: () => { throw failure("EROFS"); },
+    look: path => ({ mode: TO_BE_READ, size: BigInt(bytes_of(path).length) }),
+    remove: path => {
+      bytes_of(path);
+      throw failure("EROFS");
+    },
   };
 }
 

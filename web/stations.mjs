@@ -17,6 +17,12 @@ const SAID = {
   pending: "written, and on its way: the other scorer hasn't yet", agreed: "agreed", differ: "the other wrote another line: write it again, both",
 };
 
+/**
+ * The rehearsal that is shown, if any.
+ * @type {Shown | null}
+ */
+let current = null;
+
 class Shown {
   /**
    * @param {Uint8Array} sheet
@@ -33,7 +39,8 @@ class Shown {
      * @type {Record<Desk, string>}
      */
     this.said = { a: "", b: "" };
-    this.is_busy = false;
+    this.asked = 0; // what isn't done yet
+    this.last = Promise.resolve();
     this.rehearsal = new Rehearsal(schedule => this.play(schedule));
   }
 
@@ -55,21 +62,34 @@ class Shown {
   }
 
   /**
-   * Does something that adds events, and shows what came of it. Nothing else is done meanwhile.
+   * Does something that adds events, and shows what came of it, once all is done that was asked for before: so nothing is lost that is
+   * typed or pressed meanwhile.
    * @param {() => Promise<void>} work
    */
-  async does(work) {
-    if (this.is_busy) return;
-    this.is_busy = true;
+  does(work) {
+    this.asked++;
     at("rehearsal").ariaBusy = "true";
+    const mine = this.last.then(() => this.turn(work));
+    this.last = mine.catch(() => undefined);
+    return mine;
+  }
+
+  /** @param {() => Promise<void>} work */
+  async turn(work) {
     try {
+      if (!this.is_shown()) return;
       await work();
       if (field("at-once").checked) await this.rehearsal.settle();
       await this.show();
     } finally {
-      this.is_busy = false;
-      at("rehearsal").ariaBusy = "false";
+      this.asked--;
+      if (this.is_shown()) at("rehearsal").ariaBusy = String(this.asked > 0);
     }
+  }
+
+  /** Whether it is still this rehearsal that is shown. */
+  is_shown() {
+    return current === this;
   }
 
   /** @param {Desk} desk @param {string} line */
@@ -128,7 +148,8 @@ class Shown {
     all.classList.toggle("down", !this.world.runs[desk]);
     form.onsubmit = event => {
       event.preventDefault();
-      this.does(() => this.pen(desk, line.value));
+      const typed = line.value;
+      this.does(() => this.pen(desk, typed));
     };
     power.type = "button";
     power.id = "power-" + desk;
@@ -155,6 +176,7 @@ class Shown {
   async show() {
     const focused = document.activeElement?.id;
     const rows = await this.board_rows();
+    if (!this.is_shown()) return;
     at("stations").replaceChildren(this.desk_shown("a"), this.desk_shown("b"), this.board_shown(rows));
     at("came").textContent = "Desk A: " + this.stands("a") + ". Desk B: " + this.stands("b") + ". The board: " + rows.split("\n")[0] + ".";
     const count = this.world.waiting.length;
@@ -178,8 +200,9 @@ class Shown {
  * @param {(match: import("./files.mjs").Match) => Promise<void>} show_match
  */
 export async function begin_rehearsal(sheet, program, show_match) {
-  const shown = new Shown(sheet, program, show_match);
+  const shown = current = new Shown(sheet, program, show_match);
   at("rehearsal").hidden = false;
+  at("rehearsal").ariaBusy = "false";
   at("next").onclick = () => shown.does(() => shown.write_both());
   at("ten").onclick = () => shown.does(async () => {
     for (let count = 0; count < MOST_AT_ONCE && shown.next; count++) {
@@ -198,5 +221,6 @@ export async function begin_rehearsal(sheet, program, show_match) {
 }
 
 export function end_rehearsal() {
+  current = null;
   at("rehearsal").hidden = true;
 }

@@ -16,7 +16,10 @@ const throwing = code => ({ read: () => { throw failure(code); }, write: () => {
 const places = {
   machine: () => machine(asked.words ?? []),
   memory: () => in_memory([], Object.fromEntries(Object.entries(asked.files).map(([name, text]) => [name, base64(text)])), base64(asked.input), [[], []]),
-  failing: () => ({ words: [], streams: [], open: code => throwing(code), make: code => { throw failure(code); } }),
+  failing: () => {
+    const refused = code => { throw failure(code); };
+    return { words: [], streams: [], open: code => throwing(code), make: refused, look: refused, remove: refused };
+  },
 };
 const run = new Run(places[asked.place]());
 run.memory = new WebAssembly.Memory({ initial: 64 });
@@ -34,6 +37,8 @@ const ways = {
   lseek: number => calls.lseek(number, 0n, 1),
   write: (number, text) => calls.write(number, put(DATA, base64(text)), BigInt(base64(text).length)),
   read: (number, count) => calls.read(number, BigInt(DATA), BigInt(count)),
+  statx: (text, flags) => calls.statx(-100, path(text), flags, 0xfff, BigInt(DATA)),
+  unlink: text => calls.unlink(path(text)),
   getentropy: count => calls.getentropy(BigInt(DATA), BigInt(count)),
   word: (which, room) => calls.rattle_arg(BigInt(which), BigInt(DATA), BigInt(room)),
   env: () => calls.rattle_env(path("HOME"), BigInt(DATA), 16n),
@@ -42,7 +47,7 @@ const ways = {
 };
 const answers = asked.calls.map(([name, ...values]) => {
   const answer = Number(ways[name](...values));
-  const data = name === "read" ? got(answer) : name === "word" ? got(answer === -2 ? values[1] : answer) : name === "limit" ? got(16) : "";
+  const data = name === "read" ? got(answer) : name === "word" ? got(answer === -2 ? values[1] : answer) : name === "limit" ? got(16) : name === "statx" && answer === 0 ? got(256) : "";
   return [answer, answer === -1 && ["word", "env"].includes(name) === false ? calls.rattle_errno() : 0, data];
 });
 fs.writeFileSync(process.argv[2], JSON.stringify(answers));

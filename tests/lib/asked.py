@@ -4,8 +4,17 @@ usage: asked.py OUT <CALLS
 """
 import base64, ctypes, json, os, sys
 
-F_DUPFD_CLOEXEC = 1030
+F_DUPFD_CLOEXEC, AT_FDCWD, TOLD = 1030, -100, 0xFFF
 C = ctypes.CDLL(None, use_errno=True)
+
+
+def facts(room):
+    """What is told of a file, but for what a file system says of it and where that is mounted."""
+    told = bytearray(room.raw[:256])
+    told[0:4] = (int.from_bytes(told[0:4], "little") & TOLD).to_bytes(4, "little")
+    told[8:16] = told[56:64] = bytes(8)
+    told[144:] = bytes(112)
+    return bytes(told)
 
 
 def answers(calls):
@@ -17,6 +26,11 @@ def answers(calls):
             answer = C.open(values[0].encode(), values[1], values[2])
         elif name == "dup":
             answer = C.fcntl(values[0], F_DUPFD_CLOEXEC, values[1])
+        elif name == "statx":
+            answer = C.statx(AT_FDCWD, values[0].encode(), values[1], TOLD, room)
+            data = facts(room) if answer == 0 else b""
+        elif name == "unlink":
+            answer = C.unlink(values[0].encode())
         elif name in ("close", "fsync"):
             answer = getattr(C, name)(values[0])
         elif name == "lseek":

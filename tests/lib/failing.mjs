@@ -27,7 +27,7 @@ function played(run, plan) {
   const [call, label, number, how] = plan.split(",");
   const [labels, noted] = [new Map(STREAMS.map((it, at) => [at, it])), []];
   let met = 0;
-  const told = (name, given) => (name === "open" ? run.text(given[0]).split("/").pop() : name === "getentropy" ? "random" : labels.get(given[0]) ?? "-");
+  const told = (name, given) => (["open", "statx", "unlink"].includes(name) ? run.text(given[Number(name === "statx")]).split("/").pop() : name === "getentropy" ? "random" : labels.get(given[0]) ?? "-");
   const less = (name, given) => given.map((it, at) => (at !== 2 ? it : name === "read" ? 1n : (it + 1n) / 2n));
   const failed = (name, errno) => { run.errno = errno; return COUNTED.includes(name) ? -1n : -1; };
   const made = (name, real, given) => {
@@ -45,7 +45,7 @@ function played(run, plan) {
     if (how === "torn" || how === "made") made(name, real, how === "torn" ? less(name, given) : given);
     return failed(name, how === "torn" || how === "made" ? EIO : Number(how));
   };
-  const shimmed = ["open", "fcntl", "close", "read", "write", "lseek", "fsync", "getentropy"];
+  const shimmed = ["open", "fcntl", "close", "read", "write", "lseek", "fsync", "statx", "unlink", "getentropy"];
   const calls = Object.fromEntries(Object.entries(calls_of(run)).map(([name, real]) => [name, shimmed.includes(name) ? asked(name, real) : real]));
   return { calls, noted, is_met: () => met >= Math.max(Number(number), 1) };
 }

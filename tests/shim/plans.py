@@ -196,10 +196,11 @@ def ends_of_words(plan, good, reads):
 
 
 def ends_of_key(plan, file):
-    """The same of a new key. That a signal interrupts what asks for randomness is told as any fault: it is asked once."""
+    """The same of a new key. That a signal interrupts what asks for randomness is told as any fault: it is asked once. Where it isn't told
+    whether the path is a folder, a file is made."""
     told = 3, Told(fault_at(re.escape(file)))
     if plan.call == "getentropy":
         return [told]
-    if goes_on(plan):
+    if goes_on(plan) or (plan.call, plan.label) == ("statx", "key"):
         return [(0, "")]
     return [told] if plan.label == "key" else ends_of_words(plan, (0, ""), {})
