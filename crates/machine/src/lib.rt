@@ -13,11 +13,11 @@ mod sockets;
 mod waiting;
 
 pub use address::{Address, addresses_in};
-pub use seal::MOST_PEERS;
 pub use keyboard::Keyboard;
 pub use monotonic_clock::MonotonicClock;
 pub use peers::Peers;
 pub use row_log::Written;
 pub use screen::{Outlet, Pieces, Screen, StandardStream, draw};
+pub use seal::MOST_PEERS;
 pub use sockets::Sockets;
 pub use waiting::WaitEnds;

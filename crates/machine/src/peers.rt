@@ -5,7 +5,8 @@ ghost use Rattle.std.specs.Prelude.{◌≡◌, ◌≤◌, ◌⊎◌, ℕ, [], If
 use crate::waiting::{NO_DESCRIPTOR, WaitEnds, wait_at};
 use links::{Receivers, Taken};
 use seal::{
-    CarriedLog, MOST_PEERS, Opener, SealedBuffer, SealedBytes, SealedCarrier, TaggedMessage, form_for,
+    CarriedLog, MOST_PEERS, Opener, SealedBuffer, SealedBytes, SealedCarrier, TaggedMessage,
+    form_for,
 };
 use std::io::{self, ErrorKind, Write};
 use std::net::{Net, SocketAddr, UdpSocket};

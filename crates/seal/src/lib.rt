@@ -7,7 +7,9 @@ mod laws;
 mod link;
 mod ring;
 
-pub use carrier::{CarriedLog, SEALED_ROOM, SealedBuffer, SealedBytes, SealedCarrier, TaggedMessage};
+pub use carrier::{
+    CarriedLog, SEALED_ROOM, SealedBuffer, SealedBytes, SealedCarrier, TaggedMessage,
+};
 pub use datagram::{Seal, hmac};
 pub use laws::{
     each_peer_has_its_seal, sealed_share_no_bytes, what_is_given_was_brought, what_opens_was_sent,

@@ -348,11 +348,16 @@ impl Sealing {
     /// The same, of a desk with keys for each pair: the fingerprint of the one that both desks have, and those of the boards', in
     /// their order.
     fn tell_keys_of_boards<E: Write>(&self, errors: &mut E) -> io::Result<()> {
-        let mut text = *b"sheet 0000-0000\nkey 0000-0000\nboard keys 0000-0000 0000-0000 0000-0000 0000-0000\n";
+        let mut text =
+            *b"sheet 0000-0000\nkey 0000-0000\nboard keys 0000-0000 0000-0000 0000-0000 0000-0000\n";
         put_digits(&mut text, 6, self.sheet_fingerprint());
         put_digits(&mut text, 20, self.ring.seal_for(0).fingerprint());
         for board in 0..4 {
-            put_digits(&mut text, 41 + 10 * board, self.ring.seal_for(board + 1).fingerprint());
+            put_digits(
+                &mut text,
+                41 + 10 * board,
+                self.ring.seal_for(board + 1).fingerprint(),
+            );
         }
         errors.write_all(&text[..])
     }

@@ -4,7 +4,8 @@ ghost use Rattle.std.specs.Prelude.{◌<◌};
 use super::*;
 use links::{Link, Receivers, Taken, Window};
 use seal::{
-    CarriedLog, Ring, Seal, Sealed, SealedBuffer, SealedBytes, SealedCarrier, TaggedMessage, form_for,
+    CarriedLog, Ring, Seal, Sealed, SealedBuffer, SealedBytes, SealedCarrier, TaggedMessage,
+    form_for,
 };
 use wire::MessageBytes;
 
@@ -107,7 +108,10 @@ fn windowed(alloc: Global, world: &World) -> Windowed<'_> {
     };
     Window::new(
         alloc,
-        Sealed::new(post, Ring::new(Asker::Board, [seal(), seal(), seal(), seal(), seal()])),
+        Sealed::new(
+            post,
+            Ring::new(Asker::Board, [seal(), seal(), seal(), seal(), seal()]),
+        ),
         hand,
         7,
     )
