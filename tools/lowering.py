@@ -1,16 +1,14 @@
 """The kit, and the LLVM module that it lowers the proved program to: what tools/web and tools/arm make other programs of.
 
-The module is kept, as text, in the file that LOWERED names, and taken from there where it is: so who makes both has the kit lower it once. Where
-CHECKED names the folder of a verdict (tools/kept), the program isn't proved again.
+The module is kept, as text, in the file that LOWERED names, and taken from there where it is: so who makes both has the kit check and lower it once.
 """
 import importlib, os, re, shutil, subprocess, sys, tempfile
 
 TOP = os.path.dirname(os.path.dirname(os.path.realpath(__file__)))
 RELEASED = f"{TOP}/released"
 TARGET = "x86_64-unknown-linux-gnu"
-# How the `main` of a module looks at the processor, up to where it begins the program; and what it does where that is too old.
-LOOKS = re.compile(r"^  %r\d+ = call ptr @__x86_get_cpuid_feature_leaf\((?:(?!^}|^\w+:).*\n)+?  br i1 %r\d+, label %run, label %refuse\n\nrun:.*\n", re.M)
-REFUSES = re.compile(r"^\nrefuse:.*\n(?:(?!^}|^\w+:).*\n)+?  (?:unreachable|ret i32 .*)\n(?=})", re.M)
+# The first of its processors: what later ones have of vectors the kit's clang can't compile for wasm64.
+CPU = "x86-64"
 CALL = re.compile(r"declare .*?@([\w.]+)\(")
 
 
@@ -94,31 +92,10 @@ exec '{kit.clang}' "$@"
     return folder
 
 
-def with_plain_main(text):
-    """A module whose `main` doesn't look at the processor, which is for x86-64 alone."""
-    start = text.find("\ndefine i32 @main()")
-    end = text.find("\n}\n", start) + 3
-    main = text[start:end]
-    for part in (LOOKS, REFUSES):
-        main, count = part.subn("", main)
-        if start < 0 or count != 1:
-            fail("the module of the program has another `main` than the one that is known here")
-    return text[:start] + main + text[end:]
-
-
 def built(kit, folder, out):
-    """Has the kit lower the proved program by the toolchain of this folder. It does so by a kept verdict, or checks the program again."""
+    """Has the kit check the program, and lower it by the toolchain of this folder."""
     words, kept = kit.build_words()
-    more = ["--target", TARGET, "--backend", "llvm", "--toolchain", folder, "-o", out]
-    verdict = os.environ.get("CHECKED")
-    if verdict and os.path.isdir(verdict):
-        cut = list(words)
-        for flag in ("--logic-built", "--jobs"):
-            del cut[cut.index(flag) : cut.index(flag) + 2]
-        done = subprocess.run([f"{kit.folder}/bin/rattle", "build", *cut, "--crate-checked", verdict, *more], stdin=subprocess.DEVNULL, capture_output=True, text=True, errors="replace")
-        if done.returncode == 0:
-            return
-        print(f"{os.path.basename(sys.argv[0])}: the kept verdict isn't taken, so ground is checked again: {done.stderr.strip()[-300:]}", file=sys.stderr)
+    more = ["--target", TARGET, "--cpu", CPU, "--backend", "llvm", "--toolchain", folder, "-o", out]
     ran("the check of ground, or its build,", f"{kit.folder}/bin/rattle", "build", *words, *kept, *more)
 
 
@@ -129,11 +106,7 @@ def made_by(kit, text):
         built(kit, keeping(kit, module, f"{work}/toolchain"), f"{work}/none.o")
         if not os.path.exists(module):
             fail("this kit hands its clang no module")
-        ran("clang", kit.clang, f"--target={TARGET}", "-x", "ir", module, "-S", "-emit-llvm", "-O0", "-Xclang", "-disable-llvm-passes", "-o", f"{work}/kept.ll")
-        with open(f"{work}/kept.ll", encoding="utf-8") as it:
-            plain = with_plain_main(it.read())
-    with open(f"{text}.new", "w", encoding="utf-8") as it:
-        it.write(plain)
+        ran("clang", kit.clang, f"--target={TARGET}", "-x", "ir", module, "-S", "-emit-llvm", "-O0", "-Xclang", "-disable-llvm-passes", "-o", f"{text}.new")
     os.replace(f"{text}.new", text)
 
 
