@@ -1,5 +1,5 @@
 /* Stands between a program and the kernel (LD_PRELOAD): notes each call that reaches a file, a stream or the network,
-   has one fail, and can play a program whose calls are wrong. It needs no header, and only 64-bit Linux on a PC.
+   has one fail, and can play a program whose calls are wrong. It needs no header of a system's, and Linux on x86-64 or aarch64.
 
    SHIM_LOG   the file that gets a line a call:
                   CALL LABEL RESULT ERRNO INODE OFFSET DATA
@@ -19,27 +19,13 @@
                   slow-sync       behind the first datagram each sync of a file takes 1.5 s
                   other-numbers   each rename gives all files other inode numbers */
 
-typedef unsigned long word;
-typedef long number;
-
-enum { READ = 0, WRITE = 1, OPEN = 2, CLOSE = 3, STAT = 4, FSTAT = 5, POLL = 7, LSEEK = 8, PREAD = 17, PWRITE = 18, IOCTL = 16, SOCKET = 41,
-       ACCEPT4 = 288, SENDTO = 44, RECVFROM = 45, SHUTDOWN = 48, BIND = 49, LISTEN = 50, GETSOCKNAME = 51, SETSOCKOPT = 54, GETSOCKOPT = 55,
-       EPOLL_WAIT = 232, EPOLL_CTL = 233, EPOLL_CREATE1 = 291, FCNTL = 72, FLOCK = 73, FSYNC = 74, NANOSLEEP = 35,
-       FDATASYNC = 75, FTRUNCATE = 77, RENAME = 82, UNLINK = 87, READLINK = 89, FCHMOD = 91, STATX = 332 };
+#include "kernel.h"
 enum { EIO = 5, CREATE = 0100, TRUNCATE = 01000, KIND = 0170000, REGULAR = 0100000, SOCKETS = 0140000, PIPES = 0010000,
        DEVICES = 0020000 };
 
 #include "environment.h"
 extern int *__errno_location(void);
 extern void *dlsym(void *, const char *);
-
-static number call(number which, number a, number b, number c, number d, number e, number f) {
-    register number r10 __asm__("r10") = d, r8 __asm__("r8") = e, r9 __asm__("r9") = f;
-    number result;
-    __asm__ volatile("syscall" : "=a"(result) : "a"(which), "D"(a), "S"(b), "d"(c), "r"(r10), "r"(r8), "r"(r9)
-                     : "rcx", "r11", "memory");
-    return result;
-}
 
 /* ---- the plan, from the environment ---- */
 
