@@ -22,7 +22,6 @@ use live::{Shows, SightLog};
 use machine_files::Replaces;
 use scoreboard::board_text;
 use setup::{StopFault, print_fault, printable};
-use station_pages::BoardPage;
 use station_screens::{Errors, Shared, retry};
 use std::alloc::{AllocError, Global};
 use std::cell::RefCell;
@@ -389,12 +388,13 @@ pub struct Shown<'e, 'v, 'a, F, P> {
     pub silence: Silence,
 }
 
-/// Tells those who look at a page what it shows now, where there is one.
-fn tell(page: Option<&RefCell<BoardPage>>, now: u64) {
-    if let Some(page) = page
+/// Sees to who looks at a page, where there is one, and tells them what it shows now.
+fn attend(audience: Audience<'_>, now: u64) {
+    if let Some(page) = audience.page
         && let Ok(mut page) = page.try_borrow_mut()
     {
-        page.tell(now);
+        page.attend(audience.called.get(), now);
+        audience.called.set(false);
     }
 }
 
@@ -425,7 +425,17 @@ impl<'a, T: Replaces, P: Replaces, E: Sink, B: BookOf + Drop> Shows<B>
         self.silence.tell(heard, now, &mut Shared::of(self.errors));
         self.page.show(sheet, book, trouble, heard, now);
         self.files.show(sheet, book, trouble, heard, now);
-        tell(self.audience.page, now);
+        attend(self.audience, now);
         Ok(())
+    }
+
+    fn longest_wait(&self) -> u64 {
+        match self.audience.page {
+            Some(page) => match page.try_borrow() {
+                Ok(page) => page.longest_wait(),
+                Err(_) => u64::MAX,
+            },
+            None => u64::MAX,
+        }
     }
 }

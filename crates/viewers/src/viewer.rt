@@ -71,6 +71,8 @@ pub struct Viewer<S: Stream> {
     is_signed: bool,
     since: u64,
     may_read: bool,
+    /// Whether it took all pieces that it was handed last, so that it may take more.
+    takes_more: bool,
     /// Whether nothing more comes from it.
     is_left: bool,
     is_gone: bool,
@@ -97,6 +99,7 @@ impl<S: Stream> Viewer<S> {
             is_signed: false,
             since: now,
             may_read: true,
+            takes_more: false,
             is_left: false,
             is_gone: false,
         }
@@ -122,6 +125,11 @@ impl<S: Stream> Viewer<S> {
         ensures { result ≡ self.now.is_signed }
     {
         self.is_signed
+    }
+
+    /// Whether more can be read of it, or taken by it, at once.
+    pub fn has_more(&self) -> bool {
+        !self.is_gone && (self.may_read || self.takes_more)
     }
 
     /// What it is at.
@@ -404,8 +412,10 @@ impl<S: Stream> Viewer<S> {
     fn send(&mut self, now: u64)
         ensures { self.new.said ≡ self.old.said }
     {
+        self.takes_more = true;
         for _ in 0..MOST_PIECES {
             if !self.hand_on(now) {
+                self.takes_more = false;
                 break;
             }
         }

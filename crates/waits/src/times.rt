@@ -64,10 +64,6 @@ pub const FILE_RETRY_WAIT: u64 = 1_000;
 /// Less than ten seconds, by more than a turn takes: whoever sees when the file was written knows whether its board lives.
 pub const LONGEST_STATE_AGE: u64 = 9_400;
 
-/// How many milliseconds a station waits at most that serves a page.
-/// So it sees ten times a second whether something new is shown.
-pub const LONGEST_PAGE_WAIT: u64 = 100;
-
 /// After how many milliseconds a viewer hears again that the station is there.
 /// A page that has missed three, by hearing nothing for seven seconds, says so.
 pub const VIEWER_BEAT: u64 = 2_000;
