@@ -21,6 +21,7 @@ mod peer;
 mod reminding;
 mod shows;
 mod sight_log;
+mod times;
 mod watch;
 
 pub use begin::begin_desk;

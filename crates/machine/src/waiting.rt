@@ -1,9 +1,9 @@
 //! Waiting until something can be read.
 
+use crate::times::LONGEST_PAGE_WAIT;
 use libc::net::{POLLIN, poll};
 use libc::types::pollfd;
 use std::os::fd::RawFd;
-use waits::LONGEST_PAGE_WAIT;
 
 /// What is passed over by a wait.
 pub const NO_DESCRIPTOR: RawFd = -1;

@@ -13,6 +13,7 @@ use crate::own::Own;
 use crate::places::{Places, is_behind, network_of};
 use crate::shown::Shown;
 use crate::station::Station;
+use crate::times::VIEWER_BEAT;
 use crate::viewer::Viewer;
 use agree_core::Position;
 use mio::net::{TcpListener, TcpStream};
@@ -23,7 +24,6 @@ use std::io;
 use std::net::{Net, SocketAddr};
 use std::os::fd::{AsRawFd, RawFd};
 use std::time::Duration;
-use waits::VIEWER_BEAT;
 
 /// How many are let in at once at most.
 const MOST_GUESTS: usize = 256;

@@ -17,6 +17,7 @@ mod replies;
 mod shown;
 mod station;
 mod stream;
+mod times;
 mod viewer;
 
 pub use asks::{Ask, Asked, Claim, Heading};

@@ -13,13 +13,13 @@ use crate::replies::{beat, reply, told};
 use crate::shown::Shown;
 use crate::station::Station;
 use crate::stream::{Stream, Wire};
+use crate::times::VIEWER_PATIENCE;
 use arrayvec::ArrayVec;
 use bytes::{Buf, BytesMut};
 use http1::{Event, Limits, Server, WriteError};
 use httparse::spans::{EMPTY_HEADER_SPAN, HeaderSpan, Span};
 use std::alloc::Global;
 use std::io;
-use waits::VIEWER_PATIENCE;
 
 /// How many pieces are read or written at once.
 const MOST_PIECES: u32 = 8;
