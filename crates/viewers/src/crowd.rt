@@ -73,7 +73,7 @@ impl Crowd {
             poll,
             events: Events::with_capacity(alloc, MOST_EVENTS)?,
             listener,
-            places: Places::new(alloc, station),
+            places: Places::new(alloc, station.kind),
             has_guests: true,
             beat: 0,
         })

@@ -3,7 +3,6 @@
 
 mod asks;
 mod crowd;
-mod desk_page;
 mod guest;
 mod host;
 mod inbox;
@@ -11,7 +10,6 @@ mod laws;
 mod listening;
 mod logs;
 mod own;
-mod page;
 mod places;
 mod replies;
 mod shown;
@@ -30,6 +28,6 @@ pub use listening::reached_at;
 pub use places::Places;
 pub use replies::reply;
 pub use shown::Shown;
-pub use station::Station;
+pub use station::{ServedPage, Station, StationKind};
 pub use stream::{Stream, Wire};
 pub use viewer::Viewer;

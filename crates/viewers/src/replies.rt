@@ -10,7 +10,7 @@ ghost use Rattle.viewers.specs.Replies as texts;
 
 use crate::asks::Ask;
 use crate::shown::Shown;
-use crate::station::{Station, page_of, policy_of};
+use crate::station::{Station, StationKind};
 use hex::encode_to_slice;
 use http1::{BodySize, Header, Server, WriteError};
 use itoa::Buffer;
@@ -28,18 +28,18 @@ const STREAM: &[u8] = b"text/event-stream";
 const BEAT: &[u8] = b"event: beat\ndata: -\n\n";
 
 /// What may be done at a station's page.
-fn allowed_at(station: Station) -> &'static [u8]
-    ensures { result.now ≡ texts.allowed_at station }
+fn allowed_at(kind: StationKind) -> &'static [u8]
+    ensures { result.now ≡ texts.allowed_at kind }
 {
-    match station {
-        Station::Board => b"GET, HEAD",
-        Station::Desk => b"GET, HEAD, POST",
+    match kind {
+        StationKind::Board => b"GET, HEAD",
+        StationKind::Desk => b"GET, HEAD, POST",
     }
 }
 
 /// Behind an answer that nothing can be had for the present: in how many seconds to ask again. Else what may be done.
-fn hint_of(station: Station, status: u16) -> Header<'static>
-    ensures { (result.name.now, result.value.now) ≡ texts.hint_of station status }
+fn hint_of(kind: StationKind, status: u16) -> Header<'static>
+    ensures { (result.name.now, result.value.now) ≡ texts.hint_of kind status }
 {
     if status == 503 {
         Header {
@@ -49,7 +49,7 @@ fn hint_of(station: Station, status: u16) -> Header<'static>
     } else {
         Header {
             name: b"allow",
-            value: allowed_at(station),
+            value: allowed_at(kind),
         }
     }
 }
@@ -77,9 +77,9 @@ fn fields_of(station: Station, status: u16, kind: &[u8]) -> [Header<'_>; 7]
         },
         Header {
             name: b"content-security-policy",
-            value: policy_of(station),
+            value: station.page.policy,
         },
-        hint_of(station, status),
+        hint_of(station.kind, status),
         Header {
             name: b"connection",
             value: b"close",
@@ -262,7 +262,7 @@ fn page(
         200,
         b"OK",
         HTML,
-        page_of(station),
+        station.page.text,
         is_head,
     )
 }
