@@ -14,7 +14,7 @@ mod ends;
 pub mod hearing;
 mod later;
 mod laws;
-pub mod lost_lines;
+mod lost_lines;
 mod outside;
 mod pace;
 mod peer;
