@@ -9,7 +9,7 @@ use cards::MatchSheet;
 use corrections::CheckedBook;
 use machine::{Address, MonotonicClock, WaitEnds};
 use setup::{StopFault, Stopped};
-use station_pages::{Attended, BoardPage};
+use station_pages::{BoardPage, PageClock};
 use station_screens::{Errors, Shared};
 use std::alloc::Global;
 use std::cell::{Cell, RefCell};
@@ -110,8 +110,8 @@ impl<'a> Page<'a> {
     pub fn clock<'c>(
         &self,
         machine: &'c HostRuntime,
-    ) -> Attended<'_, MonotonicClock<'c, HostRuntime>, BoardPage> {
-        Attended {
+    ) -> PageClock<'_, MonotonicClock<'c, HostRuntime>, BoardPage> {
+        PageClock {
             clock: MonotonicClock::new(machine),
             page: self.shown(),
         }

@@ -20,7 +20,7 @@ use machine::{Keyboard, MonotonicClock, Written};
 use posts::PostedLog;
 use seal::CarriedLog;
 use setup::{SheetFile, StationLink};
-use station_pages::{Attended, PageLines, PageSight, PageWords, ScorersPage, Squares};
+use station_pages::{PageClock, PageLines, PageSight, PageWords, ScorersPage, Squares};
 use std::cell::RefCell;
 use std::io::{Read, Write};
 use std::snapshot::Snapshot;
@@ -188,7 +188,7 @@ pub fn keep_on<'a, L: Carries + Drop, K: Enters, S: Squares, C: Clock, W: Record
         text,
         sheet,
     } = source;
-    let clock = Attended {
+    let clock = PageClock {
         clock: MonotonicClock::new(rt),
         page,
     };

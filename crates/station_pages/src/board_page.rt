@@ -3,8 +3,8 @@
 ghost use Rattle.std.specs.Prelude.{◌≡◌, ◌∷◌, ◌++◌, []};
 ghost use Rattle.station_pages.specs.Handed.{newest_or, texts_in};
 
-use crate::attended::Attends;
 use crate::handed::HandedLog;
+use crate::page_clock::Attends;
 use std::os::fd::RawFd;
 use viewers::Viewers;
 

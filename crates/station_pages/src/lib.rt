@@ -2,18 +2,18 @@
 //! rows that it shows, and the state.
 #![tactic(auto)]
 
-mod attended;
 mod board_page;
 mod handed;
+mod page_clock;
 mod page_lines;
 mod page_words;
 mod rows;
 mod scorers_page;
 mod sight;
 
-pub use attended::{Attended, Attends};
 pub use board_page::BoardPage;
 pub use handed::HandedLog;
+pub use page_clock::{Attends, PageClock};
 pub use page_lines::PageLines;
 pub use page_words::{PageWord, PageWords, Squares};
 pub use scorers_page::ScorersPage;

@@ -4,7 +4,7 @@ ghost use Rattle.std.specs.Prelude.{◌≡◌};
 ghost use Rattle.sha2.specs.Sha256.{sha256};
 ghost use Rattle.viewers.specs.Replies.{ShowsBook, ShowsOpenly};
 
-use crate::attended::Attends;
+use crate::page_clock::Attends;
 use crate::rows::Rows;
 use agree_core::Position;
 use posts::PostedLine;

@@ -10,8 +10,8 @@ use crate::guest::Guest;
 use crate::inbox::Inbox;
 use crate::listening::listener_at;
 use crate::own::Own;
+use crate::page_texts::PageTexts;
 use crate::places::{Places, is_behind, network_of};
-use crate::shown::Shown;
 use crate::station::Station;
 use crate::times::VIEWER_BEAT;
 use crate::viewer::Viewer;
@@ -147,7 +147,7 @@ impl Crowd {
     }
 
     /// Does what can be done at once.
-    fn pump(&mut self, shown: &Shown, inbox: &mut Option<Inbox>, now: u64) {
+    fn pump(&mut self, shown: &PageTexts, inbox: &mut Option<Inbox>, now: u64) {
         self.look();
         if self.has_guests {
             self.admit_all(now);
@@ -167,7 +167,7 @@ impl Crowd {
     }
 
     /// Tells all what is shown, or that the board is there.
-    fn tell(&mut self, shown: &Shown, now: u64) {
+    fn tell(&mut self, shown: &PageTexts, now: u64) {
         let is_beat = self.take_beat(now);
         self.places.tell(self.alloc, shown, is_beat, now);
     }
@@ -179,7 +179,7 @@ impl Crowd {
 pub struct Viewers {
     alloc: Global,
     crowd: Crowd,
-    shown: Shown,
+    shown: PageTexts,
     /// Of a desk what it tells its scorer alone.
     own: Own,
     inbox: Option<Inbox>,
@@ -197,7 +197,7 @@ impl Viewers {
         Ok(Viewers {
             alloc,
             crowd: Crowd::new(net, alloc, at, station)?,
-            shown: Shown::new(alloc, station),
+            shown: PageTexts::new(alloc, station),
             own: Own::new(alloc),
             inbox,
         })

@@ -11,13 +11,13 @@ pub trait Attends {
 
 /// A clock as another is. Whenever a station looks at it, as it does behind each wait, its page is seen to, where there is one.
 #[derive(Drop)]
-pub struct Attended<'p, C, P> {
+pub struct PageClock<'p, C, P> {
     pub clock: C,
     pub page: Option<&'p RefCell<P>>,
 }
 
-impl<C: Clock, P: Attends> Clock for Attended<'_, C, P> {
-    ghost readings = { λ attended. C.readings attended.clock };
+impl<C: Clock, P: Attends> Clock for PageClock<'_, C, P> {
+    ghost readings = { λ clock. C.readings clock.clock };
 
     fn millis(&mut self) -> u64 {
         let now = self.clock.millis();
