@@ -11,10 +11,11 @@ ghost use Rattle.board_command.specs.Hearing.{last_heard};
 ghost use Rattle.board_command.specs.inner.Due as due;
 ghost use Rattle.board_command.specs.inner.Due.{AreMade, IsMadeWhere, IsText};
 ghost use Rattle.board_command.specs.declared.files.TheConstants.{FOREVER};
-ghost use Rattle.waits.specs.declared.times.TheConstants.{LONGEST_STATE_AGE};
+ghost use Rattle.board_command.specs.declared.times.TheConstants.{LONGEST_STATE_AGE};
 
 use crate::hearing::{HeardAt, Silence};
 use crate::page::Audience;
+use crate::times::{FILE_RETRY_WAIT, LONGEST_STATE_AGE, SHORTEST_FILE_AGE};
 use board::{Trouble, Why};
 use cards::{MatchSheet, board_lines};
 use corrections::BookOf;
@@ -26,7 +27,6 @@ use station_screens::{Errors, Shared, retry};
 use std::alloc::{AllocError, Global};
 use std::cell::RefCell;
 use streams::{Sink, Watched, WriteFailed};
-use waits::{FILE_RETRY_WAIT, LONGEST_STATE_AGE, SHORTEST_FILE_AGE};
 
 /// A text stands as long as its book does.
 const FOREVER: u64 = u64::MAX;

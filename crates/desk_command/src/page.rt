@@ -12,7 +12,7 @@ use std::net::SocketAddr;
 use std::os::fd::RawFd;
 use std::random::RandomSource;
 use std::str;
-use viewers::{Inbox, Station, Viewers, reached_at};
+use viewers::{Inbox, ServedPage, Station, StationKind, Viewers, reached_at};
 
 /// A page, by whose secret a scorer signs. The secret stands in no link.
 #[derive(Drop)]
@@ -68,9 +68,13 @@ fn link_to(rt: &HostRuntime, at: SocketAddr, ticket: &[u8; 16]) -> io::Result<St
 }
 
 /// A page at an address, with a secret of the system's randomness.
-fn served_at(rt: &HostRuntime, at: &Address<'_>) -> io::Result<Served> {
+fn served_at(rt: &HostRuntime, at: &Address<'_>, page: ServedPage) -> io::Result<Served> {
     let inbox = Some(Inbox::new(random(rt)?));
-    let viewers = Viewers::new(rt, rt.alloc(), at.socket, Station::Desk, inbox)?;
+    let station = Station {
+        kind: StationKind::Desk,
+        page,
+    };
+    let viewers = Viewers::new(rt, rt.alloc(), at.socket, station, inbox)?;
     let now = MonotonicClock::new(rt).millis();
     Ok(Served {
         at: reached_at(rt, at.socket),
@@ -108,15 +112,19 @@ impl Served {
 }
 
 impl Page {
-    /// The page at an address, where one is given. Its secret is a new one each time.
-    pub fn at<'a>(rt: &HostRuntime, at: Option<Address<'a>>) -> Result<Page, Stopped<'a>> {
+    /// This page at an address, where one is given. Its secret is a new one each time.
+    pub fn at<'a>(
+        rt: &HostRuntime,
+        at: Option<Address<'a>>,
+        page: ServedPage,
+    ) -> Result<Page, Stopped<'a>> {
         let Some(at) = at else {
             return Ok(Page {
                 served: None,
                 called: Cell::new(true),
             });
         };
-        match served_at(rt, &at) {
+        match served_at(rt, &at, page) {
             Ok(served) => Ok(Page {
                 served: Some(served),
                 called: Cell::new(true),

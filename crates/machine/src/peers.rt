@@ -2,6 +2,7 @@
 
 ghost use Rattle.std.specs.Prelude.{◌≡◌, ◌≤◌, ◌⊎◌, ℕ, [], IfOk, length};
 
+use crate::times::SOCKET_CALL_WAIT;
 use crate::waiting::{NO_DESCRIPTOR, WaitEnds, wait_at};
 use links::{Receivers, Taken};
 use seal::{
@@ -13,7 +14,6 @@ use std::io::{self, ErrorKind, Write};
 use std::net::{Net, SocketAddr, UdpSocket};
 use std::os::fd::AsRawFd;
 use std::time::Duration;
-use waits::SOCKET_CALL_WAIT;
 
 /// Whether a call failed only because it could wait no longer.
 pub fn is_late(error: &io::Error) -> bool {

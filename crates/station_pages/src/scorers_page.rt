@@ -10,7 +10,10 @@ use posts::PostedLine;
 use std::alloc::Global;
 use std::os::fd::RawFd;
 use viewers::Viewers;
-use waits::WATCHERS_COUNT_PAUSE;
+
+/// For how many milliseconds those who look at a desk's page aren't counted again.
+/// Strangers who come and go fill no screen.
+const WATCHERS_COUNT_PAUSE: u64 = 5_000;
 
 /// The page of a desk: who looks at it, and the newest rows that its scorer was told.
 #[derive(Drop)]

@@ -10,9 +10,10 @@ use crate::guest::Guest;
 use crate::inbox::Inbox;
 use crate::listening::listener_at;
 use crate::own::Own;
+use crate::page_texts::PageTexts;
 use crate::places::{Places, is_behind, network_of};
-use crate::shown::Shown;
 use crate::station::Station;
+use crate::times::VIEWER_BEAT;
 use crate::viewer::Viewer;
 use agree_core::Position;
 use mio::net::{TcpListener, TcpStream};
@@ -23,7 +24,6 @@ use std::io;
 use std::net::{Net, SocketAddr};
 use std::os::fd::{AsRawFd, RawFd};
 use std::time::Duration;
-use waits::VIEWER_BEAT;
 
 /// How many are let in at once at most.
 const MOST_GUESTS: usize = 256;
@@ -75,7 +75,7 @@ impl Crowd {
             poll,
             events: Events::with_capacity(alloc, MOST_EVENTS)?,
             listener,
-            places: Places::new(alloc, station),
+            places: Places::new(alloc, station.kind),
             has_guests: true,
             beat: 0,
             told: 0,
@@ -150,7 +150,7 @@ impl Crowd {
     }
 
     /// Does what can be done at once. Where nobody called, the machine isn't asked who did.
-    fn pump(&mut self, shown: &Shown, inbox: &mut Option<Inbox>, is_called: bool, now: u64) {
+    fn pump(&mut self, shown: &PageTexts, inbox: &mut Option<Inbox>, is_called: bool, now: u64) {
         if is_called {
             self.look();
         }
@@ -172,7 +172,7 @@ impl Crowd {
     }
 
     /// Tells all what is shown, or that the board is there.
-    fn tell(&mut self, shown: &Shown, now: u64) {
+    fn tell(&mut self, shown: &PageTexts, now: u64) {
         let is_beat = self.take_beat(now);
         self.places.tell(self.alloc, shown, is_beat, now);
         self.told = now;
@@ -196,7 +196,7 @@ impl Crowd {
 pub struct Viewers {
     alloc: Global,
     crowd: Crowd,
-    shown: Shown,
+    shown: PageTexts,
     /// Of a desk what it tells its scorer alone.
     own: Own,
     inbox: Option<Inbox>,
@@ -214,7 +214,7 @@ impl Viewers {
         Ok(Viewers {
             alloc,
             crowd: Crowd::new(net, alloc, at, station)?,
-            shown: Shown::new(alloc, station),
+            shown: PageTexts::new(alloc, station),
             own: Own::new(alloc),
             inbox,
         })
