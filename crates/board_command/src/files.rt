@@ -274,8 +274,7 @@ fn texts_due<B: BookOf>(
         result }
 {
     let lines = wanted.lines.then(|| lines_of(alloc, sheet, book));
-    let state =
-        (wanted.state || wanted.script).then(|| state_of(alloc, sheet, book, moment));
+    let state = (wanted.state || wanted.script).then(|| state_of(alloc, sheet, book, moment));
     let script = wanted.script.then(|| script_of(alloc, &state));
     Texts {
         lines,
@@ -366,13 +365,7 @@ impl<T: Replaces, E: Sink, B: BookOf + Drop> Files<'_, T, E, B> {
     /// going on, or where a silence of the desks has begun or ended, at most ten times a second, and where it couldn't be written,
     /// once a second. State and script are otherwise written anew before ten seconds are over. A file that can't be written ends
     /// no board. What is due of the texts was made.
-    fn show(
-        &mut self,
-        sheet: &MatchSheet,
-        book: &B,
-        moment: Moment,
-        made: &Texts,
-    )
+    fn show(&mut self, sheet: &MatchSheet, book: &B, moment: Moment, made: &Texts)
         requires made { AreMade (due.due_of self.old moment)
             (given.lines_of (sight_of sheet.now (B.innings_a_side book.now) (B.content book.now) moment.trouble))
             (given.state_of (sight_of sheet.now (B.innings_a_side book.now) (B.content book.now) moment.trouble) moment.heard moment.now)

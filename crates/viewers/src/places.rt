@@ -359,9 +359,7 @@ impl<S: Stream + Drop> Places<S> {
 
     /// Whether more can be done at once for somebody.
     pub fn has_more(&self) -> bool {
-        self.viewers
-            .iter()
-            .any(|slot| slot.as_ref().is_some_and(|viewer| viewer.has_more()))
+        self.viewers.iter().any(|slot| slot.as_ref().is_some_and(|viewer| viewer.has_more()))
     }
 
     /// How many are told each new state.
