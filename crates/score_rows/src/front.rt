@@ -70,7 +70,6 @@ fn overs(form: Form, innings: Innings<'_>) -> Overs
 pub type Front<'a> = (Team<'a>, Runs, Overs, (&'static str, Batters<'a>));
 
 /// The row of an innings, to its batters.
-#[tactic(auto, unfolding(crate::specs::Row::front))]
 fn front<'a>(form: Form, innings: Innings<'a>) -> Front<'a>
     ensures { ForInnings innings.entry (λ s h i. ⟦<Front<'static> as Text>⟧.bytes result ≡ rows.front form s h i) }
 {

@@ -106,7 +106,7 @@ pub fn over_end(over: &[Placed]) -> OverEnd
     Some(("  ", count, " balls", uncalled(over)))
 }
 
-type Note = Option<(&'static str, u32, &'static str)>;
+type Note = Option<(&'static str, Option<(u32, &'static str)>)>;
 
 /// Of an over that was called with another number of deliveries that count than six, that number.
 fn note(count: u32) -> Note
@@ -115,9 +115,9 @@ fn note(count: u32) -> Note
     if count == 6 {
         None
     } else if count == 1 {
-        Some((" (", 1, " ball)"))
+        Some((" (1 ball)", None))
     } else {
-        Some((" (", count, " balls)"))
+        Some((" (", Some((count, " balls)"))))
     }
 }
 

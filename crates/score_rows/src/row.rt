@@ -45,7 +45,6 @@ type InningsRow<'a> = (
 );
 
 /// The row of an innings, and those below it.
-#[tactic(auto, unfolding(crate::specs::Row::innings_row))]
 fn innings_row<'a, B: BookOf>(
     sheet: &'a MatchSheet,
     book: &'a B,
