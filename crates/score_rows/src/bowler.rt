@@ -58,10 +58,7 @@ pub fn bowler<'a>(form: Form, innings: Innings<'a>, bowler: Option<Player>) -> B
     let player = bowler?;
     let side = opponent(innings.side());
     let row = innings.score.bowling_row(innings.index, player);
-    Some((
-        "  ",
-        bowler_text(form, innings.sheet, side, player, &row),
-    ))
+    Some(("  ", bowler_text(form, innings.sheet, side, player, &row)))
 }
 
 pub type Bowling<'a> = (Bowler<'a>, Past);

@@ -60,11 +60,7 @@ fn overs(form: Form, innings: Innings<'_>) -> Overs
     ensures { ForInnings innings.entry (λ s h i. ⟦<Overs as Text>⟧.bytes result ≡ rows.overs_text form s h i) }
 {
     let limit = innings.sheet.limits().overs_for(innings.index);
-    (
-        overs_front(innings),
-        of_overs(form.limit_in(limit)),
-        ")",
-    )
+    (overs_front(innings), of_overs(form.limit_in(limit)), ")")
 }
 
 pub type Front<'a> = (Team<'a>, Runs, Overs, (&'static str, Batters<'a>));

@@ -32,12 +32,7 @@ type TwoPlaces = (u64, &'static str, u64, u64);
 fn two_places(hundredths: u64) -> TwoPlaces
     ensures { ⟦<TwoPlaces as Text>⟧.bytes result ≡ rates.two_places hundredths }
 {
-    (
-        hundredths / 100,
-        ".",
-        hundredths / 10 % 10,
-        hundredths % 10,
-    )
+    (hundredths / 100, ".", hundredths / 10 % 10, hundredths % 10)
 }
 
 type Rate = Option<(&'static str, TwoPlaces, &'static str)>;
@@ -152,11 +147,7 @@ type Left = (u32, Rest, &'static str);
 fn left(deliveries: u32) -> Left
     ensures { ⟦<Left as Text>⟧.bytes result ≡ limited.left_text deliveries }
 {
-    (
-        deliveries / 6,
-        rest(deliveries % 6),
-        overs_word(deliveries),
-    )
+    (deliveries / 6, rest(deliveries % 6), overs_word(deliveries))
 }
 
 /// That all overs are bowled.
@@ -342,11 +333,7 @@ fn line_for<'a, B: BookOf>(
 pub type LimitsLine<'a> = Option<LineFor<'a>>;
 
 /// What is left of an innings and of the bowler's overs, in a line, where the sheet limits either and the innings is open.
-pub fn limits_line<'a, B: BookOf>(
-    sheet: &'a MatchSheet,
-    book: &B,
-    innings: usize,
-) -> LimitsLine<'a>
+pub fn limits_line<'a, B: BookOf>(sheet: &'a MatchSheet, book: &B, innings: usize) -> LimitsLine<'a>
     requires { innings < begun (history_of (B.content book.now)) }
     ensures { ⟦<LimitsLine<'static> as Text>⟧.bytes result
         ≡ limited.limits_line sheet.now (history_of (B.content book.now)) innings }

@@ -174,11 +174,7 @@ fn over_line<'a, B: BookOf>(sheet: &'a MatchSheet, book: &'a B, innings: usize) 
 type CheckLines<'a> = (TotalLine<'a>, BattersLine<'a>, OverLine<'a>, LimitsLine<'a>);
 
 /// The check of an over of an innings.
-fn check_lines<'a, B: BookOf>(
-    sheet: &'a MatchSheet,
-    book: &'a B,
-    innings: usize,
-) -> CheckLines<'a>
+fn check_lines<'a, B: BookOf>(sheet: &'a MatchSheet, book: &'a B, innings: usize) -> CheckLines<'a>
     requires { innings < begun (history_of (B.content book.now)) }
     ensures { ⟦<CheckLines<'static> as Text>⟧.bytes result
         ≡ check.check_lines sheet.now (history_of (B.content book.now)) innings }

@@ -45,11 +45,7 @@ type InningsRow<'a> = (
 );
 
 /// The row of an innings, and those below it.
-fn innings_row<'a, B: BookOf>(
-    sheet: &'a MatchSheet,
-    book: &'a B,
-    innings: usize,
-) -> InningsRow<'a>
+fn innings_row<'a, B: BookOf>(sheet: &'a MatchSheet, book: &'a B, innings: usize) -> InningsRow<'a>
     requires { innings < begun (history_of (B.content book.now)) }
     ensures { ⟦<InningsRow<'static> as Text>⟧.bytes result ≡ rows.innings_row
         sheet.now (B.innings_a_side book.now) (history_of (B.content book.now)) innings }
