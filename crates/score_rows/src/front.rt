@@ -63,17 +63,20 @@ fn overs(form: Form, innings: Innings<'_>) -> Overs
     (overs_front(innings), of_overs(form.limit_in(limit)), ")")
 }
 
-pub type Front<'a> = (Team<'a>, Runs, Overs, (&'static str, Batters<'a>));
+pub type Front<'a> = ((Team<'a>, Runs, Overs, &'static str), Batters<'a>);
 
 /// The row of an innings, to its batters.
 fn front<'a>(form: Form, innings: Innings<'a>) -> Front<'a>
     ensures { ForInnings innings.entry (λ s h i. ⟦<Front<'static> as Text>⟧.bytes result ≡ rows.front form s h i) }
 {
     (
-        team(form, innings),
-        runs(innings),
-        overs(form, innings),
-        ("  ", batters(form, innings)),
+        (
+            team(form, innings),
+            runs(innings),
+            overs(form, innings),
+            "  ",
+        ),
+        batters(form, innings),
     )
 }
 

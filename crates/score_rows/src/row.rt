@@ -38,10 +38,9 @@ fn limits_below<'a, B: BookOf>(
 }
 
 type InningsRow<'a> = (
-    Above<'a>,
-    Line<'a>,
-    &'static str,
-    (LimitsBelow<'a>, NeedsRow, ResultRow<'a>),
+    (Above<'a>, Line<'a>, &'static str, LimitsBelow<'a>),
+    NeedsRow,
+    ResultRow<'a>,
 );
 
 /// The row of an innings, and those below it.
@@ -58,14 +57,14 @@ fn innings_row<'a, B: BookOf>(sheet: &'a MatchSheet, book: &'a B, innings: usize
         index: innings,
     };
     (
-        above(form, now),
-        line_in(form, sheet, book, innings),
-        "\n",
         (
+            above(form, now),
+            line_in(form, sheet, book, innings),
+            "\n",
             limits_below(form, sheet, book, innings),
-            needs_row(score, left_now(now)),
-            result_row(sheet, score),
         ),
+        needs_row(score, left_now(now)),
+        result_row(sheet, score),
     )
 }
 
