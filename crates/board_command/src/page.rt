@@ -7,15 +7,15 @@ use crate::pane::{Kind, Pane, copy_of};
 use crate::waiting::{LINES, waiting_state};
 use cards::MatchSheet;
 use corrections::CheckedBook;
-use machine::{Address, MonotonicClock, WaitEnds};
+use machine::{Address, WaitEnds};
 use setup::{StopFault, Stopped};
-use station_pages::{Attended, BoardPage};
+use station_pages::BoardPage;
 use station_screens::{Errors, Shared};
 use std::alloc::Global;
 use std::cell::{Cell, RefCell};
 use std::io::Write;
 use std::os::fd::RawFd;
-use viewers::{Station, Viewers, reached_at};
+use viewers::{ServedPage, Station, StationKind, Viewers, reached_at};
 
 /// What a page shows of a board, as its files do.
 type Panes<'v, 's, 'a> = Files<'a, Pane<'v>, Told<'s, 'a>, CheckedBook>;
@@ -35,25 +35,37 @@ pub struct Page<'a> {
     served: Option<Served<'a>>,
     /// When the board's link heard the desks.
     hearing: Cell<HeardAt>,
+    /// Whether somebody came or asks there: so it is at first.
+    called: Cell<bool>,
 }
 
-/// The page, if there is one, and when the board's link heard the desks.
+/// The page, if there is one; when the board's link heard the desks; and whether somebody came or asks at the page.
 #[derive(Clone, Copy)]
 pub struct Audience<'v> {
     pub page: Option<&'v RefCell<BoardPage>>,
     pub hearing: &'v Cell<HeardAt>,
+    pub called: &'v Cell<bool>,
 }
 
 impl<'a> Page<'a> {
-    /// The page at an address, where one is given.
-    pub fn at(rt: &HostRuntime, at: Option<Address<'a>>) -> Result<Page<'a>, Stopped<'a>> {
+    /// This page at an address, where one is given.
+    pub fn at(
+        rt: &HostRuntime,
+        at: Option<Address<'a>>,
+        page: ServedPage,
+    ) -> Result<Page<'a>, Stopped<'a>> {
         let Some(at) = at else {
             return Ok(Page {
                 served: None,
                 hearing: Cell::new(HeardAt::begun(0)),
+                called: Cell::new(true),
             });
         };
-        match Viewers::new(rt, rt.alloc(), at.socket, Station::Board, None) {
+        let station = Station {
+            kind: StationKind::Board,
+            page,
+        };
+        match Viewers::new(rt, rt.alloc(), at.socket, station, None) {
             Ok(viewers) => {
                 let ends = viewers.descriptor();
                 Ok(Page {
@@ -63,6 +75,7 @@ impl<'a> Page<'a> {
                         page: RefCell::new(BoardPage::new(viewers)),
                     }),
                     hearing: Cell::new(HeardAt::begun(0)),
+                    called: Cell::new(true),
                 })
             }
             Err(_) => Err(Stopped::at(at.text, StopFault::Listen)),
@@ -74,11 +87,17 @@ impl<'a> Page<'a> {
         &self.hearing
     }
 
-    /// What is seen to, and that.
+    /// Where it is noted that somebody came or asks there.
+    pub fn called(&self) -> &Cell<bool> {
+        &self.called
+    }
+
+    /// What is seen to, and both.
     pub fn audience(&self) -> Audience<'_> {
         Audience {
             page: self.shown(),
             hearing: &self.hearing,
+            called: &self.called,
         }
     }
 
@@ -95,17 +114,6 @@ impl<'a> Page<'a> {
         WaitEnds {
             keyboard: None,
             page: self.served.as_ref().map(|served| served.ends),
-        }
-    }
-
-    /// The machine's clock, at each look at which it is seen to.
-    pub fn clock<'c>(
-        &self,
-        machine: &'c HostRuntime,
-    ) -> Attended<'_, MonotonicClock<'c, HostRuntime>, BoardPage> {
-        Attended {
-            clock: MonotonicClock::new(machine),
-            page: self.shown(),
         }
     }
 

@@ -6,13 +6,13 @@ use machine::{Address, MonotonicClock, WaitEnds, draw};
 use qr::code_of;
 use setup::{StopFault, Stopped};
 use station_pages::{PageWord, ScorersPage, Squares};
-use std::cell::RefCell;
+use std::cell::{Cell, RefCell};
 use std::io::{self, ErrorKind, IsTerminal, Write};
 use std::net::SocketAddr;
 use std::os::fd::RawFd;
 use std::random::RandomSource;
 use std::str;
-use viewers::{Inbox, Station, Viewers, reached_at};
+use viewers::{Inbox, ServedPage, Station, StationKind, Viewers, reached_at};
 
 /// A page, by whose secret a scorer signs. The secret stands in no link.
 #[derive(Drop)]
@@ -28,6 +28,15 @@ struct Served {
 #[derive(Drop)]
 pub struct Page {
     served: Option<Served>,
+    /// Whether somebody came or asks there: so it is at first.
+    called: Cell<bool>,
+}
+
+/// The page, if there is one, and whether somebody came or asks there.
+#[derive(Clone, Copy)]
+pub struct Audience<'p> {
+    pub page: Option<&'p RefCell<ScorersPage>>,
+    pub called: &'p Cell<bool>,
 }
 
 /// Shows the squares of a page while its desk runs.
@@ -59,9 +68,13 @@ fn link_to(rt: &HostRuntime, at: SocketAddr, ticket: &[u8; 16]) -> io::Result<St
 }
 
 /// A page at an address, with a secret of the system's randomness.
-fn served_at(rt: &HostRuntime, at: &Address<'_>) -> io::Result<Served> {
+fn served_at(rt: &HostRuntime, at: &Address<'_>, page: ServedPage) -> io::Result<Served> {
     let inbox = Some(Inbox::new(random(rt)?));
-    let viewers = Viewers::new(rt, rt.alloc(), at.socket, Station::Desk, inbox)?;
+    let station = Station {
+        kind: StationKind::Desk,
+        page,
+    };
+    let viewers = Viewers::new(rt, rt.alloc(), at.socket, station, inbox)?;
     let now = MonotonicClock::new(rt).millis();
     Ok(Served {
         at: reached_at(rt, at.socket),
@@ -99,14 +112,22 @@ impl Served {
 }
 
 impl Page {
-    /// The page at an address, where one is given. Its secret is a new one each time.
-    pub fn at<'a>(rt: &HostRuntime, at: Option<Address<'a>>) -> Result<Page, Stopped<'a>> {
+    /// This page at an address, where one is given. Its secret is a new one each time.
+    pub fn at<'a>(
+        rt: &HostRuntime,
+        at: Option<Address<'a>>,
+        page: ServedPage,
+    ) -> Result<Page, Stopped<'a>> {
         let Some(at) = at else {
-            return Ok(Page { served: None });
+            return Ok(Page {
+                served: None,
+                called: Cell::new(true),
+            });
         };
-        match served_at(rt, &at) {
+        match served_at(rt, &at, page) {
             Ok(served) => Ok(Page {
                 served: Some(served),
+                called: Cell::new(true),
             }),
             Err(_) => Err(Stopped::at(at.text, StopFault::Listen)),
         }
@@ -117,6 +138,19 @@ impl Page {
         match &self.served {
             Some(served) => Some(&served.page),
             None => None,
+        }
+    }
+
+    /// Where it is noted that somebody came or asks there.
+    pub fn called(&self) -> &Cell<bool> {
+        &self.called
+    }
+
+    /// What is seen to, and that.
+    pub fn audience(&self) -> Audience<'_> {
+        Audience {
+            page: self.scorers(),
+            called: &self.called,
         }
     }
 

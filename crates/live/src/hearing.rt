@@ -220,7 +220,7 @@ fn take_next<S: SlotsOf, B: BookOf + Drop, L: Link, K: Keys, C: Clock, W: Sink>(
         out,
         ..
     } = outside;
-    let wait = say(desk, link, clock, &mut between.pace);
+    let wait = say(desk, link, clock, &mut between.pace).min(between.shown_wait);
     let mut buffer = [0; ROOM];
     match link.take_message(desk.game(), &mut buffer, wait) {
         Arrival::Datagram(_, read) => {

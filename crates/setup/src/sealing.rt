@@ -21,6 +21,7 @@ use machine::{Address, MOST_PEERS, MonotonicClock, Peers, WaitEnds};
 use machine_files::is_same_file;
 use seal::{Receipts, Ring, Seal, Sealed};
 use std::alloc::Global;
+use std::cell::Cell;
 use std::fs;
 use std::io::{self, Write};
 use std::net::SocketAddr;
@@ -28,7 +29,7 @@ use std::os::unix::fs::MetadataExt;
 use streams::{Feed, Watched, read_all};
 
 /// A station's link: in a window, over sealed datagrams, at a socket.
-pub type StationLink<'r, E> = Window<Sealed<Peers<E>>, MonotonicClock<'r, HostRuntime>>;
+pub type StationLink<'r, 'w, E> = Window<Sealed<Peers<'w, E>>, MonotonicClock<'r, HostRuntime>>;
 
 /// How many bytes a key has at least.
 pub const SHORTEST_KEY: usize = 16;
@@ -386,30 +387,32 @@ impl Sealing {
         Receipts::of(alloc, &self.ring).map_err(|_| Stopped::at(path, StopFault::NoMemory))
     }
 
-    /// A station's sealed datagrams at its address, of which none passed yet. Its waits end for these too.
-    pub fn sealed_at<'a, E: Write + Drop>(
+    /// A station's sealed datagrams at its address, of which none passed yet. Its waits end for these too: where that is for
+    /// their page, it is noted.
+    pub fn sealed_at<'a, 'w, E: Write + Drop>(
         &self,
         rt: &HostRuntime,
         at: Address<'a>,
         peers: [Option<SocketAddr>; MOST_PEERS],
         ends: WaitEnds,
+        called: &'w Cell<bool>,
         errors: E,
-    ) -> Result<Sealed<Peers<E>>, Stopped<'a>>
+    ) -> Result<Sealed<Peers<'w, E>>, Stopped<'a>>
         ensures ring { IfOk result (λ sealed. sealed.ring ≡ self.now.ring) }
         ensures log { IfOk result (λ sealed. carried_of sealed.carrier.log ≡ []) }
     {
         let receipts = self.receipts(rt.alloc(), at.text)?;
-        let peers = peers_at(rt, at, peers, ends, self.ring.opener(), errors)?;
+        let peers = peers_at(rt, at, peers, ends, called, self.ring.opener(), errors)?;
         Ok(Sealed::new(peers, self.ring.copied(), receipts))
     }
 
     /// A station's link over its sealed datagrams, of which none passed yet. It has no socket but theirs.
-    pub fn link_over<'r, E: Write + Drop>(
+    pub fn link_over<'r, 'w, E: Write + Drop>(
         &self,
         alloc: Global,
         clock: MonotonicClock<'r, HostRuntime>,
-        sealed: Sealed<Peers<E>>,
-    ) -> StationLink<'r, E>
+        sealed: Sealed<Peers<'w, E>>,
+    ) -> StationLink<'r, 'w, E>
         requires { carried_of sealed.carrier.log ≡ [] }
         ensures game { result.game ≡ self.now.game }
         ensures above { result.above ≡ [] }

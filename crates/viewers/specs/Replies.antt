@@ -9,28 +9,17 @@ use Rattle.http1.specs.Server.{after_response, planned_response, writing}
 use Rattle.http1.specs.Conn.{after_data, data_text, finish_text}
 use Rattle.viewers.specs.declared.asks.{Ask.Ask, Asked.Asked}
 use Rattle.viewers.specs.declared.asks.Ask.TheVariants.{Page, Lines, State, Book, Events, Given, Typed, Signed, Handed, Unready, Full, Missing, Method, Foreign, Faulty}
-use Rattle.viewers.specs.declared.{shown.Shown.Shown, station.Station.Station}
-use Rattle.viewers.specs.declared.page.TheConstants as board
-use Rattle.viewers.specs.declared.desk_page.TheConstants as desk
-use Rattle.viewers.specs.declared.station.Station.TheVariants.{Board, Desk}
-
--- a station's page, and what may be run and loaded in it
-abbrev pub page_of : Station → List ℕ
-page_of Board = board.PAGE.now
-page_of Desk = desk.PAGE.now
-
-abbrev pub policy_of : Station → List ℕ
-policy_of Board = board.POLICY.now
-policy_of Desk = desk.POLICY.now
+use Rattle.viewers.specs.declared.{page_texts.PageTexts.PageTexts, station.Station.Station, station.StationKind.StationKind}
+use Rattle.viewers.specs.declared.station.StationKind.TheVariants.{Board, Desk}
 
 -- what may be done at a station's page
-abbrev pub allowed_at : Station → List ℕ
+abbrev pub allowed_at : StationKind → List ℕ
 allowed_at Board = codes "GET, HEAD"
 allowed_at Desk = codes "GET, HEAD, POST"
 
 -- where nothing can be had for the present, in how many seconds to ask again, and else what may be done
-abbrev pub hint_of : Station → ℕ → Header
-hint_of station status = if status == 503 then (codes "retry-after", codes "2") else (codes "allow", allowed_at station)
+abbrev pub hint_of : StationKind → ℕ → Header
+hint_of kind status = if status == 503 then (codes "retry-after", codes "2") else (codes "allow", allowed_at kind)
 
 -- the fields of each head, with what kind of text follows it
 abbrev pub fields_of : Station → ℕ → List ℕ → List Header
@@ -39,8 +28,8 @@ fields_of station status kind =
     ∷ (codes "cache-control", codes "no-store")
     ∷ (codes "x-content-type-options", codes "nosniff")
     ∷ (codes "referrer-policy", codes "no-referrer")
-    ∷ (codes "content-security-policy", policy_of station)
-    ∷ hint_of station status
+    ∷ (codes "content-security-policy", (station.page.policy).now)
+    ∷ hint_of station.kind status
     ∷ (codes "connection", codes "close")
     ∷ []
 
@@ -75,7 +64,7 @@ abbrev pub stream_text : Server → Station → List ℕ
 stream_text s station = planned_response s 200 (codes "OK") Unknown (fields_of station 200 events)
 
 abbrev pub page_text : Server → Station → Bool → List ℕ
-page_text s station head = whole_text s station 200 (codes "OK") html (page_of station) head
+page_text s station head = whole_text s station 200 (codes "OK") html (station.page.text).now head
 
 -- a nonce, as a text of one line
 abbrev pub nonce_text : Server → Station → ℕ → List ℕ
@@ -86,7 +75,7 @@ abbrev pub handed_text : Server → Station → List ℕ → List ℕ
 handed_text s station hidden = whole_text s station 200 (codes "OK") plain (encode_lower hidden ++ codes "\n") false
 
 -- the answer to what is asked for, while this is shown
-abbrev pub answer_text : Server → Ask → Bool → Shown → List ℕ
+abbrev pub answer_text : Server → Ask → Bool → PageTexts → List ℕ
 answer_text s Page head shown = page_text s shown.station head
 answer_text s Lines head shown =
     whole_text s shown.station 200 (codes "OK") plain shown.lines.items head
@@ -104,7 +93,7 @@ answer_text s Method head shown = whole_text s shown.station 405 (codes "Not All
 answer_text s Foreign head shown = whole_text s shown.station 403 (codes "Forbidden") plain (codes "another host\n") head
 answer_text s (Faulty status) head shown = whole_text s shown.station status (codes "Refused") plain (codes "refused\n") head
 
-abbrev pub reply_text : Server → Asked → Shown → List ℕ
+abbrev pub reply_text : Server → Asked → PageTexts → List ℕ
 reply_text s asked shown = answer_text s asked.ask asked.is_head shown
 
 -- a text that ends its own line, as an event with its number
@@ -112,24 +101,24 @@ abbrev pub event_of : ℕ → List ℕ → List ℕ
 event_of number text = codes "id: " ++ decimal number ++ codes "\ndata: " ++ text ++ codes "\n"
 
 -- the number of what is shown to who is signed or isn't
-abbrev pub number_for : Bool → Shown → ℕ
+abbrev pub number_for : Bool → PageTexts → ℕ
 number_for true shown = shown.veiled.number
 number_for false shown = shown.number
 
 -- what is shown, as an event: to who is signed what is hidden by the secret of the desk's page, and to all others the state
-abbrev pub event : Bool → Shown → List ℕ
+abbrev pub event : Bool → PageTexts → List ℕ
 event true shown = event_of shown.veiled.number shown.veiled.text.items
 event false shown = event_of shown.number shown.state.items
 
 -- to who has asked for each new state, and is signed or isn't: the state, or that there is none but that the station is there
-abbrev pub told_text : Server → Bool → Shown → List ℕ
+abbrev pub told_text : Server → Bool → PageTexts → List ℕ
 told_text s is_signed shown = data_text (writing s) (event is_signed shown)
 
 abbrev pub beat_text : Server → List ℕ
 beat_text s = data_text (writing s) (codes "event: beat\ndata: -\n\n")
 
 -- of what is shown all that isn't hidden is the same
-pub record SameOpenly (one other : Shown) : Type 0 where
+pub record SameOpenly (one other : PageTexts) : Type 0 where
   pub station : other.station ≡ one.station
   pub lines : other.lines.items ≡ one.lines.items
   pub state : other.state.items ≡ one.state.items
@@ -141,7 +130,7 @@ abbrev pub next_number : ℕ → List ℕ → List ℕ → ℕ
 next_number number before state = if bytes_eq before state then number else min (number + 1) (2 ^ 64 - 1)
 
 -- of all that isn't hidden the state is this one from here on, and nothing else is another
-pub record ShowsOpenly (state : List ℕ) (before after : Shown) : Type 0 where
+pub record ShowsOpenly (state : List ℕ) (before after : PageTexts) : Type 0 where
   pub station : after.station ≡ before.station
   pub lines : after.lines.items ≡ before.lines.items
   pub book : after.book.items ≡ before.book.items
@@ -149,7 +138,7 @@ pub record ShowsOpenly (state : List ℕ) (before after : Shown) : Type 0 where
   pub number : after.number ≡ next_number before.number before.state.items state
 
 -- of all that isn't hidden the book is this one from here on, and nothing else is another
-pub record ShowsBook (book : List ℕ) (before after : Shown) : Type 0 where
+pub record ShowsBook (book : List ℕ) (before after : PageTexts) : Type 0 where
   pub station : after.station ≡ before.station
   pub lines : after.lines.items ≡ before.lines.items
   pub state : after.state.items ≡ before.state.items

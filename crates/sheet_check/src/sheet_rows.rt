@@ -2,7 +2,7 @@
 
 ghost use Rattle.std.specs.Prelude.{◌≡◌, ◌++◌, codes, decimal, string_bytes, true, IfOk, OnOk};
 ghost use Rattle.std.specs.List.{list_all};
-ghost use Rattle.sheet_check.specs.Shown as texts;
+ghost use Rattle.sheet_check.specs.SheetRows as texts;
 ghost use Rattle.notation.specs.Written.{is_player};
 
 use crate::putting::push_number;

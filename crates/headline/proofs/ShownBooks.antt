@@ -13,7 +13,7 @@ use Rattle.headline.specs.declared.{event.Station.Station, version.FileVersion.F
 use Rattle.headline.specs.Setting.{Setting}
 use Rattle.headline.specs.Configurations.{Process, Configuration, board_at, node, process_disk, process_votes, all_votes}
 use Rattle.headline.specs.Runs.{AtEachMoment, AtSomeMoment, Moment, Run, Shows, last_of, process_shows}
-use Rattle.headline.specs.Kept.{kept_by_process, NoneKeepsBoth}
+use Rattle.headline.specs.KeptVotes.{kept_by_process, NoneKeepsBoth}
 use Rattle.headline.specs.Besides.{KeepsVotes, KeptSafe, StandsFast, WithinAgreed, AtEachEvent}
 use Rattle.headline.specs.Headline.{ArePrefixes, ByBoth}
 use Rattle.agree_core.specs.Keeping.{ShowsMore, DiskFine}

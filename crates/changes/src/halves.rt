@@ -1,9 +1,9 @@
-//! What is, and what was: in one row, or in two.
+//! The two halves of what a change tells, what is and what was: in one row, or in two.
 
 ghost use Rattle.std.specs.Prelude.{◌≡◌, ◌-◌, ◌++◌, length, OnOk};
 ghost use Rattle.streams.specs.Watched.{Prints, TellsFailure};
 ghost use Rattle.changes.specs.Rows as rows;
-ghost use Rattle.changes.specs.inner.Words.{told_text};
+ghost use Rattle.changes.specs.inner.Halves.{half_text};
 
 use crate::fate::{behind_batting, print_batting};
 use crate::figures::{
@@ -15,9 +15,9 @@ use match_laws::{BattingRow, BowlingRow};
 use notation::Side;
 use streams::{Sink, Watched, WriteFailed};
 
-/// What a row tells of one stage.
+/// One of them: what is told of one stage.
 #[derive(Clone, Copy)]
-pub enum Told<'a> {
+pub enum Half<'a> {
     /// What became of a batter of the side, with his figures.
     Batting(Side, BattingRow),
     /// A batter's runs and balls faced.
@@ -38,34 +38,34 @@ fn print<W: Sink>(out: &mut Watched<W>, text: &str) -> Result<(), WriteFailed>
     write!(out, "{text}")
 }
 
-/// Prints what a row tells of one stage.
-fn print_told<W: Sink>(
+/// Prints a half.
+fn print_half<W: Sink>(
     out: &mut Watched<W>,
     sheet: &MatchSheet,
-    told: &Told<'_>,
+    half: &Half<'_>,
 ) -> Result<(), WriteFailed>
-    ensures text { OnOk result (Prints W.contents out.old out.new (told_text sheet.now told.now)) }
+    ensures text { OnOk result (Prints W.contents out.old out.new (half_text sheet.now half.now)) }
     ensures failed { TellsFailure result out.old out.new }
 {
-    match told {
-        Told::Batting(side, row) => print_batting(out, sheet, *side, row),
-        Told::Figures(row) => print_figures(out, row),
-        Told::Bowling(same, row) => print_bowling(out, *same, row),
-        Told::Total(total) => print_total(out, *total),
-        Told::Words(words) => print(out, words),
+    match half {
+        Half::Batting(side, row) => print_batting(out, sheet, *side, row),
+        Half::Figures(row) => print_figures(out, row),
+        Half::Bowling(same, row) => print_bowling(out, *same, row),
+        Half::Total(total) => print_total(out, *total),
+        Half::Words(words) => print(out, words),
     }
 }
 
 /// How many columns of these are left behind it.
-fn behind_told(columns: usize, sheet: &MatchSheet, told: &Told<'_>) -> usize
-    ensures { result ≡ columns - length (told_text sheet.now told.now) }
+fn behind_half(columns: usize, sheet: &MatchSheet, half: &Half<'_>) -> usize
+    ensures { result ≡ columns - length (half_text sheet.now half.now) }
 {
-    match told {
-        Told::Batting(side, row) => behind_batting(columns, sheet, *side, row),
-        Told::Figures(row) => behind_figures(columns, row),
-        Told::Bowling(same, row) => behind_bowling(columns, *same, row),
-        Told::Total(total) => behind_total(columns, *total),
-        Told::Words(words) => columns.saturating_sub(words.len()),
+    match half {
+        Half::Batting(side, row) => behind_batting(columns, sheet, *side, row),
+        Half::Figures(row) => behind_figures(columns, row),
+        Half::Bowling(same, row) => behind_bowling(columns, *same, row),
+        Half::Total(total) => behind_total(columns, *total),
+        Half::Words(words) => columns.saturating_sub(words.len()),
     }
 }
 
@@ -78,9 +78,9 @@ fn print_name<W: Sink>(out: &mut Watched<W>, first: &str, name: &str) -> Result<
 }
 
 /// Whether a row has room for both.
-fn fits(sheet: &MatchSheet, first: &str, name: &str, now: &Told<'_>, was: &Told<'_>) -> bool
+fn fits(sheet: &MatchSheet, first: &str, name: &str, now: &Half<'_>, was: &Half<'_>) -> bool
     ensures { result ≡ rows.fits sheet.now
-        (rows.named first.now name.now ++ told_text sheet.now now.now) (told_text sheet.now was.now) }
+        (rows.named first.now name.now ++ half_text sheet.now now.now) (half_text sheet.now was.now) }
 {
     // One more than a row has, so that one is left where all of it fits.
     let all = sheet.columns() + 1;
@@ -88,8 +88,8 @@ fn fits(sheet: &MatchSheet, first: &str, name: &str, now: &Told<'_>, was: &Told<
         .saturating_sub(first.len())
         .saturating_sub(name.len())
         .saturating_sub(1);
-    let behind_now = behind_told(behind_name, sheet, now).saturating_sub(6);
-    behind_told(behind_now, sheet, was) > 0
+    let behind_now = behind_half(behind_name, sheet, now).saturating_sub(6);
+    behind_half(behind_now, sheet, was) > 0
 }
 
 /// What stands between them: in one row, or in two.
@@ -107,16 +107,16 @@ pub fn print_joined<W: Sink>(
     may_share: bool,
     first: &str,
     name: &str,
-    now: &Told<'_>,
-    was: &Told<'_>,
+    now: &Half<'_>,
+    was: &Half<'_>,
 ) -> Result<(), WriteFailed>
     ensures text { OnOk result (Prints W.contents out.old out.new (rows.joined sheet.now may_share
-        (rows.named first.now name.now ++ told_text sheet.now now.now) (told_text sheet.now was.now))) }
+        (rows.named first.now name.now ++ half_text sheet.now now.now) (half_text sheet.now was.now))) }
     ensures failed { TellsFailure result out.old out.new }
 {
     print_name(out, first, name)?;
-    print_told(out, sheet, now)?;
+    print_half(out, sheet, now)?;
     print(out, joint(may_share && fits(sheet, first, name, now, was)))?;
-    print_told(out, sheet, was)?;
+    print_half(out, sheet, was)?;
     print(out, "\n")
 }

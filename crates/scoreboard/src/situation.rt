@@ -19,7 +19,7 @@ use notation::Player;
 
 /// What follows for the innings that began last: rates are in hundredths.
 #[derive(Clone, Copy)]
-pub struct Told {
+pub struct Situation {
     /// How many overs it has.
     pub overs: Option<u16>,
     pub overs_left: Option<u32>,
@@ -111,10 +111,15 @@ fn is_free_now<B: BookOf>(sheet: &MatchSheet, book: &B) -> bool
 }
 
 /// What follows for an innings, of a book with these overs.
-fn told_in<B: BookOf>(sheet: &MatchSheet, book: &B, overs: &Overs<'_>, innings: usize) -> Told
+fn situation_in<B: BookOf>(
+    sheet: &MatchSheet,
+    book: &B,
+    overs: &Overs<'_>,
+    innings: usize,
+) -> Situation
     requires { innings < begun (history_of (B.content book.now)) }
     ensures { AreOversOf overs.now (history_of (B.content book.now))
-        → result ≡ laws.told_in sheet.now (B.innings_a_side book.now) (history_of (B.content book.now)) innings }
+        → result ≡ laws.situation_in sheet.now (B.innings_a_side book.now) (history_of (B.content book.now)) innings }
 {
     let score = book.score();
     let now = Innings {
@@ -125,7 +130,7 @@ fn told_in<B: BookOf>(sheet: &MatchSheet, book: &B, overs: &Overs<'_>, innings: 
     let most = overs_open(now);
     let left = balls_in(now, most);
     let needed = runs_needed(score);
-    Told {
+    Situation {
         overs: most,
         overs_left: overs_in(now, most),
         balls_left: left,
@@ -139,10 +144,10 @@ fn told_in<B: BookOf>(sheet: &MatchSheet, book: &B, overs: &Overs<'_>, innings: 
     }
 }
 
-fn nothing_told() -> Told
-    ensures { result ≡ laws.nothing_told }
+fn no_situation() -> Situation
+    ensures { result ≡ laws.no_situation }
 {
-    Told {
+    Situation {
         overs: None,
         overs_left: None,
         balls_left: None,
@@ -157,13 +162,13 @@ fn nothing_told() -> Told
 }
 
 /// What follows for the innings that began last, of a book with these overs.
-pub fn told_of<B: BookOf>(sheet: &MatchSheet, book: &B, overs: &Overs<'_>) -> Told
+pub fn situation_of<B: BookOf>(sheet: &MatchSheet, book: &B, overs: &Overs<'_>) -> Situation
     ensures { AreOversOf overs.now (history_of (B.content book.now))
-        → result ≡ laws.told_of sheet.now (B.innings_a_side book.now) (history_of (B.content book.now)) }
+        → result ≡ laws.situation_of sheet.now (B.innings_a_side book.now) (history_of (B.content book.now)) }
 {
     let begun = book.score().begun();
     if begun == 0 {
-        return nothing_told();
+        return no_situation();
     }
-    told_in(sheet, book, overs, begun - 1)
+    situation_in(sheet, book, overs, begun - 1)
 }

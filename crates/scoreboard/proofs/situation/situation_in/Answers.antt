@@ -4,7 +4,7 @@ use Rattle.limits.specs.Limits.{Limits}
 use Rattle.limits.specs.Rates.{an_over, a_ball}
 use Rattle.limits.specs.Figures.{powerplay_now}
 use Rattle.scoreboard.specs.Limited.{balls_in, bowled_by, overs_in, rate_of}
-use Rattle.scoreboard.proofs.told.told_in.Goals as goal
+use Rattle.scoreboard.proofs.situation.situation_in.Goals as goal
 
 pub returns : goal.returns
 returns g c = λ are.

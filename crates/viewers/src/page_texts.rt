@@ -9,7 +9,7 @@ use std::alloc::Global;
 
 /// The newest texts that were handed over, and the page of which they are.
 #[derive(Drop)]
-pub struct Shown {
+pub struct PageTexts {
     pub station: Station,
     /// A board's six lines.
     pub lines: Vec<u8>,
@@ -23,12 +23,12 @@ pub struct Shown {
     pub veiled: Veiled,
 }
 
-impl Shown {
+impl PageTexts {
     /// Nothing yet.
-    pub fn new(alloc: Global, station: Station) -> Shown
+    pub fn new(alloc: Global, station: Station) -> PageTexts
         ensures { result.station ≡ station }
     {
-        Shown {
+        PageTexts {
             station,
             lines: Vec::new(alloc),
             state: Vec::new(alloc),
