@@ -2,7 +2,7 @@ use Rattle.std.proofs.Common.{arith, ◌≡◌, ◌+◌, ◌-◌, length, length
 use Rattle.corrections.specs.Overs.{balls_of}
 use Rattle.score_rows.specs.Row.{newest}
 use Rattle.score_rows.proofs.Items.{newest_more}
-use Rattle.score_rows.proofs.widths_behind.newest_of.Goals as goal
+use Rattle.score_rows.proofs.marks.newest_of.Goals as goal
 
 pub loop-from-preserved : goal.loop-from-preserved
 loop-from-preserved c =

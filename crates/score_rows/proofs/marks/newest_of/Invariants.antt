@@ -1,7 +1,7 @@
 use Rattle.std.proofs.Common.{◌≡◌, ◌≤◌, ◌++◌, length, take, drop}
 use Rattle.corrections.specs.Overs.{balls_of}
 use Rattle.score_rows.specs.Row.{newest}
-use Rattle.score_rows.proofs.widths_behind.newest_of.Given as goal
+use Rattle.score_rows.proofs.marks.newest_of.Given as goal
 
 abbrev pub invariant-loop-from : goal.invariant-loop-from
 invariant-loop-from l = record {

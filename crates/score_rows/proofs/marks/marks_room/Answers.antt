@@ -1,5 +1,5 @@
 use Rattle.score_rows.proofs.Items.{item_by_item}
-use Rattle.score_rows.proofs.widths_behind.marks_room.Goals as goal
+use Rattle.score_rows.proofs.marks.marks_room.Goals as goal
 
 pub loop-placed-preserved : goal.loop-placed-preserved
 loop-placed-preserved c = grind item_by_item
