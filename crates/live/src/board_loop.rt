@@ -294,9 +294,10 @@ fn take_next<B: BookOf, L: Link, C: Clock, N: Notices>(
         (untyped (L.log link.old) (C.readings clock.old) shown) (untyped (L.log link.new) (C.readings clock.new) shown) }
     ensures looked { IsSome (ticking_of between.new.pace).looked }
 {
-    let wait = say(board, link, clock, &mut between.pace).min(longest_wait);
+    let wait = say(board, link, clock, &mut between.pace);
     let mut buffer = [0; ROOM];
-    match link.take_message(board.game(), &mut buffer, wait) {
+    let longest = wait.min(longest_wait);
+    match link.take_message(board.game(), &mut buffer, longest) {
         Arrival::Datagram(_, read) => {
             let now = clock.millis();
             hear(board, &read, link, watch, between, now);
