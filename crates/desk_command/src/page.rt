@@ -14,6 +14,17 @@ use std::random::RandomSource;
 use std::str;
 use viewers::{Inbox, ServedPage, Station, StationKind, Viewers, reached_at};
 
+/// What has a desk's page, if there is one, and tells whether somebody came or asks there.
+pub trait Attended {
+    fn audience(&self) -> Audience<'_>;
+}
+
+impl Attended for Audience<'_> {
+    fn audience(&self) -> Audience<'_> {
+        *self
+    }
+}
+
 /// A page, by whose secret a scorer signs. The secret stands in no link.
 #[derive(Drop)]
 struct Served {

@@ -5,7 +5,7 @@ use Rattle.board_command.specs.Files as files
 use Rattle.board_command.specs.Files.{script_with}
 use Rattle.board_command.specs.declared.files.{Due.Due, Files.Files, Kept.Kept, Moment.Moment, Texts.Texts}
 use Rattle.board_command.specs.declared.files.TheConstants.{FOREVER}
-use Rattle.waits.specs.declared.times.TheConstants.{LONGEST_STATE_AGE}
+use Rattle.board_command.specs.declared.times.TheConstants.{LONGEST_STATE_AGE}
 
 module _ {T E : Type 0} (longest : ℕ) (m : Moment) where
   -- whether there is a file that is to be written
@@ -38,8 +38,8 @@ module _ {F : Type 0} (text : List ℕ) where
 abbrev pub IsMadeWhere : {F : Type 0} → Bool → List ℕ → Option (Result (Vec ℕ Global) F) → Type 0
 IsMadeWhere due text made = (due ≡ true → is_some made ≡ true) × IsText text made
 
--- so all three, of these lines and this state
-pub record AreMade (due : Due) (lines state : List ℕ) (made : Texts) : Type 0 where
-  pub lines : IsMadeWhere due.lines lines made.lines
-  pub state : IsMadeWhere due.state state made.state
-  pub script : IsMadeWhere due.script (script_with state) made.script
+-- so all three, of these lines and this value
+pub record AreMade (due : Due) (rows value : List ℕ) (made : Texts) : Type 0 where
+  pub lines : IsMadeWhere due.lines rows made.lines
+  pub state : IsMadeWhere due.state value made.state
+  pub script : IsMadeWhere due.script (script_with value) made.script
