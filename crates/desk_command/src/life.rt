@@ -156,7 +156,15 @@ pub struct Kept<'a, K: Keys, W> {
 }
 
 /// Keeps the process of a desk whose scorer types at a keyboard and in a page, and nothing yet: with the life that the desk had.
-pub fn keep_on<'a, L: Carries + Drop, K: Enters, S: Squares, C: Clock, W: Recorded, A: Attended>(
+pub fn keep_on<
+    'a,
+    L: Carries + Drop,
+    K: Enters,
+    S: Squares,
+    C: Clock,
+    W: Recorded,
+    A: Attended + Copy,
+>(
     rt: &HostRuntime,
     disk: DeskDisk<'_>,
     desk: DeskId,
@@ -194,7 +202,15 @@ pub fn keep_on<'a, L: Carries + Drop, K: Enters, S: Squares, C: Clock, W: Record
         clock: MonotonicClock::new(rt),
         out: Watched::new(screen),
     };
-    let ended = keep(rt, disk, desk, book, &sheet, &mut outside, audience.audience());
+    let ended = keep(
+        rt,
+        disk,
+        desk,
+        book,
+        &sheet,
+        &mut outside,
+        audience.audience(),
+    );
     let Outside {
         link,
         keys,
