@@ -20,7 +20,6 @@ use station_table::BoardSetting;
 use std::cell::RefCell;
 use std::rt::Stderr;
 use streams::WriteFailed;
-use viewers::ServedPage;
 
 /// Where a board tells what it can't take, and which file it can't write.
 pub type Told<'s, 'a> = Shared<'s, Pieces<StandardStream<'a, Stderr>>>;
@@ -145,13 +144,12 @@ fn answer_of<'a>(ended: Result<(), WriteFailed>) -> Result<bool, Stopped<'a>>
 /// `ground board`: keeps a board that listens at an address, shows its six lines at the start and whenever they
 /// change, and tells standard error what it can't take, and that no desk is heard. Its text is also put into a file, its state
 /// as JSON into another one, and the same as a script into a third, where they are named, once it has heard a desk; a failed
-/// write of these ends no board. This page shows text and state at an address, where one is given. Its datagrams are sealed with
+/// write of these ends no board. A page shows text and state at an address, where one is given. Its datagrams are sealed with
 /// the sheet and the key in a file, where one is named. Where it is refused before it begins, there is no life.
 #[inline(never)]
 pub fn start_board<'a>(
     rt: &'a HostRuntime,
     setting: &BoardSetting<'a>,
-    page: ServedPage,
 ) -> Result<Ended<'a>, Stopped<'a>>
     ensures sheet { IfOk result (λ ended. sheet_path_of ended.life ≡ setting.now.sheet.now) }
     ensures answer { IfOk result (λ ended. IfOk ended.answer (λ refused.
@@ -170,7 +168,7 @@ pub fn start_board<'a>(
         script: setting.shows.script,
     };
     let files = paths.files(rt, &errors)?;
-    let page = Page::at(rt, setting.shows.serve, page)?;
+    let page = Page::at(rt, setting.shows.serve)?;
     let board = board_of(rt, sheet)?;
     let witness = witness_of(rt)?;
     page.wait(rt, sheet, board.book(), paths.state);

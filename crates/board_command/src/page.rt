@@ -15,7 +15,7 @@ use std::alloc::Global;
 use std::cell::{Cell, RefCell};
 use std::io::Write;
 use std::os::fd::RawFd;
-use viewers::{ServedPage, Station, StationKind, Viewers, reached_at};
+use viewers::{Station, Viewers, reached_at};
 
 /// What a page shows of a board, as its files do.
 type Panes<'v, 's, 'a> = Files<'a, Pane<'v>, Told<'s, 'a>, CheckedBook>;
@@ -48,12 +48,8 @@ pub struct Audience<'v> {
 }
 
 impl<'a> Page<'a> {
-    /// This page at an address, where one is given.
-    pub fn at(
-        rt: &HostRuntime,
-        at: Option<Address<'a>>,
-        page: ServedPage,
-    ) -> Result<Page<'a>, Stopped<'a>> {
+    /// The page at an address, where one is given.
+    pub fn at(rt: &HostRuntime, at: Option<Address<'a>>) -> Result<Page<'a>, Stopped<'a>> {
         let Some(at) = at else {
             return Ok(Page {
                 served: None,
@@ -61,11 +57,7 @@ impl<'a> Page<'a> {
                 called: Cell::new(true),
             });
         };
-        let station = Station {
-            kind: StationKind::Board,
-            page,
-        };
-        match Viewers::new(rt, rt.alloc(), at.socket, station, None) {
+        match Viewers::new(rt, rt.alloc(), at.socket, Station::Board, None) {
             Ok(viewers) => {
                 let ends = viewers.descriptor();
                 Ok(Page {

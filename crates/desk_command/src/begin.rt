@@ -29,7 +29,6 @@ use std::cell::RefCell;
 use std::env::Env;
 use std::mem::drop;
 use streams::{Sink, Watched, WriteFailed};
-use viewers::ServedPage;
 
 /// Why the command ends with a fault, by how its desk's process ended and whether its keyboard failed. Where its scorer
 /// stopped, there is none.
@@ -179,14 +178,13 @@ pub struct Ended<'a> {
 }
 
 /// `ground desk`: keeps a scorer's desk with its votes in a file, and in a copy, where one is named, listening at an address,
-/// until the scorer types `quit` or no more. This page is served, where the setting says so. Then, with its files and its address free, it waits until its screen is read. Its
+/// until the scorer types `quit` or no more. Then, with its files and its address free, it waits until its screen is read. Its
 /// datagrams are sealed with the sheet and the key in a file, where one is named. Where it is refused before it begins, there
 /// is no life.
 #[inline(never)]
 pub fn start_desk<'a>(
     rt: &'a HostRuntime,
     setting: &DeskSetting<'a>,
-    page: ServedPage,
 ) -> Result<Ended<'a>, Stopped<'a>>
     ensures desk { IfOk result (λ ended. desk_of ended.life ≡ setting.now.desk) }
     ensures sheet { IfOk result (λ ended. sheet_path_of ended.life ≡ setting.now.sheet.now) }
@@ -207,7 +205,7 @@ pub fn start_desk<'a>(
         setting.key,
     )?;
     let errors = RefCell::new(errors_at(rt)?);
-    let page = Page::at(rt, setting.serve, page)?;
+    let page = Page::at(rt, setting.serve)?;
     let scorers = page.scorers();
     let screen = DeskScreen {
         output: output_at(rt)?,

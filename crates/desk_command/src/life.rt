@@ -9,7 +9,7 @@ ghost use Rattle.desk_command.specs.OnFiles.{IsOnFiles};
 ghost use Rattle.desk_command.specs.Traces.{IsWideSheetOf, WasEntered, traces_of};
 
 use crate::desk_disk::DeskDisk;
-use crate::page::{Attended, Audience};
+use crate::page::Audience;
 use agree_core::DeskId;
 use ahead::Ahead;
 use cards::MatchSheet;
@@ -156,15 +156,7 @@ pub struct Kept<'a, K: Keys, W> {
 }
 
 /// Keeps the process of a desk whose scorer types at a keyboard and in a page, and nothing yet: with the life that the desk had.
-pub fn keep_on<
-    'a,
-    L: Carries + Drop,
-    K: Enters,
-    S: Squares,
-    C: Clock,
-    W: Recorded,
-    A: Attended + Copy,
->(
+pub fn keep_on<'a, L: Carries + Drop, K: Enters, S: Squares, C: Clock, W: Recorded>(
     rt: &HostRuntime,
     disk: DeskDisk<'_>,
     desk: DeskId,
@@ -173,7 +165,7 @@ pub fn keep_on<
     link: L,
     keys: Ahead<PageWords<K, S>, C>,
     screen: W,
-    audience: A,
+    audience: Audience<'_>,
     file: &'a str,
     copy: Option<&'a str>,
 ) -> Kept<'a, Ahead<PageWords<K, S>, C>, W>
@@ -202,15 +194,7 @@ pub fn keep_on<
         clock: MonotonicClock::new(rt),
         out: Watched::new(screen),
     };
-    let ended = keep(
-        rt,
-        disk,
-        desk,
-        book,
-        &sheet,
-        &mut outside,
-        audience.audience(),
-    );
+    let ended = keep(rt, disk, desk, book, &sheet, &mut outside, audience);
     let Outside {
         link,
         keys,

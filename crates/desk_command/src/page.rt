@@ -12,18 +12,7 @@ use std::net::SocketAddr;
 use std::os::fd::RawFd;
 use std::random::RandomSource;
 use std::str;
-use viewers::{Inbox, ServedPage, Station, StationKind, Viewers, reached_at};
-
-/// What has a desk's page, if there is one, and tells whether somebody came or asks there.
-pub trait Attended {
-    fn audience(&self) -> Audience<'_>;
-}
-
-impl Attended for Audience<'_> {
-    fn audience(&self) -> Audience<'_> {
-        *self
-    }
-}
+use viewers::{Inbox, Station, Viewers, reached_at};
 
 /// A page, by whose secret a scorer signs. The secret stands in no link.
 #[derive(Drop)]
@@ -79,13 +68,9 @@ fn link_to(rt: &HostRuntime, at: SocketAddr, ticket: &[u8; 16]) -> io::Result<St
 }
 
 /// A page at an address, with a secret of the system's randomness.
-fn served_at(rt: &HostRuntime, at: &Address<'_>, page: ServedPage) -> io::Result<Served> {
+fn served_at(rt: &HostRuntime, at: &Address<'_>) -> io::Result<Served> {
     let inbox = Some(Inbox::new(random(rt)?));
-    let station = Station {
-        kind: StationKind::Desk,
-        page,
-    };
-    let viewers = Viewers::new(rt, rt.alloc(), at.socket, station, inbox)?;
+    let viewers = Viewers::new(rt, rt.alloc(), at.socket, Station::Desk, inbox)?;
     let now = MonotonicClock::new(rt).millis();
     Ok(Served {
         at: reached_at(rt, at.socket),
@@ -123,19 +108,15 @@ impl Served {
 }
 
 impl Page {
-    /// This page at an address, where one is given. Its secret is a new one each time.
-    pub fn at<'a>(
-        rt: &HostRuntime,
-        at: Option<Address<'a>>,
-        page: ServedPage,
-    ) -> Result<Page, Stopped<'a>> {
+    /// The page at an address, where one is given. Its secret is a new one each time.
+    pub fn at<'a>(rt: &HostRuntime, at: Option<Address<'a>>) -> Result<Page, Stopped<'a>> {
         let Some(at) = at else {
             return Ok(Page {
                 served: None,
                 called: Cell::new(true),
             });
         };
-        match served_at(rt, &at, page) {
+        match served_at(rt, &at) {
             Ok(served) => Ok(Page {
                 served: Some(served),
                 called: Cell::new(true),

@@ -18,7 +18,6 @@ use station_table::{
 };
 use std::net::SocketAddr;
 use toml::Table;
-use viewers::ServedPage;
 
 /// Where a station listens, and the addresses of its peers.
 type Addresses<'a> = (Address<'a>, [Option<SocketAddr>; MOST_PEERS]);
@@ -137,7 +136,7 @@ fn addresses_of<'a>(
 }
 
 /// `ground desk` with a letter: keeps that desk with what its words name, and for what they don't with what its sheet's
-/// table of stations has. This page is served, where they say so.
+/// table of stations has.
 #[inline(never)]
 pub fn start_desk_of<'a>(
     rt: &'a HostRuntime,
@@ -146,7 +145,6 @@ pub fn start_desk_of<'a>(
     named: &DeskOptions<'a>,
     serve: Option<Address<'a>>,
     table: &'a Table,
-    page: ServedPage,
 ) -> Result<EndedDesk<'a>, Stopped<'a>>
     ensures desk { IfOk result (λ ended. desk_of ended.life ≡ desk) }
     ensures sheet { IfOk result (λ ended. sheet_path_of ended.life ≡ sheet.now) }
@@ -169,7 +167,7 @@ pub fn start_desk_of<'a>(
         serve,
         columns: begun.columns,
     };
-    start_desk(rt, &setting, page)
+    start_desk(rt, &setting)
 }
 
 /// `ground board` with a number: keeps that board of the table, in the same way.
@@ -181,7 +179,6 @@ pub fn start_board_of<'a>(
     named: &BoardOptions<'a>,
     shows: &Showing<'a>,
     table: &'a Table,
-    page: ServedPage,
 ) -> Result<EndedBoard<'a>, Stopped<'a>>
     ensures sheet { IfOk result (λ ended. board.sheet_path_of ended.life ≡ sheet.now) }
 {
@@ -197,5 +194,5 @@ pub fn start_board_of<'a>(
         peers,
         shows: *shows,
     };
-    start_board(rt, &setting, page)
+    start_board(rt, &setting)
 }

@@ -9,17 +9,28 @@ use Rattle.http1.specs.Server.{after_response, planned_response, writing}
 use Rattle.http1.specs.Conn.{after_data, data_text, finish_text}
 use Rattle.viewers.specs.declared.asks.{Ask.Ask, Asked.Asked}
 use Rattle.viewers.specs.declared.asks.Ask.TheVariants.{Page, Lines, State, Book, Events, Given, Typed, Signed, Handed, Unready, Full, Missing, Method, Foreign, Faulty}
-use Rattle.viewers.specs.declared.{page_texts.PageTexts.PageTexts, station.Station.Station, station.StationKind.StationKind}
-use Rattle.viewers.specs.declared.station.StationKind.TheVariants.{Board, Desk}
+use Rattle.served_pages.specs.declared.scoreboard.TheConstants as board
+use Rattle.served_pages.specs.declared.desk.TheConstants as desk
+use Rattle.viewers.specs.declared.{page_texts.PageTexts.PageTexts, station.Station.Station}
+use Rattle.viewers.specs.declared.station.Station.TheVariants.{Board, Desk}
+
+-- a station's page, and what may be run and loaded in it
+abbrev pub page_of : Station → List ℕ
+page_of Board = board.PAGE.now
+page_of Desk = desk.PAGE.now
+
+abbrev pub policy_of : Station → List ℕ
+policy_of Board = board.POLICY.now
+policy_of Desk = desk.POLICY.now
 
 -- what may be done at a station's page
-abbrev pub allowed_at : StationKind → List ℕ
+abbrev pub allowed_at : Station → List ℕ
 allowed_at Board = codes "GET, HEAD"
 allowed_at Desk = codes "GET, HEAD, POST"
 
 -- where nothing can be had for the present, in how many seconds to ask again, and else what may be done
-abbrev pub hint_of : StationKind → ℕ → Header
-hint_of kind status = if status == 503 then (codes "retry-after", codes "2") else (codes "allow", allowed_at kind)
+abbrev pub hint_of : Station → ℕ → Header
+hint_of station status = if status == 503 then (codes "retry-after", codes "2") else (codes "allow", allowed_at station)
 
 -- the fields of each head, with what kind of text follows it
 abbrev pub fields_of : Station → ℕ → List ℕ → List Header
@@ -28,8 +39,8 @@ fields_of station status kind =
     ∷ (codes "cache-control", codes "no-store")
     ∷ (codes "x-content-type-options", codes "nosniff")
     ∷ (codes "referrer-policy", codes "no-referrer")
-    ∷ (codes "content-security-policy", (station.page.policy).now)
-    ∷ hint_of station.kind status
+    ∷ (codes "content-security-policy", policy_of station)
+    ∷ hint_of station status
     ∷ (codes "connection", codes "close")
     ∷ []
 
@@ -64,7 +75,7 @@ abbrev pub stream_text : Server → Station → List ℕ
 stream_text s station = planned_response s 200 (codes "OK") Unknown (fields_of station 200 events)
 
 abbrev pub page_text : Server → Station → Bool → List ℕ
-page_text s station head = whole_text s station 200 (codes "OK") html (station.page.text).now head
+page_text s station head = whole_text s station 200 (codes "OK") html (page_of station) head
 
 -- a nonce, as a text of one line
 abbrev pub nonce_text : Server → Station → ℕ → List ℕ

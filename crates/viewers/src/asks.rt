@@ -4,7 +4,7 @@ ghost use Rattle.std.specs.Prelude.{◌≡◌, false};
 
 use crate::host::is_named;
 use crate::page_texts::PageTexts;
-use crate::station::StationKind;
+use crate::station::Station;
 use httparse::spans::{HeaderSpan, RequestSpans, Span};
 use posts::{Pass, Stamp, tag_in};
 use std::net::SocketAddr;
@@ -199,19 +199,19 @@ fn desk_ask(path: &[u8]) -> Ask {
 }
 
 /// What stands at a path of a station's page.
-fn ask_at(kind: StationKind, path: &[u8]) -> Ask {
-    match kind {
-        StationKind::Board => board_ask(path),
-        StationKind::Desk => desk_ask(path),
+fn ask_at(station: Station, path: &[u8]) -> Ask {
+    match station {
+        Station::Board => board_ask(path),
+        Station::Desk => desk_ask(path),
     }
 }
 
 /// What a request of this method and for this target asks for, where it names this host or doesn't.
-pub fn asked_by(kind: StationKind, method: &[u8], target: &[u8], is_here: bool) -> Asked
+pub fn asked_by(station: Station, method: &[u8], target: &[u8], is_here: bool) -> Asked
     ensures foreign { is_here ≡ false → result.ask ≡ Ask.Foreign }
 {
     let is_head = method == b"HEAD".as_slice();
-    let found = ask_at(kind, path_of(target));
+    let found = ask_at(station, path_of(target));
     let ask = if !is_here {
         Ask::Foreign
     } else if is_head && matches!(found, Ask::Events) {
@@ -273,7 +273,7 @@ fn claim_in(input: &[u8], fields: &[HeaderSpan], host: &[u8]) -> Claim {
 
 /// What a head wishes of a station's page at this address.
 pub fn wish_in(
-    kind: StationKind,
+    station: Station,
     input: &[u8],
     head: &RequestSpans,
     fields: &[HeaderSpan],
@@ -283,18 +283,18 @@ pub fn wish_in(
     let target = bytes_at(input, head.path);
     let host = field_in(input, fields, b"host").unwrap_or(b"");
     if !is_named(host, at) {
-        return Wish::Answer(asked_by(kind, method, target, false));
+        return Wish::Answer(asked_by(station, method, target, false));
     }
-    let wish = match kind {
-        StationKind::Board => None,
-        StationKind::Desk if method == b"POST".as_slice() => posted_to_desk(
+    let wish = match station {
+        Station::Board => None,
+        Station::Desk if method == b"POST".as_slice() => posted_to_desk(
             target, input, fields, host,
         ),
-        StationKind::Desk if method == b"GET".as_slice() => got_of_desk(target),
-        StationKind::Desk => None,
+        Station::Desk if method == b"GET".as_slice() => got_of_desk(target),
+        Station::Desk => None,
     };
     match wish {
         Some(wish) => wish,
-        None => Wish::Answer(asked_by(kind, method, target, true)),
+        None => Wish::Answer(asked_by(station, method, target, true)),
     }
 }

@@ -75,7 +75,7 @@ impl Crowd {
             poll,
             events: Events::with_capacity(alloc, MOST_EVENTS)?,
             listener,
-            places: Places::new(alloc, station.kind),
+            places: Places::new(alloc, station),
             has_guests: true,
             beat: 0,
             told: 0,

@@ -23,4 +23,4 @@ pub use inbox::Inbox;
 pub use laws::what_others_are_served;
 pub use listening::reached_at;
 pub use page_texts::PageTexts;
-pub use station::{ServedPage, Station, StationKind};
+pub use station::Station;

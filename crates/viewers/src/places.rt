@@ -6,7 +6,7 @@ ghost use Rattle.viewers.specs.Places.{HasNoSigned, KeepsAll, KeepsOthers, Keeps
 use crate::guest::Stay;
 use crate::inbox::Inbox;
 use crate::page_texts::PageTexts;
-use crate::station::StationKind;
+use crate::station::Station;
 use crate::stream::Stream;
 use crate::viewer::Viewer;
 use std::alloc::{AllocError, Global};
@@ -84,17 +84,17 @@ fn is_before(one: Turn, other: Option<Turn>) -> bool {
 /// All who are at a page, each at a place.
 #[derive(Drop)]
 pub struct Places<S: Stream> {
-    kind: StationKind,
+    station: Station,
     viewers: Vec<Option<Viewer<S>>>,
 }
 
 impl<S: Stream + Drop> Places<S> {
     /// Nobody yet.
-    pub fn new(alloc: Global, kind: StationKind) -> Places<S>
+    pub fn new(alloc: Global, station: Station) -> Places<S>
         ensures { result.viewers.items ≡ [] }
     {
         Places {
-            kind,
+            station,
             viewers: Vec::new(alloc),
         }
     }
@@ -118,7 +118,7 @@ impl<S: Stream + Drop> Places<S> {
     /// Whether who is there has had time enough, where others ask for a place. At a board who watches may stay.
     fn has_had_time(&self, viewer: &Viewer<S>, now: u64) -> bool {
         match viewer.stay() {
-            Stay::Watching => matches!(self.kind, StationKind::Desk),
+            Stay::Watching => matches!(self.station, Station::Desk),
             _ => now.saturating_sub(viewer.came()) >= GRACE,
         }
     }

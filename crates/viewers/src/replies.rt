@@ -10,7 +10,7 @@ ghost use Rattle.viewers.specs.Replies as texts;
 
 use crate::asks::Ask;
 use crate::page_texts::PageTexts;
-use crate::station::{Station, StationKind};
+use crate::station::{Station, page_of, policy_of};
 use hex::encode_to_slice;
 use http1::{BodySize, Header, Server, WriteError};
 use itoa::Buffer;
@@ -28,18 +28,18 @@ const STREAM: &[u8] = b"text/event-stream";
 const BEAT: &[u8] = b"event: beat\ndata: -\n\n";
 
 /// What may be done at a station's page.
-fn allowed_at(kind: StationKind) -> &'static [u8]
-    ensures { result.now ≡ texts.allowed_at kind }
+fn allowed_at(station: Station) -> &'static [u8]
+    ensures { result.now ≡ texts.allowed_at station }
 {
-    match kind {
-        StationKind::Board => b"GET, HEAD",
-        StationKind::Desk => b"GET, HEAD, POST",
+    match station {
+        Station::Board => b"GET, HEAD",
+        Station::Desk => b"GET, HEAD, POST",
     }
 }
 
 /// Behind an answer that nothing can be had for the present: in how many seconds to ask again. Else what may be done.
-fn hint_of(kind: StationKind, status: u16) -> Header<'static>
-    ensures { (result.name.now, result.value.now) ≡ texts.hint_of kind status }
+fn hint_of(station: Station, status: u16) -> Header<'static>
+    ensures { (result.name.now, result.value.now) ≡ texts.hint_of station status }
 {
     if status == 503 {
         Header {
@@ -49,7 +49,7 @@ fn hint_of(kind: StationKind, status: u16) -> Header<'static>
     } else {
         Header {
             name: b"allow",
-            value: allowed_at(kind),
+            value: allowed_at(station),
         }
     }
 }
@@ -77,9 +77,9 @@ fn fields_of(station: Station, status: u16, kind: &[u8]) -> [Header<'_>; 7]
         },
         Header {
             name: b"content-security-policy",
-            value: station.page.policy,
+            value: policy_of(station),
         },
-        hint_of(station.kind, status),
+        hint_of(station, status),
         Header {
             name: b"connection",
             value: b"close",
@@ -261,7 +261,7 @@ fn page(
         reason: b"OK",
         kind: HTML,
     };
-    whole(alloc, server, station, head, station.page.text, is_head)
+    whole(alloc, server, station, head, page_of(station), is_head)
 }
 
 /// One of the texts that are shown.

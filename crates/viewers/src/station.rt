@@ -1,24 +1,33 @@
-//! Whose page it is, and what is served of it.
+//! Whose page it is.
+
+ghost use Rattle.std.specs.Prelude.{◌≡◌};
+ghost use Rattle.viewers.specs.Replies as texts;
+
+use served_pages::{desk, scoreboard};
 
 /// Whose page it is: a board's, at which anybody looks, or a desk's, in which its scorer types.
 #[derive(Clone, Copy)]
-pub enum StationKind {
+pub enum Station {
     Board,
     Desk,
 }
 
-/// A page as it is served.
-#[derive(Clone, Copy)]
-pub struct ServedPage {
-    /// Its bytes.
-    pub text: &'static [u8],
-    /// What may be run and loaded in it.
-    pub policy: &'static [u8],
+/// The page of a station.
+pub fn page_of(station: Station) -> &'static [u8]
+    ensures { result.now ≡ texts.page_of station }
+{
+    match station {
+        Station::Board => scoreboard::PAGE,
+        Station::Desk => desk::PAGE,
+    }
 }
 
-/// A station, as its viewers see it.
-#[derive(Clone, Copy)]
-pub struct Station {
-    pub kind: StationKind,
-    pub page: ServedPage,
+/// What may be run and loaded in it.
+pub fn policy_of(station: Station) -> &'static [u8]
+    ensures { result.now ≡ texts.policy_of station }
+{
+    match station {
+        Station::Board => scoreboard::POLICY,
+        Station::Desk => desk::POLICY,
+    }
 }

@@ -11,7 +11,7 @@ use crate::inbox::{Inbox, give, hand_out, is_passed, take};
 use crate::logs::SaidLog;
 use crate::page_texts::PageTexts;
 use crate::replies::{beat, reply, told};
-use crate::station::StationKind;
+use crate::station::Station;
 use crate::stream::{Stream, Wire};
 use crate::times::VIEWER_PATIENCE;
 use arrayvec::ArrayVec;
@@ -192,7 +192,7 @@ impl<S: Stream> Viewer<S> {
     }
 
     /// What the head wishes that came, once it is whole.
-    fn wish(&mut self, kind: StationKind) -> Option<Wish> {
+    fn wish(&mut self, station: Station) -> Option<Wish> {
         let mut fields: [HeaderSpan; 32] = [EMPTY_HEADER_SPAN; MOST_FIELDS];
         let read = match self.server.read(self.input.as_slice(), &mut fields) {
             Ok(read) => read,
@@ -202,7 +202,7 @@ impl<S: Stream> Viewer<S> {
             Event::Head(head) => {
                 let count = head.headers.min(MOST_FIELDS);
                 let input = self.input.as_slice();
-                Some(wish_in(kind, input, &head, &fields[..count], self.guest.at))
+                Some(wish_in(station, input, &head, &fields[..count], self.guest.at))
             }
             _ => None,
         };
@@ -282,7 +282,7 @@ impl<S: Stream> Viewer<S> {
 
     /// Reads the head that came, once it is whole, and does what it wishes.
     fn read_head(&mut self, alloc: Global, shown: &PageTexts, inbox: &mut Option<Inbox>, now: u64) {
-        match self.wish(shown.station.kind) {
+        match self.wish(shown.station) {
             Some(Wish::Answer(asked)) => {
                 let asked = asked.ready(shown, self.guest.is_behind);
                 self.answer(alloc, asked, shown);

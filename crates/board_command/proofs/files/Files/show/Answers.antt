@@ -15,5 +15,5 @@ returns-clause-goes_on g c =
     record {
       lines = subst (λ (n : Moment). AreKept g.T.Replaces.given FOREVER n (lines_of sight) old.text c.put.new.file) same (c.put.ensures _ c.requires.made.lines);
       state = subst (λ (n : Moment). AreKept g.T.Replaces.given LONGEST_STATE_AGE n (state_of sight m.heard m.now) old.state c.put-2.new.file) same (c.put-2.ensures _ c.requires.made.state);
-      script = subst (λ (n : Moment). AreKept g.T.Replaces.given LONGEST_STATE_AGE n (script_of sight m.heard m.now) old.script c.put-3.new.file) same (c.put-3.ensures _ c.requires.made.script)
+      script = subst (λ (n : Moment). AreKept g.T.Replaces.given LONGEST_STATE_AGE n (script_of sight m.heard m.now) old.script c.put-3.new.file) same (c.put-3.ensures _ c.requires.made.script);
     }
