@@ -97,7 +97,7 @@ fn take_turns<S: SlotsOf, B: BookOf + Drop, L: Link, K: Keys, C: Clock, W: Sink,
         peer: Peer::new(own, now),
         warned: Warned::NOTHING,
         now,
-        shown_wait: 0,
+        shown_wait: page.longest_wait(),
     };
     for number in 0..turns {
         turn(alloc, desk, sheet, outside, &mut between)?;
