@@ -8,7 +8,6 @@ mod life;
 mod notes;
 mod page;
 mod pane;
-mod times;
 mod waiting;
 
 pub use crate::begin::{Ended, start_board};

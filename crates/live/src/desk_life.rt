@@ -60,18 +60,17 @@ fn greet<S: SlotsOf, B: BookOf + Drop, W: Sink>(
     told(out.flush())
 }
 
-/// Hands on what is seen of a desk now, and the lines that are held.
+/// Hands on what is seen of a desk, and the lines that are held.
 fn show<S: SlotsOf, B: BookOf + Drop, K: Keys, P: ShowsDesk<B>>(
     desk: &Desk<S, B>,
     sheet: &MatchSheet,
     keys: &K,
     page: &mut P,
-    now: u64,
 )
     ensures { P.goes_on page.old (desk_sight sheet.now (innings_of desk.now) (state_of desk.now)) page.new }
 {
     let own = own_line(desk);
-    page.show(sheet, desk.book(), desk.position(), own, keys.held(), now);
+    page.show(sheet, desk.book(), desk.position(), own, keys.held());
 }
 
 /// Tells the scorer where the desk of this letter stands, and takes so many turns.
@@ -91,18 +90,14 @@ fn take_turns<S: SlotsOf, B: BookOf + Drop, L: Link, K: Keys, C: Clock, W: Sink,
     ensures failed { result ≡ Err DeskEnd.Write → has_failed outside.new.out ≡ true }
 {
     greet(desk, sheet, &mut outside.out)?;
-    let now = outside.clock.millis();
     let mut between = Between {
         pace: Pace::new(),
-        peer: Peer::new(own, now),
+        peer: Peer::new(own, outside.clock.millis()),
         warned: Warned::NOTHING,
-        now,
-        shown_wait: page.longest_wait(),
     };
     for number in 0..turns {
         turn(alloc, desk, sheet, outside, &mut between)?;
-        show(desk, sheet, &outside.keys, page, between.now);
-        between.shown_wait = page.longest_wait();
+        show(desk, sheet, &outside.keys, page);
     }
     Ok(())
 }

@@ -222,8 +222,7 @@ fn take_next<S: SlotsOf, B: BookOf + Drop, L: Link, K: Keys, C: Clock, W: Sink>(
     } = outside;
     let wait = say(desk, link, clock, &mut between.pace);
     let mut buffer = [0; ROOM];
-    let longest = wait.min(between.shown_wait);
-    match link.take_message(desk.game(), &mut buffer, longest) {
+    match link.take_message(desk.game(), &mut buffer, wait) {
         Arrival::Datagram(_, read) => {
             let now = clock.millis();
             hear(desk, sheet, &read, link, out, between, now)?;

@@ -14,14 +14,13 @@ mod ends;
 pub mod hearing;
 mod later;
 mod laws;
-mod lost_lines;
+pub mod lost_lines;
 mod outside;
 mod pace;
 mod peer;
 mod reminding;
 mod shows;
 mod sight_log;
-mod times;
 mod watch;
 
 pub use begin::begin_desk;

@@ -10,7 +10,6 @@ mod peers;
 mod row_log;
 mod screen;
 mod sockets;
-mod times;
 mod waiting;
 
 pub use address::{Address, addresses_in};

@@ -1,86 +1,148 @@
 //! What a side needs, and how a match has ended.
 
-ghost use Rattle.std.specs.Prelude.{◌≡◌, ◌==◌, OnOk, codes, if◌then◌else◌};
+ghost use Rattle.std.specs.Prelude.{◌≡◌, ◌==◌, ◌++◌, OnOk, Some, codes, decimal, if◌then◌else◌};
 ghost use Rattle.match_laws.specs.Result.{outcome};
+ghost use Rattle.match_laws.specs.declared.outcome.Outcome.TheVariants.{Undecided};
 ghost use Rattle.match_laws.specs.Stands.{ForEachHistory};
-ghost use Rattle.cards.specs.Results.{counted};
 ghost use Rattle.limits.specs.Figures as figures;
 ghost use Rattle.streams.specs.Watched.{Prints, TellsFailure};
 ghost use Rattle.score_rows.specs.Row as rows;
 
-use crate::limited::{Off, off};
-use crate::text::Text;
+use crate::limited::print_off;
 use cards::MatchSheet;
 use limits::runs_needed;
 use match_laws::{Match, Outcome};
+use notation::Side;
 use streams::{Sink, Watched, WriteFailed};
 
-pub type Aim = Option<(&'static str, u32)>;
+/// Prints that so many runs are needed off so many deliveries, on a row of its own.
+fn print_needs_off<W: Sink>(out: &mut Watched<W>, runs: u32, left: u32) -> Result<(), WriteFailed>
+    ensures text { OnOk result (Prints W.contents out.old out.new (rows.needs_row Undecided (Some runs) (Some left))) }
+    ensures failed { TellsFailure result out.old out.new }
+{
+    write!(out, "  needs {runs}")?;
+    print_off(out, runs, left)?;
+    writeln!(out)
+}
 
-/// What is needed, where nothing limits the deliveries and the match isn't decided.
-pub fn aim(score: &Match, left: Option<u32>) -> Aim
-    ensures { ForEachHistory score.now (λ n h.
-        ⟦<Aim as Text>⟧.bytes result ≡ rows.aim (outcome n h) (figures.runs_needed n h) left) }
+/// Prints what is needed off how many deliveries, where they are limited and the match isn't decided.
+pub fn print_needs_row<W: Sink>(
+    out: &mut Watched<W>,
+    score: &Match,
+    left: Option<u32>,
+) -> Result<(), WriteFailed>
+    ensures text { ForEachHistory score.now (λ n h. OnOk result (Prints W.contents out.old out.new
+        (rows.needs_row (outcome n h) (figures.runs_needed n h) left))) }
+    ensures failed { TellsFailure result out.old out.new }
 {
     match (score.result(), runs_needed(score), left) {
-        (Outcome::Undecided, Some(runs), None) => Some(("  needs ", runs)),
-        _ => None,
+        (Outcome::Undecided, Some(runs), Some(left)) => print_needs_off(out, runs, left),
+        _ => Ok(()),
     }
 }
 
-pub type NeedsRow = Option<(&'static str, u32, Off, &'static str)>;
+pub fn run_word(count: u32) -> &'static str
+    ensures { result.now ≡ (if count == 1 then codes "run" else codes "runs") }
+{
+    if count == 1 { "run" } else { "runs" }
+}
 
-/// What is needed off how many deliveries, where they are limited and the match isn't decided.
-pub fn needs_row(score: &Match, left: Option<u32>) -> NeedsRow
-    ensures { ForEachHistory score.now (λ n h.
-        ⟦<NeedsRow as Text>⟧.bytes result ≡ rows.needs_row (outcome n h) (figures.runs_needed n h) left) }
+pub fn wicket_word(count: u32) -> &'static str
+    ensures { result.now ≡ (if count == 1 then codes "wicket" else codes "wickets") }
+{
+    if count == 1 { "wicket" } else { "wickets" }
+}
+
+/// Prints a side, and how it has won.
+fn print_winner<W: Sink>(out: &mut Watched<W>, side: &str, how: &str) -> Result<(), WriteFailed>
+    ensures text { OnOk result (Prints W.contents out.old out.new (codes "  " ++ side.now ++ how.now)) }
+    ensures failed { TellsFailure result out.old out.new }
+{
+    write!(out, "  {side}{how}")
+}
+
+/// Prints by how many of this.
+fn print_margin<W: Sink>(out: &mut Watched<W>, count: u32, unit: &str) -> Result<(), WriteFailed>
+    ensures text { OnOk result (Prints W.contents out.old out.new (decimal count ++ codes " " ++ unit.now)) }
+    ensures failed { TellsFailure result out.old out.new }
+{
+    write!(out, "{count} {unit}")
+}
+
+/// Prints that a side has won by so many of this.
+fn print_win<W: Sink>(
+    out: &mut Watched<W>,
+    side: &str,
+    how: &str,
+    count: u32,
+    unit: &str,
+) -> Result<(), WriteFailed>
+    ensures text { OnOk result (Prints W.contents out.old out.new
+        (codes "  " ++ side.now ++ how.now ++ (decimal count ++ codes " " ++ unit.now))) }
+    ensures failed { TellsFailure result out.old out.new }
+{
+    print_winner(out, side, how)?;
+    print_margin(out, count, unit)
+}
+
+/// Prints that a side has won by an innings and so many runs.
+fn print_innings_win<W: Sink>(
+    out: &mut Watched<W>,
+    sheet: &MatchSheet,
+    side: Side,
+    count: u32,
+) -> Result<(), WriteFailed>
+    ensures text { OnOk result (Prints W.contents out.old out.new (rows.innings_win sheet.now side count)) }
+    ensures failed { TellsFailure result out.old out.new }
+{
+    print_win(
+        out,
+        sheet.name(side),
+        " won by an innings and ",
+        count,
+        run_word(count),
+    )
+}
+
+/// Prints what is needed, where nothing limits the deliveries and the match isn't decided.
+pub fn print_aim<W: Sink>(
+    out: &mut Watched<W>,
+    score: &Match,
+    left: Option<u32>,
+) -> Result<(), WriteFailed>
+    ensures text { ForEachHistory score.now (λ n h. OnOk result (Prints W.contents out.old out.new
+        (rows.aim (outcome n h) (figures.runs_needed n h) left))) }
+    ensures failed { TellsFailure result out.old out.new }
 {
     match (score.result(), runs_needed(score), left) {
-        (Outcome::Undecided, Some(runs), Some(left)) => {
-            Some(("  needs ", runs, off(runs, left), "\n"))
-        }
-        _ => None,
+        (Outcome::Undecided, Some(runs), None) => write!(out, "  needs {runs}"),
+        _ => Ok(()),
     }
 }
 
-type Counted = (u32, &'static str, &'static str);
-
-fn in_runs(count: u32) -> Counted
-    ensures { ⟦<Counted as Text>⟧.bytes result ≡ counted count (codes "run") (codes "runs") }
-{
-    (count, " ", if count == 1 { "run" } else { "runs" })
-}
-
-fn in_wickets(count: u32) -> Counted
-    ensures { ⟦<Counted as Text>⟧.bytes result ≡ counted count (codes "wicket") (codes "wickets") }
-{
-    (count, " ", if count == 1 { "wicket" } else { "wickets" })
-}
-
-type Ended<'a> = Option<(&'static str, &'a str, &'static str, Option<Counted>)>;
-
-/// How a match has ended, where it has.
-fn ended(sheet: &MatchSheet, outcome: Outcome) -> Ended<'_>
-    ensures { ⟦<Ended<'static> as Text>⟧.bytes result ≡ rows.result_part sheet.now outcome }
+/// Prints how a match has ended, where it has.
+fn print_ended<W: Sink>(
+    out: &mut Watched<W>,
+    sheet: &MatchSheet,
+    outcome: Outcome,
+) -> Result<(), WriteFailed>
+    ensures text { OnOk result (Prints W.contents out.old out.new (rows.result_part sheet.now outcome)) }
+    ensures failed { TellsFailure result out.old out.new }
 {
     match outcome {
-        Outcome::Undecided => None,
-        Outcome::Draw => Some(("  ", "match drawn", "", None)),
-        Outcome::Tie => Some(("  ", "match tied", "", None)),
+        Outcome::Undecided => Ok(()),
+        Outcome::Draw => write!(out, "  match drawn"),
+        Outcome::Tie => write!(out, "  match tied"),
         Outcome::Runs(side, count) => {
-            Some(("  ", sheet.name(side), " won by ", Some(in_runs(count))))
+            print_win(out, sheet.name(side), " won by ", count, run_word(count))
         }
         Outcome::Wickets(side, count) => {
-            Some(("  ", sheet.name(side), " won by ", Some(in_wickets(count))))
+            print_win(out, sheet.name(side), " won by ", count, wicket_word(count))
         }
-        Outcome::InningsAnd(side, count) => Some((
-            "  ",
-            sheet.name(side),
-            " won by an innings and ",
-            Some(in_runs(count)),
-        )),
+        Outcome::InningsAnd(side, count) => print_innings_win(out, sheet, side, count),
         Outcome::PenaltyRuns(side) => {
-            Some(("  ", sheet.name(side), " won by penalty runs", None))
+            let name = sheet.name(side);
+            write!(out, "  {name} won by penalty runs")
         }
     }
 }
@@ -95,7 +157,7 @@ pub fn print_result<W: Sink>(
         (rows.result_part sheet.now (outcome n h)))) }
     ensures failed { TellsFailure result out.old out.new }
 {
-    ended(sheet, score.result()).print(out)
+    print_ended(out, sheet, score.result())
 }
 
 /// Whether a match has ended.
@@ -105,23 +167,31 @@ fn is_decided(outcome: Outcome) -> bool
     !matches!(outcome, Outcome::Undecided)
 }
 
-pub type ResultRow<'a> = Option<(Ended<'a>, &'static str)>;
-
-/// How a match has ended, where it has, on a row of its own.
-fn ended_row(sheet: &MatchSheet, outcome: Outcome) -> ResultRow<'_>
-    ensures { ⟦<ResultRow<'static> as Text>⟧.bytes result ≡ rows.result_row sheet.now outcome }
+/// Prints how a match has ended, where it has, on a row of its own.
+fn print_ended_row<W: Sink>(
+    out: &mut Watched<W>,
+    sheet: &MatchSheet,
+    outcome: Outcome,
+) -> Result<(), WriteFailed>
+    ensures text { OnOk result (Prints W.contents out.old out.new (rows.result_row sheet.now outcome)) }
+    ensures failed { TellsFailure result out.old out.new }
 {
-    if is_decided(outcome) {
-        Some((ended(sheet, outcome), "\n"))
-    } else {
-        None
+    if !is_decided(outcome) {
+        return Ok(());
     }
+    print_ended(out, sheet, outcome)?;
+    writeln!(out)
 }
 
-/// The result of a match that is decided, on a row of its own.
-pub fn result_row<'a>(sheet: &'a MatchSheet, score: &Match) -> ResultRow<'a>
-    ensures { ForEachHistory score.now (λ n h.
-        ⟦<ResultRow<'static> as Text>⟧.bytes result ≡ rows.result_row sheet.now (outcome n h)) }
+/// Prints the result of a match that is decided, on a row of its own.
+pub fn print_result_row<W: Sink>(
+    out: &mut Watched<W>,
+    sheet: &MatchSheet,
+    score: &Match,
+) -> Result<(), WriteFailed>
+    ensures text { ForEachHistory score.now (λ n h. OnOk result (Prints W.contents out.old out.new
+        (rows.result_row sheet.now (outcome n h)))) }
+    ensures failed { TellsFailure result out.old out.new }
 {
-    ended_row(sheet, score.result())
+    print_ended_row(out, sheet, score.result())
 }

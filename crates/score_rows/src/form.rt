@@ -1,11 +1,12 @@
 //! What of a row is shown, so that it fits the columns of a screen.
 
-ghost use Rattle.std.specs.Prelude.{◌≡◌, ◌-◌, ◌<◌, take, true};
+ghost use Rattle.std.specs.Prelude.{◌≡◌, ◌-◌, ◌<◌, OnOk, take, true};
 ghost use Rattle.cards.specs.Sheet as sheets;
 ghost use Rattle.std.specs.List.{list_all};
+ghost use Rattle.streams.specs.Watched.{Prints, TellsFailure};
 ghost use Rattle.score_rows.specs.Fit as fit;
 
-use crate::text::Text;
+use streams::{Sink, Watched, WriteFailed};
 
 /// What of a row is shown, the most first.
 #[derive(Clone, Copy)]
@@ -132,17 +133,15 @@ pub fn front_of(name: &str, most: usize) -> &str
     front
 }
 
-/// A name as it is shown, and the point behind one that is cut.
-pub type Name<'a> = (&'a str, &'static str);
-
-/// A name of at most so many letters.
-pub fn cut(name: &str, most: usize) -> Name<'_>
+/// Prints a name of at most so many letters.
+pub fn print_name<W: Sink>(out: &mut Watched<W>, name: &str, most: usize) -> Result<(), WriteFailed>
     requires { 0 < most }
-    ensures { ⟦<Name<'static> as Text>⟧.bytes result ≡ fit.cut most name.now }
+    ensures text { OnOk result (Prints W.contents out.old out.new (fit.cut most name.now)) }
+    ensures failed { TellsFailure result out.old out.new }
 {
-    if is_long(name, most) {
-        (front_of(name, most), ".")
-    } else {
-        (name, "")
+    if !is_long(name, most) {
+        return write!(out, "{name}");
     }
+    let front = front_of(name, most);
+    write!(out, "{front}.")
 }

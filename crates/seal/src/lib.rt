@@ -5,11 +5,10 @@ mod carrier;
 mod datagram;
 mod laws;
 mod link;
-mod receipts;
 mod ring;
 
 pub use carrier::{
-    CarriedLog, SEALED_ROOM, SealedBuffer, SealedBytes, SealedCarrier, Tag, TaggedMessage,
+    CarriedLog, SEALED_ROOM, SealedBuffer, SealedBytes, SealedCarrier, TaggedMessage,
 };
 pub use datagram::{Seal, hmac};
 pub use laws::{
@@ -17,5 +16,4 @@ pub use laws::{
     worked_tags,
 };
 pub use link::Sealed;
-pub use receipts::{MOST_RECEIPTS, Receipts};
-pub use ring::{MOST_PEERS, Opener, Ring, SealedForm, form_for};
+pub use ring::{MOST_PEERS, Opener, Ring, form_for};
