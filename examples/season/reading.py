@@ -123,6 +123,15 @@ def sheet_of(folder):
         return tomllib.load(file)
 
 
+def key_in(folder):
+    """By what the match in a folder is known, by its sheet alone, or nothing where that is none."""
+    try:
+        sheet = sheet_of(folder)
+        return str(sheet["number"]), str(sheet["home"]["name"]), str(sheet["away"]["name"])
+    except (ValueError, LookupError, TypeError, OSError):
+        return None
+
+
 def ruled(sheet, teams):
     """The outcome that the league wrote into the sheet's [info], if any: it goes before that of the Laws."""
     outcome = (of_kind(dict, sheet.get("info")) or {}).get("outcome")

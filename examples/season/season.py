@@ -12,14 +12,18 @@ folder, or after a change, it only writes the page: SEASON.html.
 import os
 import sqlite3
 import sys
+from collections import deque
 from concurrent.futures import ProcessPoolExecutor
+from itertools import islice
 
 sys.dont_write_bytecode = True
 from page import page_of
-from reading import LeftOut, hash_of, read_match
+from reading import LeftOut, hash_of, key_in, read_match
 
 HERE = os.path.dirname(os.path.realpath(__file__))
 VERSION = 2
+# by these a match is found again
+INDEXES = ("CREATE INDEX IF NOT EXISTS by_files ON matches (files)", "CREATE INDEX IF NOT EXISTS by_folder ON matches (folder)")
 
 
 class Refused(Exception):
@@ -40,9 +44,8 @@ def opened(path):
     return season
 
 
-def looked_at(task):
+def looked_at(program, folder):
     """What came of a folder: its match, or the reason why there is none."""
-    program, folder = task
     try:
         return folder, read_match(program, folder)
     except LeftOut as why:
@@ -51,12 +54,19 @@ def looked_at(task):
         return folder, f"it can't be read: {why!r}"
 
 
-def read_all(program, folders):
-    """The match or the reason of each folder, as many at once as there are processors."""
+def read_each(program, folders):
+    """The match or the reason of each folder, in this order, as many at once as there are processors. So few wait to be taken that
+    memory stays as it is, however many there are."""
     if not folders:
-        return []
+        return
     with ProcessPoolExecutor(os.cpu_count()) as processes:
-        return list(processes.map(looked_at, [(program, folder) for folder in folders]))
+        begun = deque()
+        for folder in folders:
+            begun.append(processes.submit(looked_at, program, folder))
+            if len(begun) > 2 * os.cpu_count():
+                yield begun.popleft().result()
+        while begun:
+            yield begun.popleft().result()
 
 
 class Reading:
@@ -67,12 +77,17 @@ class Reading:
         self.sums = {"new": 0, "changed": 0, "as before": 0}
 
     def read(self, program, folders):
+        for index in INDEXES:
+            self.season.execute(index)
         self.hash(folders)
-        found = read_all(program, [folder for folder in self.files if not self.is_known(folder)])
-        self.left_out.update((folder, told) for folder, told in found if isinstance(told, str))
-        matches = {folder: match for folder, match in found if not isinstance(match, str)}
-        for folder, match in matches.items():
-            self.take(folder, match, matches)
+        alike = {}
+        for folder in self.files:
+            if not self.is_known(folder):
+                alike.setdefault(key_in(folder) or folder, []).append(folder)
+        found = read_each(program, [folder for listed in alike.values() for folder in listed])
+        hashes = set(self.files.values())
+        for listed in alike.values():
+            self.take(islice(found, len(listed)), hashes)
         self.note_left_out(folders)
 
     def hash(self, folders):
@@ -95,18 +110,29 @@ class Reading:
         self.sums["as before"] += known
         return known > 0
 
-    def take(self, folder, match, matches):
-        """Puts a match in, in the place of what was known of it."""
-        twice = [other for other, it in matches.items() if other != folder and it.key == match.key]
-        old = self.season.execute("SELECT id, folder, files FROM matches WHERE number = ? AND home = ? AND away = ?", match.key).fetchone()
-        twice += [old[1]] if old and old[2] in self.files.values() else []
-        if twice:
-            self.left_out[folder] = f"the match of {twice[0]} with other files: give one of the two"
+    def take(self, found, hashes):
+        """Puts a match in, in the place of what was known of it: the one of all folders with its key that can be taken. Where there are
+        more, or what was known is among what is read, none is."""
+        first, folders = None, []
+        for folder, match in found:
+            if isinstance(match, str):
+                self.left_out[folder] = match
+            else:
+                first = first or match
+                folders.append(folder)
+        if not folders:
+            return
+        old = self.season.execute("SELECT id, folder, files FROM matches WHERE number = ? AND home = ? AND away = ?", first.key).fetchone()
+        rivals = folders[:2] + ([old[1]] if old and old[2] in hashes else [])
+        if len(rivals) > 1:
+            for folder in folders:
+                other = next(it for it in rivals if it != folder)
+                self.left_out[folder] = f"the match of {other} with other files: give one of the two"
             return
         self.sums["changed" if old else "new"] += 1
         if old:
             self.season.execute("DELETE FROM matches WHERE id = ?", (old[0],))
-        self.put(match)
+        self.put(first)
 
     def put(self, match):
         self.insert("matches", [match.row])

@@ -1,4 +1,5 @@
--- The tables of a season and what is reckoned of them. A side's name and a player's name in it say who a player is.
+-- The tables of a season and what is reckoned of them. A side's name and a player's name in it say who a player is. SQLite reads it as
+-- it stands; PostgreSQL once engines.py has put in its own words for a number with a fraction and for what a deletion takes along.
 
 CREATE TABLE matches (
     id INTEGER PRIMARY KEY,
@@ -103,15 +104,15 @@ INSERT INTO points VALUES ('won', 2), ('tied', 1), ('drawn', 1), ('no result', 1
 CREATE TABLE adjustments (team TEXT NOT NULL, points REAL NOT NULL, why TEXT NOT NULL);
 
 CREATE VIEW batting AS
-SELECT team, player, matches, innings, not_out, runs, (best / 2) || iif(best % 2, '*', '') AS highest,
+SELECT team, player, matches, innings, not_out, runs, (best / 2) || CASE best % 2 WHEN 1 THEN '*' ELSE '' END AS highest,
     round(1.0 * runs / nullif(innings - not_out, 0), 2) AS average, balls,
     round(100.0 * runs / nullif(balls, 0), 2) AS strike_rate, hundreds, fifties, ducks, fours, sixes
 FROM (
     SELECT team, player, count(*) AS innings, sum(1 - is_out) AS not_out, sum(runs) AS runs, max(2 * runs + 1 - is_out) AS best,
-        sum(balls) AS balls, sum(runs >= 100) AS hundreds, sum(runs BETWEEN 50 AND 99) AS fifties,
-        sum(is_out AND runs = 0) AS ducks, sum(fours) AS fours, sum(sixes) AS sixes
+        sum(balls) AS balls, count(*) FILTER (WHERE runs >= 100) AS hundreds,
+        count(*) FILTER (WHERE runs BETWEEN 50 AND 99) AS fifties, count(*) FILTER (WHERE is_out = 1 AND runs = 0) AS ducks, sum(fours) AS fours, sum(sixes) AS sixes
     FROM batters GROUP BY team, player
-) JOIN (SELECT team, player, count(*) AS matches FROM appearances GROUP BY team, player) USING (team, player)
+) AS b JOIN (SELECT team, player, count(*) AS matches FROM appearances GROUP BY team, player) AS a USING (team, player)
 ORDER BY runs DESC, innings, team, player;
 
 -- the best bowling is that of an innings: most wickets, and of these fewest runs
@@ -121,37 +122,38 @@ SELECT team, player, matches, (balls / 6) || '.' || (balls % 6) AS overs, balls,
     round(6.0 * runs / nullif(balls, 0), 2) AS economy, round(1.0 * balls / nullif(wickets, 0), 2) AS strike_rate, fives, wides, noballs
 FROM (
     SELECT team, player, sum(balls) AS balls, sum(maidens) AS maidens, sum(runs) AS runs, sum(wickets) AS wickets,
-        max(100000 * wickets + 99999 - runs) AS best, sum(wickets >= 5) AS fives, sum(wides) AS wides, sum(noballs) AS noballs
+        max(100000 * wickets + 99999 - runs) AS best, count(*) FILTER (WHERE wickets >= 5) AS fives, sum(wides) AS wides, sum(noballs) AS noballs
     FROM bowlers GROUP BY team, player
-) JOIN (SELECT team, player, count(*) AS matches FROM appearances GROUP BY team, player) USING (team, player)
+) AS b JOIN (SELECT team, player, count(*) AS matches FROM appearances GROUP BY team, player) AS a USING (team, player)
 ORDER BY wickets DESC, runs, team, player;
 
 CREATE VIEW fielding AS
 SELECT fielding AS team, fielder AS player, count(*) AS dismissals,
-    sum(wicket_type IN ('caught', 'caught and bowled')) AS catches, sum(wicket_type = 'stumped') AS stumpings, sum(wicket_type = 'run out') AS run_outs
+    count(*) FILTER (WHERE wicket_type IN ('caught', 'caught and bowled')) AS catches,
+    count(*) FILTER (WHERE wicket_type = 'stumped') AS stumpings, count(*) FILTER (WHERE wicket_type = 'run out') AS run_outs
 FROM dismissals WHERE fielder IS NOT NULL AND wicket_type IN ('caught', 'caught and bowled', 'stumped', 'run out')
 GROUP BY fielding, fielder ORDER BY dismissals DESC, team, player;
 
 CREATE VIEW partnerships AS
-SELECT s.team, wicket, first || ' and ' || coalesce(second, 'nobody') AS batters, runs || iif(is_unbroken, '*', '') AS partnership,
+SELECT s.team, wicket, first || ' and ' || coalesce(second, 'nobody') AS batters, runs || CASE is_unbroken WHEN 1 THEN '*' ELSE '' END AS partnership,
     balls, day, title, runs, is_unbroken
-FROM stands s JOIN matches m ON m.id = s.match ORDER BY runs DESC, is_unbroken DESC, balls, day, number, innings, place;
+FROM stands s JOIN matches m ON m.id = s.match ORDER BY runs DESC, is_unbroken DESC, balls, day NULLS FIRST, number, innings, place;
 
 -- a row for each side of each match that has a result
 CREATE VIEW results AS
-SELECT match, team, other, iif(result <> 'won', result, iif(winner = team, 'won', 'lost')) AS result FROM (
+SELECT match, team, other, CASE WHEN result <> 'won' THEN result WHEN winner = team THEN 'won' ELSE 'lost' END AS result FROM (
     SELECT id AS match, home AS team, away AS other, result, winner FROM matches
     UNION ALL SELECT id, away, home, result, winner FROM matches
-) WHERE result <> 'unfinished';
+) AS sides WHERE result <> 'unfinished';
 
 -- runs and overs of matches of limited overs that were won or tied: a side that is all out has had all its overs
 CREATE VIEW rates AS
-SELECT i.team, i.fielding, i.runs, iif(i.ended IN ('allout', 'nobatter'), 6 * i.most_overs, i.balls) / 6.0 AS overs
+SELECT i.team, i.fielding, i.runs, CASE WHEN i.ended IN ('allout', 'nobatter') THEN 6 * i.most_overs ELSE i.balls END / 6.0 AS overs
 FROM innings i JOIN matches m ON m.id = i.match WHERE i.most_overs IS NOT NULL AND m.result IN ('won', 'tied');
 
 CREATE VIEW "table" AS
-SELECT team, count(*) AS played, sum(result = 'won') AS won, sum(result = 'lost') AS lost, sum(result = 'tied') AS tied,
-    sum(result IN ('drawn', 'no result')) AS drawn,
+SELECT team, count(*) AS played, count(*) FILTER (WHERE result = 'won') AS won, count(*) FILTER (WHERE result = 'lost') AS lost,
+    count(*) FILTER (WHERE result = 'tied') AS tied, count(*) FILTER (WHERE result IN ('drawn', 'no result')) AS drawn,
     round(sum(p.points) + coalesce((SELECT sum(a.points) FROM adjustments a WHERE a.team = r.team), 0), 2) AS points,
     round((SELECT sum(runs) / sum(overs) FROM rates WHERE team = r.team) - (SELECT sum(runs) / sum(overs) FROM rates WHERE fielding = r.team), 2) AS run_rate
-FROM results r JOIN points p USING (result) GROUP BY team ORDER BY points DESC, won DESC, run_rate DESC, team;
+FROM results r JOIN points p USING (result) GROUP BY team ORDER BY points DESC, won DESC, run_rate DESC NULLS LAST, team;

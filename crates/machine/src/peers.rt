@@ -6,7 +6,7 @@ use crate::times::SOCKET_CALL_WAIT;
 use crate::waiting::{NO_DESCRIPTOR, WaitEnds, wait_at};
 use links::{Receivers, Taken};
 use seal::{
-    CarriedLog, MOST_PEERS, Opener, SealedBuffer, SealedBytes, SealedCarrier, TaggedMessage,
+    CarriedLog, MOST_PEERS, Opener, SealedBuffer, SealedCarrier, SealedForm, TaggedMessage,
     form_for,
 };
 use std::cell::Cell;
@@ -147,7 +147,7 @@ impl<E: Write + Drop> Mail<'_, E> {
 
     /// Sends bytes to a peer. That the machine refuses it is told where it begins to, and so is that it sends again. It
     /// answers whether it is refused now; what was held up for a moment says nothing.
-    fn send_to(&mut self, bytes: &SealedBytes, address: SocketAddr, is_refused: bool) -> bool {
+    fn send_to(&mut self, bytes: &SealedForm, address: SocketAddr, is_refused: bool) -> bool {
         match self.port.send(bytes.as_slice(), address) {
             Ok(_) => {
                 if is_refused {
@@ -207,7 +207,7 @@ impl<E: Write + Drop> Mail<'_, E> {
 
     /// The next datagram, if it is a peer's and comes in time. That of a stranger is passed over, one a call.
     fn receive(&mut self, buffer: &mut SealedBuffer, wait: u64) -> Taken
-        ensures { (count : ℕ) → result ≡ Taken.Datagram count → count ≤ 65 }
+        ensures { (count : ℕ) → result ≡ Taken.Datagram count → count ≤ 81 }
     {
         let came = self.port.receive(buffer.as_mut_slice(), wait);
         if self.port.is_page_ready() {

@@ -19,7 +19,7 @@ use hex::encode_to_slice;
 use links::Window;
 use machine::{Address, MOST_PEERS, MonotonicClock, Peers, WaitEnds};
 use machine_files::is_same_file;
-use seal::{Ring, Seal, Sealed};
+use seal::{Receipts, Ring, Seal, Sealed};
 use std::alloc::Global;
 use std::cell::Cell;
 use std::fs;
@@ -108,7 +108,7 @@ fn ring_of_one(key: &[u8], station: Asker, digest: &[u8; 32]) -> Ring
     let seal = Seal::new(key, digest);
     let (second, third) = (seal.copied(), seal.copied());
     let (fourth, fifth) = (seal.copied(), seal.copied());
-    Ring::new(station, [seal, second, third, fourth, fifth])
+    Ring::new(station, [seal, second, third, fourth, fifth], false)
 }
 
 /// The seal that a desk shares with a board, of the second key in the desk's file.
@@ -155,7 +155,7 @@ fn ring_of_pairs(
         Asker::A | Asker::B => desk_seals(first, second, digest),
         Asker::Board => board_seals(first, second, digest),
     };
-    Ok(Ring::new(station, seals))
+    Ok(Ring::new(station, seals, true))
 }
 
 /// The seals of a station, of the bytes of its key's file and the digest of the sheet.
@@ -382,6 +382,11 @@ impl Sealing {
         }
     }
 
+    /// Room for the receipts that a board with keys for each pair keeps of desks' votes, none yet.
+    fn receipts<'a>(&self, alloc: Global, path: &'a str) -> Result<Receipts, Stopped<'a>> {
+        Receipts::of(alloc, &self.ring).map_err(|_| Stopped::at(path, StopFault::NoMemory))
+    }
+
     /// A station's sealed datagrams at its address, of which none passed yet. Its waits end for these too: where that is for
     /// their page, it is noted.
     pub fn sealed_at<'a, 'w, E: Write + Drop>(
@@ -396,8 +401,9 @@ impl Sealing {
         ensures ring { IfOk result (λ sealed. sealed.ring ≡ self.now.ring) }
         ensures log { IfOk result (λ sealed. carried_of sealed.carrier.log ≡ []) }
     {
+        let receipts = self.receipts(rt.alloc(), at.text)?;
         let peers = peers_at(rt, at, peers, ends, called, self.ring.opener(), errors)?;
-        Ok(Sealed::new(peers, self.ring.copied()))
+        Ok(Sealed::new(peers, self.ring.copied(), receipts))
     }
 
     /// A station's link over its sealed datagrams, of which none passed yet. It has no socket but theirs.

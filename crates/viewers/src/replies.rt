@@ -104,10 +104,10 @@ fn front(
     size: BodySize,
 ) -> Result<Vec<u8>, WriteError>
     ensures text { IfOk result (λ bytes.
-        bytes.items ≡ planned_response server.old head.status head.reason.now size (texts.fields_of station head.status head.kind.now)) }
-    ensures next { OnOk result (server.new ≡ after_response server.old head.status size (texts.fields_of station head.status head.kind.now)) }
+        bytes.items ≡ planned_response server.old head.entry.status head.entry.reason.now size (texts.fields_of station head.entry.status head.entry.kind.now)) }
+    ensures next { OnOk result (server.new ≡ after_response server.old head.entry.status size (texts.fields_of station head.entry.status head.entry.kind.now)) }
     ensures taken { OnOk result
-        (response_refusal server.old head.status head.reason.now size (texts.fields_of station head.status head.kind.now) ≡ None) }
+        (response_refusal server.old head.entry.status head.entry.reason.now size (texts.fields_of station head.entry.status head.entry.kind.now) ≡ None) }
 {
     let fields = fields_of(station, head.status, head.kind);
     let mut out = Vec::new(alloc);
@@ -145,9 +145,9 @@ fn whole(
     is_head: bool,
 ) -> Result<Vec<u8>, WriteError>
     ensures text { IfOk result (λ bytes.
-        bytes.items ≡ texts.whole_text server.old station head.status head.reason.now head.kind.now text.now is_head) }
-    ensures http { IfOk result (λ bytes. IsResponse server.old head.status head.reason.now
-        (texts.fields_of station head.status head.kind.now) (texts.sent_of text.now is_head) bytes.items) }
+        bytes.items ≡ texts.whole_text server.old station head.entry.status head.entry.reason.now head.entry.kind.now text.now is_head) }
+    ensures http { IfOk result (λ bytes. IsResponse server.old head.entry.status head.entry.reason.now
+        (texts.fields_of station head.entry.status head.entry.kind.now) (texts.sent_of text.now is_head) bytes.items) }
 {
     let size = BodySize::Known(text.len() as u64);
     let mut out = front(alloc, server, station, head, size)?;
