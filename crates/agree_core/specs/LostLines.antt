@@ -2,23 +2,13 @@
 --
 -- A desk leaves a position once both votes of it are there. So where a desk votes, both desks have voted at every position
 -- before it.
-use Rattle.std.specs.Prelude.{ℕ, Bool, false, ◌==◌, nat_lt, not, if◌then◌else◌, ◌&&◌, ◌||◌, is_some, List, [], ◌∷◌}
+use Rattle.std.specs.Prelude.{ℕ, Bool, false, not, if◌then◌else◌, ◌&&◌, ◌||◌, is_some, List, [], ◌∷◌}
 use Rattle.std.specs.Str.{bytes_eq}
 use Rattle.notation.specs.Code.{code}
 use Rattle.agree_core.specs.declared.position.Position.{Position}
 use Rattle.agree_core.specs.Ballots.{Ballot}
-use Rattle.agree_core.specs.Positions.{next_place, next_round}
+use Rattle.agree_core.specs.Positions.{is_at, is_before, is_next, next_place, next_round}
 use Rattle.agree_core.specs.Seats.{SeatState}
-
-abbrev pub is_before : Position → Position → Bool
-is_before p q = nat_lt p.place q.place || ((p.place == q.place) && nat_lt p.round q.round)
-
-abbrev pub is_at : Position → Position → Bool
-is_at p q = (p.place == q.place) && (p.round == q.round)
-
--- it is the next round or the next place
-abbrev pub is_next : Position → Position → Bool
-is_next p q = is_at (next_round p) q || is_at (next_place p) q
 
 -- The other desk can have come to this position, by what this desk has voted: it isn't ahead of this desk's own; or it is
 -- the next one, and the own vote is cast, without which nobody leaves a position. The other's vote for any other position

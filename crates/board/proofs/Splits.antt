@@ -10,7 +10,7 @@ use Rattle.notation.proofs.Decoded.{code_once}
 use Rattle.agree_core.specs.declared.messages.{DeskId.DeskId, Vote.Vote}
 use Rattle.agree_core.specs.declared.messages.DeskId.TheVariants.{A, B}
 use Rattle.agree_core.specs.declared.position.Position.{Position}
-use Rattle.agree_core.specs.LostLines.{is_at}
+use Rattle.agree_core.specs.Positions.{is_at}
 use Rattle.board.specs.declared.witness.Round.{Round}
 use Rattle.board.specs.Rounds.{HeardAgreed, IsOneOf, SplitsAreSeen, cast_by, is_against, is_alike, is_another, is_later, parts}
 

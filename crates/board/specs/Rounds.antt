@@ -8,8 +8,7 @@ use Rattle.notation.specs.declared.entry.Entry.{Entry}
 use Rattle.agree_core.specs.declared.messages.{Asker.Asker, DeskId.DeskId, Message.Message, Vote.Vote}
 use Rattle.agree_core.specs.declared.position.Position.{Position}
 use Rattle.agree_core.specs.declared.messages.DeskId.TheVariants.{A, B}
-use Rattle.agree_core.specs.LostLines.{is_at}
-use Rattle.agree_core.specs.Positions.{position_of}
+use Rattle.agree_core.specs.Positions.{is_at, position_of}
 use Rattle.agree_core.specs.Readers.{ReaderState}
 use Rattle.board.specs.declared.witness.Round.{Round}
 use Rattle.board.specs.declared.witness.TheConstants.{MOST_ROUNDS}

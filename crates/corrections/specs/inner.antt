@@ -1,4 +1,4 @@
 -- What serves private functions and proofs only.
-pub mod Kept
+pub mod KeptBook
 pub mod Overs
 pub mod Scoring

@@ -16,7 +16,7 @@ use Rattle.agree_core.specs.Seats.{Casts, Hears, SeatState, waiting}
 use Rattle.agree_core.proofs.FileBooks.{book_long}
 use Rattle.vote_store.specs.Sequence.{comes_next, last_position}
 use Rattle.vote_store.proofs.SequenceLemmas.{IsVotes, is_at-same}
-use Rattle.desk.specs.inner.Kept.{IsCast, IsNext, newest}
+use Rattle.desk.specs.inner.KeptVotes.{IsCast, IsNext, newest}
 
 pub record IsKept (n : ℕ) (book : List Entry) (seat : SeatState) (votes : List Ballot) : Type 0 where
   pub as_long : length book ≡ seat.position.place

@@ -14,7 +14,7 @@ use Rattle.json.specs.Json.{Json}
 use Rattle.json.specs.Token.{Token}
 use Rattle.json_fields.specs.Values.{values_tokens}
 use Rattle.json_fields.proofs.Putting.{no_values, values_due}
-use Rattle.book_rows.specs.Listing.{corrected_at}
+use Rattle.corrections.specs.Fixes.{corrected_at}
 use Rattle.over_numbers.specs.declared.count.Count.{Count}
 use Rattle.over_numbers.specs.Counts.{counted}
 use Rattle.desk_state.specs.declared.before.Before.{Before}

@@ -20,7 +20,7 @@ use Rattle.corrections.specs.CleanList.{clean, clean_items_of, history_of, kept}
 use Rattle.corrections.specs.Legal.{IsLegalBook}
 use Rattle.corrections.specs.Refusal.{book_refusal}
 use Rattle.corrections.specs.declared.placed.Placed.{Placed}
-use Rattle.corrections.specs.inner.Kept.{IsKept}
+use Rattle.corrections.specs.inner.KeptBook.{IsKept}
 use Rattle.corrections.specs.inner.Scoring.{AreInRange, history_after, with_entry}
 use Rattle.corrections.proofs.BookGrowthLemmas.{in_range-items, items-push, kept_at_start, kept-push}
 use Rattle.corrections.proofs.LegalLemmas.{clean_items_of-push, history_of-clean_items, is_named, legal-none, legal_now, one_more}

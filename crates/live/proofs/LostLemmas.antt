@@ -11,12 +11,12 @@ use Rattle.notation.specs.Written.{IsEntry}
 use Rattle.notation.proofs.Decoded.{code_once}
 use Rattle.agree_core.specs.declared.messages.{Ask.Ask, DeskId.DeskId, Vote.Vote}
 use Rattle.agree_core.specs.Ballots.{Ballot, In}
-use Rattle.agree_core.specs.Positions.{next_place, next_round, position_of}
+use Rattle.agree_core.specs.Positions.{is_at, is_before, next_place, next_round, position_of}
 use Rattle.vote_store.specs.VoteList.{last_vote}
 use Rattle.agree_core.specs.declared.{messages.Message.Message, position.Position.Position, seat.Heard.Heard}
 use Rattle.agree_core.specs.Desks.{Asked, DeskState, Receives, Replies, Told}
 use Rattle.agree_core.specs.FileView.{FileView}
-use Rattle.agree_core.specs.LostLines.{is_another, is_at, is_before, is_in_reach, is_voted}
+use Rattle.agree_core.specs.LostLines.{is_another, is_in_reach, is_voted}
 use Rattle.agree_core.specs.Seats.{SeatState}
 use Rattle.desk.specs.Answers.{replied}
 use Rattle.desk.specs.Takes.{Takes}

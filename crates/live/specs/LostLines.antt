@@ -5,7 +5,8 @@ use Rattle.notation.specs.Code.{code}
 use Rattle.agree_core.specs.declared.{messages.Asker.Asker, messages.DeskId.DeskId, position.Position.Position, seat.Heard.Heard}
 use Rattle.agree_core.specs.declared.messages.DeskId.TheVariants.{A, B}
 use Rattle.agree_core.specs.Ballots.{Ballot}
-use Rattle.agree_core.specs.LostLines.{is_another, is_at, is_before, is_in_reach, is_passed_over}
+use Rattle.agree_core.specs.LostLines.{is_another, is_in_reach, is_passed_over}
+use Rattle.agree_core.specs.Positions.{is_at, is_before}
 use Rattle.agree_core.specs.Seats.{SeatState}
 use Rattle.live.specs.declared.lost_lines.Bearing.{Bearing}
 use Rattle.station_texts.specs.declared.doubt.Evidence.{Evidence}

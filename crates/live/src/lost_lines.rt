@@ -1,10 +1,11 @@
 //! What a message that came shows of lines that one of both desks' files lacks.
 
-ghost use Rattle.std.specs.Prelude.{◌≡◌, ◌==◌, ◌+◌, ◌&&◌, not, if◌then◌else◌, Ok, Some};
+ghost use Rattle.std.specs.Prelude.{◌≡◌, ◌&&◌, not, Ok, Some};
 ghost use Rattle.std.specs.Result.{ForOk};
 ghost use Rattle.std.specs.Str.{bytes_eq};
 ghost use Rattle.agree_core.specs.LostLines as votes;
-ghost use Rattle.agree_core.specs.Positions.{InRange, next_place, next_round, position_of};
+ghost use Rattle.agree_core.specs.Positions as order;
+ghost use Rattle.agree_core.specs.Positions.{position_of};
 ghost use Rattle.agree_core.specs.declared.messages.{Ask.Ask as AnAsk, Vote.Vote as AVote};
 ghost use Rattle.desk.specs.Desk.{state_of};
 ghost use Rattle.live.specs.LostLines as lost;
@@ -31,59 +32,12 @@ fn position_in(read: Result<Message, WireFault>) -> Position
     }
 }
 
-/// Whether two positions are one.
-fn is_at(at: Position, other: Position) -> bool
-    ensures { result ≡ votes.is_at at other }
-{
-    at.place == other.place && at.round == other.round
-}
-
-/// Whether a position comes before another one.
-fn is_before(at: Position, other: Position) -> bool
-    ensures { result ≡ votes.is_before at other }
-{
-    at.place < other.place || (at.place == other.place && at.round < other.round)
-}
-
-/// The position that comes next after votes at this one that are alike, or not.
-fn next_of(at: Position, alike: bool) -> Position
-    requires { InRange at }
-    ensures { result ≡ (if alike then next_place at else next_round at) }
-{
-    if alike {
-        Position {
-            place: at.place + 1,
-            round: 0,
-        }
-    } else {
-        Position {
-            place: at.place,
-            round: at.round + 1,
-        }
-    }
-}
-
-/// Whether a number follows another one.
-fn follows(number: u32, next: u32) -> bool
-    ensures { result ≡ (number + 1 == next) }
-{
-    next > number && next - number == 1
-}
-
-/// Whether the second position is the next round or the next place of the first.
-fn is_next(at: Position, next: Position) -> bool
-    ensures { result ≡ votes.is_next at next }
-{
-    (at.place == next.place && follows(at.round, next.round))
-        || (follows(at.place, next.place) && next.round == 0)
-}
-
 /// Whether the other desk can have come to this position, by what this desk has voted.
 fn is_in_reach<S: SlotsOf, B: BookOf + Drop>(desk: &Desk<S, B>, at: Position) -> bool
     ensures { result ≡ votes.is_in_reach (state_of desk.now).seat at }
 {
     let own = desk.position();
-    !is_before(own, at) || (desk.has_voted() && is_next(own, at))
+    !own.is_before(at) || (desk.has_voted() && own.is_next(at))
 }
 
 /// Whether two entries are one.
@@ -108,13 +62,11 @@ fn is_another_vote<S: SlotsOf, B: BookOf + Drop>(
     let Some(last) = desk.last_vote() else {
         return false;
     };
-    if !is_at(last.position(), at) {
-        return is_before(last.position(), at);
+    if !last.position().is_at(at) {
+        return last.position().is_before(at);
     }
-    is_at(
-        next_of(last.position(), !is_alike(entry, &last.entry)),
-        desk.position(),
-    )
+    let next = last.position().next(!is_alike(entry, &last.entry));
+    next.is_at(desk.position())
 }
 
 /// Whether the own vote isn't cast at a position.
@@ -122,7 +74,7 @@ fn is_uncast<S: SlotsOf, B: BookOf + Drop>(desk: &Desk<S, B>, at: Position) -> b
     ensures { result ≡ lost.is_uncast (state_of desk.now).seat at }
 {
     let own = desk.position();
-    !is_before(at, own) && !(is_at(at, own) && desk.has_voted())
+    !at.is_before(own) && !(at.is_at(own) && desk.has_voted())
 }
 
 /// Whether a desk's last vote is for this position, and for another entry.
@@ -136,7 +88,7 @@ fn is_other_last<S: SlotsOf, B: BookOf + Drop>(
     ensures { result ≡ lost.is_other_last (state_of desk.now).votes at (code entry.now) }
 {
     match desk.last_vote() {
-        Some(last) => is_at(last.position(), at) && !is_alike(entry, &last.entry),
+        Some(last) => last.position().is_at(at) && !is_alike(entry, &last.entry),
         None => false,
     }
 }
@@ -209,10 +161,10 @@ fn is_level<S: SlotsOf, B: BookOf + Drop>(
     at: Position,
     asker: Option<Asker>,
 ) -> bool
-    ensures { result ≡ (votes.is_at at (state_of desk.now).seat.position
+    ensures { result ≡ (order.is_at at (state_of desk.now).seat.position
         && lost.is_other (state_of desk.now).seat.desk asker) }
 {
-    is_at(at, desk.position()) && is_other(desk.letter(), asker)
+    at.is_at(desk.position()) && is_other(desk.letter(), asker)
 }
 
 /// Whether the other desk asks for a position before the one at which this desk stands.
@@ -221,10 +173,10 @@ fn is_earlier<S: SlotsOf, B: BookOf + Drop>(
     at: Position,
     asker: Option<Asker>,
 ) -> bool
-    ensures { result ≡ (votes.is_before at (state_of desk.now).seat.position
+    ensures { result ≡ (order.is_before at (state_of desk.now).seat.position
         && lost.is_other (state_of desk.now).seat.desk asker) }
 {
-    is_before(at, desk.position()) && is_other(desk.letter(), asker)
+    at.is_before(desk.position()) && is_other(desk.letter(), asker)
 }
 
 /// What a message tells by its position and by who says it.
@@ -292,11 +244,11 @@ pub fn bearing_of<S: SlotsOf, B: BookOf + Drop>(
     ensures unkept { (v : AVote) → read.now ≡ Ok (Message.Vote v) →
         result.unkept ≡ lost.is_unkept (state_of desk.now).seat (state_of desk.now).votes (position_of v) (code v.entry) }
     ensures passed_over { (q : AnAsk) → read.now ≡ Ok (Message.Ask q) →
-        result.passed_over ≡ (votes.is_before (is_at (Message.Ask q)) (state_of desk.now).seat.position
+        result.passed_over ≡ (order.is_before (is_at (Message.Ask q)) (state_of desk.now).seat.position
         && lost.is_other (state_of desk.now).seat.desk (Some q.from)) }
     ensures in_reach { ForOk read.now (λ m. result.in_reach ≡ votes.is_in_reach (state_of desk.now).seat (is_at m)) }
     ensures level { (q : AnAsk) → read.now ≡ Ok (Message.Ask q) →
-        result.is_level ≡ (votes.is_at (is_at (Message.Ask q)) (state_of desk.now).seat.position
+        result.is_level ≡ (order.is_at (is_at (Message.Ask q)) (state_of desk.now).seat.position
         && lost.is_other (state_of desk.now).seat.desk (Some q.from)) }
 {
     let at = position_in(*read);

@@ -9,8 +9,7 @@ use Rattle.notation.specs.Code.{code}
 use Rattle.agree_core.specs.declared.{messages.DeskId.DeskId, position.Position.Position}
 use Rattle.agree_core.specs.Ballots.{Ballot, Follows, In, Justified}
 use Rattle.agree_core.specs.Keeping.{MineFine, SeatFine}
-use Rattle.agree_core.specs.LostLines.{is_at, is_before}
-use Rattle.agree_core.specs.Positions.{Before}
+use Rattle.agree_core.specs.Positions.{Before, is_at, is_before}
 use Rattle.agree_core.specs.Seats.{SeatState}
 use Rattle.agree_core.proofs.Order.{earlier, one_vote}
 use Rattle.live.specs.LostLines.{is_other_last, is_uncast, is_unkept}

@@ -14,8 +14,7 @@ use Rattle.agree_core.specs.declared.messages.DeskId.TheVariants.{A, B}
 use Rattle.agree_core.specs.Ballots.{AllJustified, AllVotes, Ballot, In, VotesGrow, ballot_at, ballot_of, votes_by}
 use Rattle.agree_core.specs.Boards.{BoardState}
 use Rattle.agree_core.specs.Keeping.{BoardFine, Each, MessageFine, NotedFine}
-use Rattle.agree_core.specs.LostLines.{is_at}
-use Rattle.agree_core.specs.Positions.{position_of}
+use Rattle.agree_core.specs.Positions.{is_at, position_of}
 use Rattle.agree_core.specs.Readers.{ReaderState, noted_of, other}
 use Rattle.agree_core.proofs.Order.{one_vote}
 use Rattle.agree_core.proofs.Settling.{none_later}

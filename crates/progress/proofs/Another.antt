@@ -12,8 +12,8 @@ use Rattle.notation.proofs.Decoded.{code_once}
 use Rattle.agree_core.specs.declared.{messages.DeskId.DeskId, position.Position.Position}
 use Rattle.agree_core.specs.Ballots.{Ballot, Differed, Follows, In, Justified}
 use Rattle.agree_core.specs.Keeping.{SeatFine}
-use Rattle.agree_core.specs.LostLines.{is_another, is_at, is_before}
-use Rattle.agree_core.specs.Positions.{Before, next_place, next_round}
+use Rattle.agree_core.specs.LostLines.{is_another}
+use Rattle.agree_core.specs.Positions.{Before, is_at, is_before, next_place, next_round}
 use Rattle.agree_core.specs.Seats.{SeatState}
 use Rattle.agree_core.proofs.Order.{one_vote}
 use Rattle.agree_core.proofs.Settling.{none_later}

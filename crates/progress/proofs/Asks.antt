@@ -10,8 +10,8 @@ use Rattle.agree_core.specs.Ballots.{AllVotes, Ballot, In, VotesGrow, votes_by}
 use Rattle.agree_core.specs.Boards.{BoardState}
 use Rattle.agree_core.specs.Desks.{DeskState}
 use Rattle.agree_core.specs.Keeping.{Each, SeatFine}
-use Rattle.agree_core.specs.LostLines.{is_before, is_voted}
-use Rattle.agree_core.specs.Positions.{Before}
+use Rattle.agree_core.specs.LostLines.{is_voted}
+use Rattle.agree_core.specs.Positions.{Before, is_before}
 use Rattle.agree_core.specs.Readers.{other}
 use Rattle.agree_core.specs.Seats.{SeatState}
 use Rattle.agree_core.proofs.Both.{both_turned}

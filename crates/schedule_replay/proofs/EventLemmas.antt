@@ -6,7 +6,7 @@ use Rattle.entry_log.specs.Format.{contents}
 use Rattle.entry_log.specs.MemDisk.{SetsPlan, call_count, cap_of, file_of, images_of, plan_of}
 use Rattle.entry_log.specs.Plan.{due_of}
 use Rattle.entry_log.specs.declared.mem_disk.{MemDisk.MemDisk, choice.Choice.Choice, plan.Plan.Plan}
-use Rattle.entry_log.specs.declared.mem_disk.plan.Plan.TheVariants.{Calm}
+use Rattle.entry_log.specs.declared.mem_disk.plan.Plan.TheVariants.{NoFault}
 use Rattle.agree_core.specs.declared.messages.Message.{Message}
 use Rattle.agree_core.specs.Desks.{Ticks}
 use Rattle.wire.specs.declared.datagram.Datagram.{Datagram}
@@ -43,18 +43,18 @@ kills old new k sent here put x messages h b =
     let down = put_down_is (record old { due = None }) new x.process (calm_disk old x h) refl put in
     let y : Node MemDisk = record x { process = Down (process_votes x.process) down.0; due = None } in
     let is : HasNode new y = record { version = h.version ∙ sym put.version; process = down.3; due = sym put.due } in
-    let stays = sets_plan_stays old.name x.version old.game Calm (process_disk x.process) down.0 down.2 in
+    let stays = sets_plan_stays old.name x.version old.game NoFault (process_disk x.process) down.0 down.2 in
     (y, [], Answer.Done, refl, (state_of k, r.process, (down.0, stays, refl), refl, refl), is, no_bytes old.game sent messages b)
 
 -- its power is lost: what was put down is an image of what was there
 pub powers : (old mid new : Site) (choice : Choice) (there left : MemDisk) (sent : List Datagram) → PutsDown (record old { due = None }) mid → mid.disk ≡ Some there
-    → IsImage (images_of there) (file_of left) → images_of left ≡ only (file_of left) → cap_of left ≡ cap_of there → plan_of left ≡ Calm
+    → IsImage (images_of there) (file_of left) → images_of left ≡ only (file_of left) → cap_of left ≡ cap_of there → plan_of left ≡ NoFault
     → new ≡ record mid { disk = Some left } → SiteSteps (Event.Power old.name choice) old sent Seen.Done new sent
 powers old mid new choice there left sent put at image images cap calm is x messages h b =
     let d = calm_disk old x h in
     let down = put_down_is (record old { due = None }) mid x.process d refl put in
     let same_disk : down.0 ≡ there = let z = sym at ∙ down.1 in cc in
-    let plan : SetsPlan Calm (process_disk x.process) there = rw same_disk at down.2 in
+    let plan : SetsPlan NoFault (process_disk x.process) there = rw same_disk at down.2 in
     let y : Node MemDisk = record x { process = Down (process_votes x.process) left; due = None } in
     let site : HasNode new y = grind (arith, is, put, put.due, cap, ap (due_of (call_count left)) calm, d.votes, d.cap) in
     let shows = Rattle.vote_store.specs.View.votes_shown (contents (format_of x.version)) old.name old.game in

@@ -9,7 +9,7 @@ use Rattle.entry_log.specs.Version2.{version_2}
 use Rattle.entry_log.specs.declared.{slot.TheConstants.MAX_SLOTS, mem_disk.MemDisk.MemDisk}
 use Rattle.entry_log.specs.MemDisk.{IsFresh, SetsPlan, call_count, cap_of, faults_of, file_of, images_of, plan_of}
 use Rattle.entry_log.specs.Plan.{due_of}
-use Rattle.entry_log.specs.declared.mem_disk.plan.Plan.TheVariants.{Calm}
+use Rattle.entry_log.specs.declared.mem_disk.plan.Plan.TheVariants.{NoFault}
 use Rattle.entry_log.specs.declared.refusal.Refusal.TheVariants as files
 use Rattle.agree_core.specs.Ballots.{desk_number}
 use Rattle.agree_core.specs.FileView.{Holds, MaySync}
@@ -50,7 +50,7 @@ of_new old disk sent new down there =
 -- the votes of the old file
 pub record IsMoved (old : Site) (disk moved fresh new : MemDisk) : Type 0 where
   pub fresh_is : IsFresh [] (most_bytes FileVersion.New) fresh
-  pub here : SetsPlan Calm disk moved
+  pub here : SetsPlan NoFault disk moved
   pub there : SetsPlan (plan_of disk) fresh new
   pub due : (faults_of new).due ≡ (faults_of disk).due
 

@@ -9,7 +9,7 @@ use Rattle.entry_log.specs.Format.{contents, room}
 use Rattle.entry_log.specs.MemDisk.{SetsPlan, call_count, cap_of, faults_of, file_of, images_of}
 use Rattle.entry_log.specs.Plan.{due_of}
 use Rattle.entry_log.specs.declared.mem_disk.{MemDisk.MemDisk, plan.Plan.Plan}
-use Rattle.entry_log.specs.declared.mem_disk.plan.Plan.TheVariants.{Calm}
+use Rattle.entry_log.specs.declared.mem_disk.plan.Plan.TheVariants.{NoFault}
 use Rattle.agree_core.specs.declared.messages.{DeskId.DeskId, Message.Message}
 use Rattle.agree_core.specs.Desks.{most_votes}
 use Rattle.agree_core.specs.FileView.{Stays}
@@ -83,7 +83,7 @@ site_disk site x h = grind arith
 
 -- a desk that is put down keeps its votes and its disk
 pub put_down_is : (old new : Site) (p : Process MemDisk) → HasDisk old p → old.due ≡ None → PutsDown old new
-    → (after : MemDisk) × (new.disk ≡ Some after) × SetsPlan Calm (process_disk p) after × IsProcess new new.desk new.disk (Down (process_votes p) after)
+    → (after : MemDisk) × (new.disk ≡ Some after) × SetsPlan NoFault (process_disk p) after × IsProcess new new.desk new.disk (Down (process_votes p) after)
 put_down_is old new p h due put =
     let d = put.disk in
     let same : d.0 ≡ process_disk p = grind (arith, h.disk, d.2) in
@@ -106,7 +106,7 @@ broken old new desk disk before x p version By cause seen (Some Stop) d h due ca
     let down = put_down_is (record old { desk = desk; disk = disk; due = None }) new p has refl put in
     let y : Node MemDisk = record x { process = Down (process_votes p) down.0; due = None } in
     let is : HasNode new y = record { version = h.version ∙ sym put.version; process = down.3; due = sym put.due } in
-    (y, Answer.Stopped, ap answer_of b.0, (Stop, h.due ∙ d, stops down.0 (sets_plan_stays old.name version old.game Calm (process_disk p) down.0 down.2)), is)
+    (y, Answer.Stopped, ap answer_of b.0, (Stop, h.due ∙ d, stops down.0 (sets_plan_stays old.name version old.game NoFault (process_disk p) down.0 down.2)), is)
 
 -- so it is at a desk that runs
 pub broken_site : (old new : Site) (k l : WorldDesk) (x : Node MemDisk) (cause : Cause) (seen : Seen) → old.desk ≡ Some k → HasNode old x → SameOwner k l

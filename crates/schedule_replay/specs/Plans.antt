@@ -3,7 +3,7 @@ use Rattle.std.specs.Prelude.{◌≡◌, ◌-◌, Bool, true, false, IfSome, opt
 use Rattle.entry_log.specs.Disk.{Due}
 use Rattle.entry_log.specs.MemDisk.{faults_of, plan_of}
 use Rattle.entry_log.specs.declared.mem_disk.{MemDisk.MemDisk, plan.Plan.Plan}
-use Rattle.entry_log.specs.declared.mem_disk.plan.Plan.TheVariants.{Calm, Fail, Stop}
+use Rattle.entry_log.specs.declared.mem_disk.plan.Plan.TheVariants.{NoFault, Fail, Stop}
 use Rattle.agree_core.specs.declared.messages.DeskId.{DeskId}
 use Rattle.headline.specs.declared.{event.Event.Event, event.Station.Station, fault.Fault.Fault}
 use Rattle.headline.specs.Events.{station_of}
@@ -14,8 +14,8 @@ use Rattle.headline.specs.Configurations.{Configuration, node, process_disk}
 abbrev pub plan_by : Event → Option Plan
 plan_by (Event.FailAt d n) = Some (Fail (n - 1))
 plan_by (Event.StopAt d n) = Some (Stop (n - 1))
-plan_by (Event.Kill d) = Some Calm
-plan_by (Event.Power d choice) = Some Calm
+plan_by (Event.Kill d) = Some NoFault
+plan_by (Event.Power d choice) = Some NoFault
 plan_by _ = None
 
 -- whether it asks for a fault

@@ -8,7 +8,7 @@ ghost use Rattle.notation.specs.Written.{IsEntry};
 ghost use Rattle.desk.specs.Answers.{replied};
 ghost use Rattle.entry_log.specs.Disk.{IsImage, only};
 ghost use Rattle.entry_log.specs.MemDisk.{cap_of, file_of, images_of, plan_of};
-ghost use Rattle.entry_log.specs.declared.mem_disk.plan.Plan.TheVariants.{Calm};
+ghost use Rattle.entry_log.specs.declared.mem_disk.plan.Plan.TheVariants.{NoFault};
 ghost use Rattle.wire.specs.declared.datagram.Datagram.{Datagram};
 ghost use Rattle.schedule_replay.specs.Answers.{given_seen, is_device, is_failing, is_fault, wants_memory};
 ghost use Rattle.headline.specs.declared.event.Station.{Station as AStation};
@@ -119,7 +119,7 @@ fn lose_power(disk: &mut MemDisk, choice: Choice)
     ensures image { IsImage (images_of disk.old) (file_of disk.new) }
     ensures images { images_of disk.new ≡ only (file_of disk.new) }
     ensures cap { cap_of disk.new ≡ cap_of disk.old }
-    ensures plan { plan_of disk.new ≡ Calm }
+    ensures plan { plan_of disk.new ≡ NoFault }
 {
     disk.power(choice);
 }

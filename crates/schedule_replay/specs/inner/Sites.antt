@@ -5,7 +5,7 @@ use Rattle.corrections.specs.declared.refusal.Refusal.{Refusal}
 use Rattle.entry_log.specs.Disk.{Due, IsOnce, Never}
 use Rattle.entry_log.specs.declared.mem_disk.MemDisk.{MemDisk}
 use Rattle.entry_log.specs.MemDisk.{SetsPlan, cap_of, faults_of}
-use Rattle.entry_log.specs.declared.mem_disk.plan.Plan.TheVariants.{Calm}
+use Rattle.entry_log.specs.declared.mem_disk.plan.Plan.TheVariants.{NoFault}
 use Rattle.agree_core.specs.declared.messages.{DeskId.DeskId, Message.Message}
 use Rattle.agree_core.specs.Ballots.{Ballot}
 use Rattle.agree_core.specs.Desks.{DeskState}
@@ -136,7 +136,7 @@ KeepsDue old new = StaysDue new.due (disk_at old.desk old.disk) (disk_at new.des
 -- the desk is down: its disk stays, with no call of it to fail
 pub record PutsDown (old new : Site) : Type 0 where
   pub disk : (before : MemDisk) × (after : MemDisk) × (disk_at old.desk old.disk ≡ Some before)
-      × (new.disk ≡ Some after) × SetsPlan Calm before after
+      × (new.disk ≡ Some after) × SetsPlan NoFault before after
   pub counted : new.votes ≡ votes_at old.desk old.votes
   pub desk : new.desk ≡ None
   pub due : new.due ≡ old.due

@@ -1,5 +1,5 @@
 use Rattle.std.proofs.Common.{◌&&◌, ◌∙◌}
-use Rattle.agree_core.specs.LostLines as votes
+use Rattle.agree_core.specs.Positions as order
 use Rattle.agree_core.specs.declared.messages.Message.{Message}
 use Rattle.desk.specs.Desk.{state_of}
 use Rattle.live.specs.LostLines as lost
@@ -10,11 +10,11 @@ returns-clause-level g c = λ q is.
     let s = (state_of c.args.desk.now).seat in
     let at = c.position_in-at.ensures (Message.Ask q) is in
     let asker = c.asker_in-asker.ensures q is in
-    c.is_level.ensures ∙ (λ i. votes.is_at (at i) s.position && lost.is_other s.desk (asker i))
+    c.is_level.ensures ∙ (λ i. order.is_at (at i) s.position && lost.is_other s.desk (asker i))
 
 pub returns-clause-passed_over : goal.returns-clause-passed_over
 returns-clause-passed_over g c = λ q is.
     let s = (state_of c.args.desk.now).seat in
     let at = c.position_in-at.ensures (Message.Ask q) is in
     let asker = c.asker_in-asker.ensures q is in
-    c.is_earlier.ensures ∙ (λ i. votes.is_before (at i) s.position && lost.is_other s.desk (asker i))
+    c.is_earlier.ensures ∙ (λ i. order.is_before (at i) s.position && lost.is_other s.desk (asker i))
