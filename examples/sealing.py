@@ -74,14 +74,14 @@ class Seal:
     def tag(self, message):
         return hmac.digest(self.key, message, "sha256")[:16]
 
-    def sealed(self, message):
-        """The sealed form of a message."""
-        return message + self.tag(message)
+    def sealed(self, message, receipt=b""):
+        """The sealed form of a message, which may have a receipt."""
+        return message + receipt + self.tag(message + receipt)
 
     def opened(self, data):
         """The message of which these bytes are the sealed form, or `None`."""
-        message = data[:48]
-        return message if len(data) == 64 and hmac.compare_digest(data, self.sealed(message)) else None
+        is_sealed = len(data) in (64, 80) and hmac.compare_digest(data, self.sealed(data[:48], data[48:-16]))
+        return data[:48] if is_sealed else None
 
     def fingerprints(self, has_key):
         """The lines that stations print as they begin."""

@@ -98,6 +98,35 @@ def life(folder, fail=""):
         return it.end(is_stopped=it.is_open), place
 
 
+def at_rest(served):
+    """How often a board asks the machine for its page while it waits sixteen times, without desks, and with a viewer or nobody."""
+    with Ground() as ground:
+        at, place, desks = ports.free_address(), ports.free_address(), [ports.peer(), ports.peer()]
+        where = [*map(ports.address_of, desks)]
+        words = ["board", "--sheet", SHEET, "--at", at, "--desk-a", where[0], "--desk-b", where[1], "--serve", place]
+        with Process(words, ground.folder, "", "") as it:
+            viewer, end = Viewer(place), time.time() + LONGEST
+            while served and b"event: beat" not in viewer.came and time.time() < end:
+                viewer.work()
+                it.wait([], 0.02)
+            counted = lambda: [call.name for call in ground.calls()]
+            before = counted()
+            while counted().count("poll") < before.count("poll") + 16 and time.time() < end:
+                it.wait([], 0.1)
+            after = counted()
+            viewer.leave()
+            it.end(is_stopped=True)
+        return after.count("poll") - before.count("poll"), after.count("epoll_wait") - before.count("epoll_wait")
+
+
+def rests(served):
+    """A board at rest asks the machine hardly more often than one without a page: where no wait ended for the page, it isn't looked at."""
+    waits, looks = at_rest(served)
+    if waits < 16 or looks > 2:
+        raise Wrong(f"a board at rest waited {waits} times, and looked {looks} times who came")
+    return True
+
+
 def recorded_page():
     """A life that goes well. It answers the calls for the page."""
     with Ground() as ground:

@@ -2,7 +2,7 @@
 use Rattle.std.specs.Prelude.{◌-◌, ◌==◌, ◌&&◌, ℕ, Bool, nat_lt, List, [], ◌∷◌, Option, None, Some, if◌then◌else◌}
 use Rattle.arrayvec.specs.ArrayString.{ArrayString}
 use Rattle.links.specs.declared.{aside.Aside.Aside, keys.Typed.Typed, stand.Stand.Stand}
-use Rattle.waits.specs.declared.times.TheConstants.{HELD_UNDO_WAIT}
+use Rattle.ahead.specs.declared.handed.TheConstants.{HELD_UNDO_WAIT}
 use Rattle.ahead.specs.declared.handed.Handed.{Handed}
 use Rattle.ahead.specs.Sorts.{is_undo, may_cast}
 

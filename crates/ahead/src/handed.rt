@@ -7,7 +7,10 @@ ghost use Rattle.ahead.specs.Undoing as undoing;
 
 use crate::taking::{Sort, may_cast, sort_of};
 use links::{Aside, HeldLine, Stand};
-use waits::HELD_UNDO_WAIT;
+
+/// For how many milliseconds behind a line that was held and is given on `undo` writes nothing where it would be of that line.
+/// Who began to type it while the line was held is done by then.
+const HELD_UNDO_WAIT: u64 = 5_000;
 
 /// A line that was held, the place at which the desk was given it, and what the clock showed then.
 #[derive(Clone, Copy)]

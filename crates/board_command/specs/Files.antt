@@ -11,7 +11,7 @@ use Rattle.board_command.specs.declared.files.{Files.Files, Kept.Kept, Moment.Mo
 use Rattle.board_command.specs.declared.files.TheConstants.{FOREVER}
 use Rattle.board_command.specs.declared.hearing.HeardAt.{HeardAt}
 use Rattle.board_command.specs.Hearing.{is_heard, is_silent, last_heard}
-use Rattle.waits.specs.declared.times.TheConstants.{FILE_RETRY_WAIT, LONGEST_STATE_AGE, SHORTEST_FILE_AGE}
+use Rattle.board_command.specs.declared.times.TheConstants.{FILE_RETRY_WAIT, LONGEST_STATE_AGE, SHORTEST_FILE_AGE}
 
 -- what is handed over, by a board that heard its desks so, at this time
 abbrev pub moment_of : Sight → HeardAt → ℕ → Moment

@@ -173,7 +173,14 @@ pub fn start_board<'a>(
     let witness = witness_of(rt)?;
     page.wait(rt, sheet, board.book(), paths.state);
     let ends = page.wait_ends();
-    let sealed = sealing.sealed_at(rt, setting.at, setting.peers, ends, Shared::of(&errors))?;
+    let sealed = sealing.sealed_at(
+        rt,
+        setting.at,
+        setting.peers,
+        ends,
+        page.called(),
+        Shared::of(&errors),
+    )?;
     let link = sealing.link_over(rt.alloc(), MonotonicClock::new(rt), sealed);
     let link = Listening::over(link, MonotonicClock::new(rt), page.hearing());
     let _ = sealing.tell_fingerprints(&mut Shared::of(&errors));
@@ -187,7 +194,7 @@ pub fn start_board<'a>(
         silence: Silence::NOTHING,
     };
     let told = Shared::of(&errors);
-    let mut clock = page.clock(rt);
+    let mut clock = MonotonicClock::new(rt);
     let life = keep_on(
         source, board, witness, link, &mut clock, output, told, shown,
     );

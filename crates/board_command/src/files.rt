@@ -1,6 +1,6 @@
 //! What a board shows: its files, which others read, with its text, its state, and that as a script; and its page.
 
-ghost use Rattle.std.specs.Prelude.{◌≡◌, ℕ, List, Some, is_err, false, length, IfOk, IsOkAnd};
+ghost use Rattle.std.specs.Prelude.{◌≡◌, ℕ, List, Some, is_err, false, length, IfOk};
 ghost use Rattle.corrections.specs.CleanList.{history_of};
 ghost use Rattle.cards.specs.Board as texts;
 ghost use Rattle.machine_files.specs.Texts.{Takes};
@@ -9,12 +9,13 @@ ghost use Rattle.board_command.specs.Files as given;
 ghost use Rattle.board_command.specs.Files.{AreKept};
 ghost use Rattle.board_command.specs.Hearing.{last_heard};
 ghost use Rattle.board_command.specs.inner.Due as due;
-ghost use Rattle.board_command.specs.inner.Due.{IsMade};
+ghost use Rattle.board_command.specs.inner.Due.{AreMade, IsMadeWhere, IsText};
 ghost use Rattle.board_command.specs.declared.files.TheConstants.{FOREVER};
-ghost use Rattle.waits.specs.declared.times.TheConstants.{LONGEST_STATE_AGE};
+ghost use Rattle.board_command.specs.declared.times.TheConstants.{LONGEST_STATE_AGE};
 
 use crate::hearing::{HeardAt, Silence};
 use crate::page::Audience;
+use crate::times::{FILE_RETRY_WAIT, LONGEST_STATE_AGE, SHORTEST_FILE_AGE};
 use board::{Trouble, Why};
 use cards::{MatchSheet, board_lines};
 use corrections::BookOf;
@@ -22,12 +23,10 @@ use live::{Shows, SightLog};
 use machine_files::Replaces;
 use scoreboard::board_text;
 use setup::{StopFault, print_fault, printable};
-use station_pages::BoardPage;
 use station_screens::{Errors, Shared, retry};
 use std::alloc::{AllocError, Global};
 use std::cell::RefCell;
 use streams::{Sink, Watched, WriteFailed};
-use waits::{FILE_RETRY_WAIT, LONGEST_STATE_AGE, SHORTEST_FILE_AGE};
 
 /// A text stands as long as its book does.
 const FOREVER: u64 = u64::MAX;
@@ -190,7 +189,28 @@ fn is_due<T: Replaces, E: Sink>(file: &Option<Kept<'_, T, E>>, moment: Moment, l
     }
 }
 
-/// What is made for a file: where it is due its text, or that memory was refused for it.
+/// Which of a board's texts are due.
+#[derive(Clone, Copy)]
+struct Due {
+    lines: bool,
+    state: bool,
+    script: bool,
+}
+
+impl Due {
+    /// Those that are due here or there.
+    fn or(self, other: Due) -> Due
+        ensures { result ≡ due.either self other }
+    {
+        Due {
+            lines: self.lines || other.lines,
+            state: self.state || other.state,
+            script: self.script || other.script,
+        }
+    }
+}
+
+/// What is made of a text: it, or that memory was refused for it; nothing where it isn't due.
 type Made = Option<Result<Vec<u8>, AllocError>>;
 
 /// The six lines of a board with this book.
@@ -220,10 +240,10 @@ fn state_of<B: BookOf>(
 }
 
 /// The script of a state that was made.
-fn script_of(alloc: Global, state: &Result<Vec<u8>, AllocError>) -> Result<Vec<u8>, AllocError>
-    ensures { IfOk result (λ script. IsOkAnd state.now (λ text. script.items ≡ given.script_with text.items)) }
+fn script_of(alloc: Global, state: &Made) -> Result<Vec<u8>, AllocError>
+    ensures { (text : List ℕ) → IsText text state.now → IfOk result (λ script. script.items ≡ given.script_with text) }
 {
-    let Ok(state) = state else {
+    let Some(Ok(state)) = state else {
         return Err(AllocError);
     };
     let mut script = Vec::new(alloc);
@@ -232,76 +252,63 @@ fn script_of(alloc: Global, state: &Result<Vec<u8>, AllocError>) -> Result<Vec<u
     Ok(script)
 }
 
-/// The six lines, where their file is due.
-fn lines_due<B: BookOf, T: Replaces, E: Sink>(
-    alloc: Global,
-    sheet: &MatchSheet,
-    book: &B,
-    moment: Moment,
-    file: &Option<Kept<'_, T, E>>,
-) -> Made
-    ensures { IsMade FOREVER moment
-        (texts.board sheet.now (B.innings_a_side book.now) (history_of (B.content book.now))) file.now result }
-{
-    is_due(file, moment, FOREVER).then(|| lines_of(alloc, sheet, book))
-}
-
-/// A board's state for both of its files.
+/// A board's texts of a moment, each made once for all that are to be given it.
 #[derive(Drop)]
-struct States {
-    json: Made,
+struct Texts {
+    lines: Made,
+    state: Made,
     script: Made,
 }
 
-/// The state as JSON and as a script, each where its file is due. It is made once.
-fn states_due<B: BookOf, T: Replaces, E: Sink>(
+/// The texts of this book that are due.
+fn texts_due<B: BookOf>(
     alloc: Global,
     sheet: &MatchSheet,
     book: &B,
     moment: Moment,
-    file: &Option<Kept<'_, T, E>>,
-    script: &Option<Kept<'_, T, E>>,
-) -> States
-    ensures json { IsMade LONGEST_STATE_AGE moment
-        (laws.board_text sheet.now (B.innings_a_side book.now) (B.content book.now) (last_heard moment.heard moment.now) moment.trouble) file.now result.json }
-    ensures script { IsMade LONGEST_STATE_AGE moment
-        (given.script_with (laws.board_text sheet.now (B.innings_a_side book.now) (B.content book.now) (last_heard moment.heard moment.now) moment.trouble))
-        script.now result.script }
+    wanted: Due,
+) -> Texts
+    ensures { AreMade wanted
+        (texts.board sheet.now (B.innings_a_side book.now) (history_of (B.content book.now)))
+        (laws.board_text sheet.now (B.innings_a_side book.now) (B.content book.now) (last_heard moment.heard moment.now) moment.trouble)
+        result }
 {
-    let is_json_due = is_due(file, moment, LONGEST_STATE_AGE);
-    let is_script_due = is_due(script, moment, LONGEST_STATE_AGE);
-    if !is_json_due && !is_script_due {
-        return States {
-            json: None,
-            script: None,
-        };
-    }
-    let state = state_of(alloc, sheet, book, moment);
-    let script = is_script_due.then(|| script_of(alloc, &state));
-    States {
-        json: is_json_due.then_some(state),
+    let lines = wanted.lines.then(|| lines_of(alloc, sheet, book));
+    let state = (wanted.state || wanted.script).then(|| state_of(alloc, sheet, book, moment));
+    let script = wanted.script.then(|| script_of(alloc, &state));
+    Texts {
+        lines,
+        state,
         script,
     }
 }
 
 /// Puts a text that was made into a file.
-fn put_text<T: Replaces>(file: &mut T, made: Result<Vec<u8>, AllocError>) -> Result<(), StopFault>
-    ensures { (text : List ℕ) → IfOk made (λ bytes. bytes.items ≡ text) →
+fn put_text<T: Replaces>(file: &mut T, made: &Result<Vec<u8>, AllocError>) -> Result<(), StopFault>
+    ensures { (text : List ℕ) → IfOk made.now (λ bytes. bytes.items ≡ text) →
         Takes result (T.given file.old) (T.given file.new) text }
 {
-    let text = made?;
+    let Ok(text) = made else {
+        return Err(StopFault::NoMemory);
+    };
     match file.replace(text.as_slice()) {
         Ok(()) => Ok(()),
         Err(why) => Err(StopFault::File(why)),
     }
 }
 
-/// Puts what is due into its file, where there is one, and notes whether that could be.
-fn put<T: Replaces, E: Sink>(file: &mut Option<Kept<'_, T, E>>, made: Made, moment: Moment)
-    ensures { (longest : ℕ) (text : List ℕ) → IsMade longest moment text file.old made →
+/// Puts a text that was made into its file, where there is one that is due, and notes whether that could be.
+fn put<T: Replaces, E: Sink>(
+    file: &mut Option<Kept<'_, T, E>>,
+    made: &Made,
+    moment: Moment,
+    longest: u64,
+)
+    ensures { (text : List ℕ) → IsMadeWhere (due.is_due longest moment file.old) text made.now →
         AreKept T.given longest moment text file.old file.new }
 {
     if let Some(kept) = file
+        && kept.is_due(moment, longest)
         && let Some(text) = made
     {
         let written = put_text(&mut kept.file, text);
@@ -343,35 +350,36 @@ impl<T: Replaces, E: Sink, B: BookOf + Drop> Files<'_, T, E, B> {
     ghost use Rattle.live.specs.SightLogs.{sights_of};
     ghost use Rattle.board_command.specs.Files.{FilesGoOn};
 
+    /// Which of them are to be written.
+    fn due(&self, moment: Moment) -> Due
+        ensures { result ≡ due.due_of self.now moment }
+    {
+        Due {
+            lines: is_due(&self.text, moment, FOREVER),
+            state: is_due(&self.state, moment, LONGEST_STATE_AGE),
+            script: is_due(&self.script, moment, LONGEST_STATE_AGE),
+        }
+    }
+
     /// Writes each once a desk was heard, then where the book has grown, where something begins or ceases to keep the board from
     /// going on, or where a silence of the desks has begun or ended, at most ten times a second, and where it couldn't be written,
     /// once a second. State and script are otherwise written anew before ten seconds are over. A file that can't be written ends
-    /// no board.
-    fn show(
-        &mut self,
-        sheet: &MatchSheet,
-        book: &B,
-        trouble: Option<Trouble>,
-        heard: HeardAt,
-        now: u64,
-    )
+    /// no board. What is due of the texts was made.
+    fn show(&mut self, sheet: &MatchSheet, book: &B, moment: Moment, made: &Texts)
+        requires made { AreMade (due.due_of self.old moment)
+            (given.lines_of (sight_of sheet.now (B.innings_a_side book.now) (B.content book.now) moment.trouble))
+            (given.state_of (sight_of sheet.now (B.innings_a_side book.now) (B.content book.now) moment.trouble) moment.heard moment.now)
+            made.now }
+        requires entries { moment.entries ≡ length (B.content book.now) }
         ensures seen { sights_of B.content B.innings_a_side self.new.log ≡ sights_of B.content B.innings_a_side self.old.log
-            ++ sight_of sheet.now (B.innings_a_side book.now) (B.content book.now) trouble ∷ [] }
-        ensures goes_on { FilesGoOn T.given heard self.old
-            (sight_of sheet.now (B.innings_a_side book.now) (B.content book.now) trouble) now self.new }
+            ++ sight_of sheet.now (B.innings_a_side book.now) (B.content book.now) moment.trouble ∷ [] }
+        ensures goes_on { FilesGoOn T.given moment.heard self.old
+            (sight_of sheet.now (B.innings_a_side book.now) (B.content book.now) moment.trouble) moment.now self.new }
     {
-        let moment = Moment {
-            entries: book.len(),
-            trouble,
-            heard,
-            now,
-        };
-        let lines = lines_due(self.alloc, sheet, book, moment, &self.text);
-        let states = states_due(self.alloc, sheet, book, moment, &self.state, &self.script);
-        put(&mut self.text, lines, moment);
-        put(&mut self.state, states.json, moment);
-        put(&mut self.script, states.script, moment);
-        self.log = self.log.handed(sheet, book, trouble);
+        put(&mut self.text, &made.lines, moment, FOREVER);
+        put(&mut self.state, &made.state, moment, LONGEST_STATE_AGE);
+        put(&mut self.script, &made.script, moment, LONGEST_STATE_AGE);
+        self.log = self.log.handed(sheet, book, moment.trouble);
     }
 }
 
@@ -389,12 +397,13 @@ pub struct Shown<'e, 'v, 'a, F, P> {
     pub silence: Silence,
 }
 
-/// Tells those who look at a page what it shows now, where there is one.
-fn tell(page: Option<&RefCell<BoardPage>>, now: u64) {
-    if let Some(page) = page
+/// Sees to who looks at a page, where there is one, and tells them what it shows now.
+fn attend(audience: Audience<'_>, now: u64) {
+    if let Some(page) = audience.page
         && let Ok(mut page) = page.try_borrow_mut()
     {
-        page.tell(now);
+        page.attend(audience.called.get(), now);
+        audience.called.set(false);
     }
 }
 
@@ -423,9 +432,27 @@ impl<'a, T: Replaces, P: Replaces, E: Sink, B: BookOf + Drop> Shows<B>
         let heard = self.audience.hearing.get();
         self.heard = heard;
         self.silence.tell(heard, now, &mut Shared::of(self.errors));
-        self.page.show(sheet, book, trouble, heard, now);
-        self.files.show(sheet, book, trouble, heard, now);
-        tell(self.audience.page, now);
+        let moment = Moment {
+            entries: book.len(),
+            trouble,
+            heard,
+            now,
+        };
+        let wanted = self.page.due(moment).or(self.files.due(moment));
+        let made = texts_due(self.files.alloc, sheet, book, moment, wanted);
+        self.page.show(sheet, book, moment, &made);
+        self.files.show(sheet, book, moment, &made);
+        attend(self.audience, now);
         Ok(())
+    }
+
+    fn longest_wait(&self) -> u64 {
+        match self.audience.page {
+            Some(page) => match page.try_borrow() {
+                Ok(page) => page.longest_wait(),
+                Err(_) => u64::MAX,
+            },
+            None => u64::MAX,
+        }
     }
 }

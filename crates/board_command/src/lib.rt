@@ -8,6 +8,7 @@ mod life;
 mod notes;
 mod page;
 mod pane;
+mod times;
 mod waiting;
 
 pub use crate::begin::{Ended, start_board};

@@ -73,6 +73,10 @@ impl<S: Shows<CheckedBook>> Shows<CheckedBook> for Noted<S> {
         self.log = self.log.handed(sheet, book, trouble);
         shown
     }
+
+    fn longest_wait(&self) -> u64 {
+        self.shows.longest_wait()
+    }
 }
 
 /// Keeps a board that has heard nothing, over a link at which nothing passed, until a write to its screen fails: its life.
@@ -89,7 +93,7 @@ pub fn keep_on<
     source: SheetFile<'a>,
     board: Board<CheckedBook>,
     witness: Witness,
-    link: Listening<'_, StationLink<'_, M>, N>,
+    link: Listening<'_, StationLink<'_, '_, M>, N>,
     clock: &mut C,
     screen: Screen<O>,
     errors: E,

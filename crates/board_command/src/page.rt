@@ -7,9 +7,9 @@ use crate::pane::{Kind, Pane, copy_of};
 use crate::waiting::{LINES, waiting_state};
 use cards::MatchSheet;
 use corrections::CheckedBook;
-use machine::{Address, MonotonicClock, WaitEnds};
+use machine::{Address, WaitEnds};
 use setup::{StopFault, Stopped};
-use station_pages::{Attended, BoardPage};
+use station_pages::BoardPage;
 use station_screens::{Errors, Shared};
 use std::alloc::Global;
 use std::cell::{Cell, RefCell};
@@ -35,13 +35,16 @@ pub struct Page<'a> {
     served: Option<Served<'a>>,
     /// When the board's link heard the desks.
     hearing: Cell<HeardAt>,
+    /// Whether somebody came or asks there: so it is at first.
+    called: Cell<bool>,
 }
 
-/// The page, if there is one, and when the board's link heard the desks.
+/// The page, if there is one; when the board's link heard the desks; and whether somebody came or asks at the page.
 #[derive(Clone, Copy)]
 pub struct Audience<'v> {
     pub page: Option<&'v RefCell<BoardPage>>,
     pub hearing: &'v Cell<HeardAt>,
+    pub called: &'v Cell<bool>,
 }
 
 impl<'a> Page<'a> {
@@ -51,6 +54,7 @@ impl<'a> Page<'a> {
             return Ok(Page {
                 served: None,
                 hearing: Cell::new(HeardAt::begun(0)),
+                called: Cell::new(true),
             });
         };
         match Viewers::new(rt, rt.alloc(), at.socket, Station::Board, None) {
@@ -63,6 +67,7 @@ impl<'a> Page<'a> {
                         page: RefCell::new(BoardPage::new(viewers)),
                     }),
                     hearing: Cell::new(HeardAt::begun(0)),
+                    called: Cell::new(true),
                 })
             }
             Err(_) => Err(Stopped::at(at.text, StopFault::Listen)),
@@ -74,11 +79,17 @@ impl<'a> Page<'a> {
         &self.hearing
     }
 
-    /// What is seen to, and that.
+    /// Where it is noted that somebody came or asks there.
+    pub fn called(&self) -> &Cell<bool> {
+        &self.called
+    }
+
+    /// What is seen to, and both.
     pub fn audience(&self) -> Audience<'_> {
         Audience {
             page: self.shown(),
             hearing: &self.hearing,
+            called: &self.called,
         }
     }
 
@@ -95,17 +106,6 @@ impl<'a> Page<'a> {
         WaitEnds {
             keyboard: None,
             page: self.served.as_ref().map(|served| served.ends),
-        }
-    }
-
-    /// The machine's clock, at each look at which it is seen to.
-    pub fn clock<'c>(
-        &self,
-        machine: &'c HostRuntime,
-    ) -> Attended<'_, MonotonicClock<'c, HostRuntime>, BoardPage> {
-        Attended {
-            clock: MonotonicClock::new(machine),
-            page: self.shown(),
         }
     }
 

@@ -14,13 +14,13 @@ mod seats;
 mod source;
 mod table;
 
-pub use both::{BothBook, agreed_list, book_of_both, open_both};
+pub use both::book_of_both;
 pub use card::print_card;
 pub use compare::{Comparison, Difference, compare_files, print_comparison};
 pub use desk_votes::DeskVotes;
 pub use fault::{BookFault, BothFault};
 pub use laws::{both_begin_with_each, comparisons_tell_all, one_history_is_whole};
-pub use one_history::{first_torn, print_torn};
+pub use one_history::print_torn;
 pub use rejected::{Refusal, Rejected, print_rejected};
 pub use source::{Source, book_from};
 pub use table::Table;

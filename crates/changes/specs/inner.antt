@@ -1,3 +1,3 @@
 -- What serves private functions and proofs only.
+pub mod Halves
 pub mod Telling
-pub mod Words

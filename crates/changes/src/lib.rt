@@ -6,14 +6,13 @@ mod change;
 mod differs;
 mod fate;
 mod figures;
+mod halves;
 mod results;
 mod rows;
 mod stage;
 mod stages;
 mod telling;
-mod told;
 mod worked;
 
-pub use before::{item_with, score_before};
-pub use stages::Stages;
-pub use telling::{print_changes, print_last_changes};
+pub use before::item_with;
+pub use telling::print_last_changes;

@@ -8,10 +8,10 @@ ghost use Rattle.changes.specs.Rows as rows;
 
 use crate::change::{Change, Part};
 use crate::differs::is_same_wides;
+use crate::halves::{Half, print_joined};
 use crate::results::print_results;
 use crate::stage::{Batter, Total, batting_in, bowling_in, striker, total_in};
 use crate::stages::Stages;
-use crate::told::{Told, print_joined};
 use cards::MatchSheet;
 use match_laws::{BattingRow, BowlingRow, Match};
 use notation::{Player, Side};
@@ -64,8 +64,8 @@ fn print_fates<W: Sink>(
         true,
         first,
         name,
-        &Told::Batting(side, *now),
-        &Told::Batting(side, *was),
+        &Half::Batting(side, *now),
+        &Half::Batting(side, *was),
     )
 }
 
@@ -90,8 +90,8 @@ fn print_batter<W: Sink>(
         true,
         first,
         name,
-        &Told::Figures(*now),
-        &Told::Figures(*was),
+        &Half::Figures(*now),
+        &Half::Figures(*was),
     )
 }
 
@@ -117,8 +117,8 @@ fn print_bowler<W: Sink>(
         same,
         first,
         name,
-        &Told::Bowling(same, *now),
-        &Told::Bowling(same, *was),
+        &Half::Bowling(same, *now),
+        &Half::Bowling(same, *was),
     )
 }
 
@@ -141,8 +141,8 @@ fn print_totals<W: Sink>(
         true,
         first,
         sheet.name(side),
-        &Told::Total(now),
-        &Told::Total(was),
+        &Half::Total(now),
+        &Half::Total(was),
     )
 }
 
@@ -174,8 +174,8 @@ fn print_strike<W: Sink>(
         true,
         "now: ",
         name,
-        &Told::Words("on strike"),
-        &Told::Words(other),
+        &Half::Words("on strike"),
+        &Half::Words(other),
     )
 }
 

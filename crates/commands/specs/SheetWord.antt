@@ -3,7 +3,7 @@ use Rattle.std.specs.Prelude.{ℕ, Bool, true, false, List, [], Option, Ok}
 use Rattle.cards.specs.Reading.{IsReading}
 use Rattle.cards.specs.Sheet.{Sheet}
 use Rattle.sheet_check.specs.Reports.{IsReport}
-use Rattle.sheet_check.specs.Shown.{shown_sheet}
+use Rattle.sheet_check.specs.SheetRows.{shown_sheet}
 use Rattle.streams.specs.declared.watched.Watched.{Watched}
 use Rattle.streams.specs.Watched.{Prints}
 

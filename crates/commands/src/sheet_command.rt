@@ -1,7 +1,7 @@
 //! `ground sheet`: a match sheet as it was read, or all that is wrong with it.
 
 ghost use Rattle.std.specs.Prelude.{◌≡◌, [], true, IfErr, IfOk, OnOk};
-ghost use Rattle.sheet_check.specs.Shown.{shown_sheet};
+ghost use Rattle.sheet_check.specs.SheetRows.{shown_sheet};
 ghost use Rattle.streams.specs.Watched.{Prints};
 ghost use Rattle.commands.specs.Product.{IsOfPrinting};
 ghost use Rattle.commands.specs.SheetWord.{PrintsSheet};

@@ -221,7 +221,14 @@ pub fn start_desk<'a>(
     let lasts = [LastFault::new(None), LastFault::new(None)];
     let book = empty_book(rt, sheet)?;
     let disk = desk_disk_at(rt, sheet, setting.desk, file, copy, &lasts)?;
-    let sealed = sealing.sealed_at(rt, setting.at, setting.peers, ends, Shared::of(&errors))?;
+    let sealed = sealing.sealed_at(
+        rt,
+        setting.at,
+        setting.peers,
+        ends,
+        page.called(),
+        Shared::of(&errors),
+    )?;
     let link = sealing.link_over(rt.alloc(), MonotonicClock::new(rt), sealed);
     let _ = sealing.tell_fingerprints(&mut Shared::of(&errors));
     page.tell(rt, PageWord::Square, &mut Shared::of(&errors));
@@ -239,7 +246,7 @@ pub fn start_desk<'a>(
         link,
         keys,
         screen,
-        scorers,
+        page.audience(),
         file,
         copy,
     );

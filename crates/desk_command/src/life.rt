@@ -9,6 +9,7 @@ ghost use Rattle.desk_command.specs.OnFiles.{IsOnFiles};
 ghost use Rattle.desk_command.specs.Traces.{IsWideSheetOf, WasEntered, traces_of};
 
 use crate::desk_disk::DeskDisk;
+use crate::page::Audience;
 use agree_core::DeskId;
 use ahead::Ahead;
 use cards::MatchSheet;
@@ -20,8 +21,7 @@ use machine::{Keyboard, MonotonicClock, Written};
 use posts::PostedLog;
 use seal::CarriedLog;
 use setup::{SheetFile, StationLink};
-use station_pages::{Attended, PageLines, PageSight, PageWords, ScorersPage, Squares};
-use std::cell::RefCell;
+use station_pages::{PageLines, PageSight, PageWords, Squares};
 use std::io::{Read, Write};
 use std::snapshot::Snapshot;
 use streams::{Sink, Watched};
@@ -69,7 +69,7 @@ fn keep<L: Link, K: Keys, C: Clock, W: Sink>(
     book: CheckedBook,
     sheet: &MatchSheet,
     outside: &mut Outside<L, K, C, W>,
-    page: Option<&RefCell<ScorersPage>>,
+    audience: Audience<'_>,
 ) -> Result<(), LifeEnd>
     requires empty { book.entries ≡ [] }
     requires innings { book.innings_a_side ≡ sheet.now.innings }
@@ -79,7 +79,7 @@ fn keep<L: Link, K: Keys, C: Clock, W: Sink>(
     ensures { LivesOn sheet.now desk disk.entry
         (L.log outside.new.link) (K.inputs outside.new.keys) (W.contents (stream_of outside.new.out)) result }
 {
-    let mut sight = PageSight::new(rt.alloc(), desk, page);
+    let mut sight = PageSight::new(rt.alloc(), desk, audience.page, audience.called);
     keep_desk::<Slots<DeskDisk<'_>>, CheckedBook, _, _, _, _, _>(
         rt.alloc(),
         disk,
@@ -108,7 +108,7 @@ pub trait Carries: Link {
         ensures { WasCarried (Self.log self.now) (carried_of result.now) };
 }
 
-impl<E: Write + Drop> Carries for StationLink<'_, E> {
+impl<E: Write + Drop> Carries for StationLink<'_, '_, E> {
     fn passed(&self) -> &Log {
         Window::passed(self)
     }
@@ -165,7 +165,7 @@ pub fn keep_on<'a, L: Carries + Drop, K: Enters, S: Squares, C: Clock, W: Record
     link: L,
     keys: Ahead<PageWords<K, S>, C>,
     screen: W,
-    page: Option<&RefCell<ScorersPage>>,
+    audience: Audience<'_>,
     file: &'a str,
     copy: Option<&'a str>,
 ) -> Kept<'a, Ahead<PageWords<K, S>, C>, W>
@@ -188,17 +188,13 @@ pub fn keep_on<'a, L: Carries + Drop, K: Enters, S: Squares, C: Clock, W: Record
         text,
         sheet,
     } = source;
-    let clock = Attended {
-        clock: MonotonicClock::new(rt),
-        page,
-    };
     let mut outside = Outside {
         link,
         keys,
-        clock,
+        clock: MonotonicClock::new(rt),
         out: Watched::new(screen),
     };
-    let ended = keep(rt, disk, desk, book, &sheet, &mut outside, page);
+    let ended = keep(rt, disk, desk, book, &sheet, &mut outside, audience);
     let Outside {
         link,
         keys,

@@ -6,7 +6,7 @@ use machine::{Address, MonotonicClock, WaitEnds, draw};
 use qr::code_of;
 use setup::{StopFault, Stopped};
 use station_pages::{PageWord, ScorersPage, Squares};
-use std::cell::RefCell;
+use std::cell::{Cell, RefCell};
 use std::io::{self, ErrorKind, IsTerminal, Write};
 use std::net::SocketAddr;
 use std::os::fd::RawFd;
@@ -28,6 +28,15 @@ struct Served {
 #[derive(Drop)]
 pub struct Page {
     served: Option<Served>,
+    /// Whether somebody came or asks there: so it is at first.
+    called: Cell<bool>,
+}
+
+/// The page, if there is one, and whether somebody came or asks there.
+#[derive(Clone, Copy)]
+pub struct Audience<'p> {
+    pub page: Option<&'p RefCell<ScorersPage>>,
+    pub called: &'p Cell<bool>,
 }
 
 /// Shows the squares of a page while its desk runs.
@@ -102,11 +111,15 @@ impl Page {
     /// The page at an address, where one is given. Its secret is a new one each time.
     pub fn at<'a>(rt: &HostRuntime, at: Option<Address<'a>>) -> Result<Page, Stopped<'a>> {
         let Some(at) = at else {
-            return Ok(Page { served: None });
+            return Ok(Page {
+                served: None,
+                called: Cell::new(true),
+            });
         };
         match served_at(rt, &at) {
             Ok(served) => Ok(Page {
                 served: Some(served),
+                called: Cell::new(true),
             }),
             Err(_) => Err(Stopped::at(at.text, StopFault::Listen)),
         }
@@ -117,6 +130,19 @@ impl Page {
         match &self.served {
             Some(served) => Some(&served.page),
             None => None,
+        }
+    }
+
+    /// Where it is noted that somebody came or asks there.
+    pub fn called(&self) -> &Cell<bool> {
+        &self.called
+    }
+
+    /// What is seen to, and that.
+    pub fn audience(&self) -> Audience<'_> {
+        Audience {
+            page: self.scorers(),
+            called: &self.called,
         }
     }
 

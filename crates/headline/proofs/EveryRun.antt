@@ -6,7 +6,7 @@ use Rattle.headline.specs.declared.version.FileVersion.{FileVersion}
 use Rattle.headline.specs.Setting.{Setting}
 use Rattle.headline.specs.Configurations.{Configuration, all_votes}
 use Rattle.headline.specs.Runs.{Begins, Moment, Run, last_of}
-use Rattle.headline.specs.Kept.{KeepsNoted}
+use Rattle.headline.specs.KeptVotes.{KeepsNoted}
 use Rattle.headline.specs.Besides.{StandsFast}
 use Rattle.headline.specs.Headline.{ArePenned, ByBoth, Headline, NoneWaits, TakesSecond}
 use Rattle.headline.specs.Laws.{HoldsInRun}
@@ -16,7 +16,7 @@ use Rattle.headline.proofs.NotedRuns.{after_each, keeps_noted}
 use Rattle.headline.proofs.PennedVotes.{all_penned}
 use Rattle.headline.proofs.Scores.{one_score}
 use Rattle.headline.proofs.SecondVotes.{none_waits, takes_second}
-use Rattle.headline.proofs.Shown.{by_both, each_moment, one_book_shown, stands_fast, votes_kept, within_agreed}
+use Rattle.headline.proofs.ShownBooks.{by_both, each_moment, one_book_shown, stands_fast, votes_kept, within_agreed}
 use Rattle.headline.proofs.Sound.{sound_answers}
 
 module _ {Disk Why : Type 0} (s : Setting Disk Why) (innings : ℕ) (rules : RulesAreLaws s innings) (stands : ShowsStandings s innings) where

@@ -11,7 +11,7 @@ use Rattle.agree_core.specs.Seats.{Hears, SeatState}
 use Rattle.agree_core.proofs.Order.{not_before}
 use Rattle.headline.specs.declared.event.Station.{Station}
 use Rattle.headline.specs.Configurations.{board_at, with_board}
-use Rattle.headline.specs.Kept.{kept_by_seat}
+use Rattle.headline.specs.KeptVotes.{kept_by_seat}
 
 set_other : (xs : List BoardState) (m n : ℕ) (l : BoardState) → m ≢ n → slice_get (slice_set xs m l) n ≡ slice_get xs n
 set_other (x ∷ xs) (suc m) (suc n) l h = set_other xs m n l (λ e. h (ap suc e))

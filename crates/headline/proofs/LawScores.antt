@@ -37,7 +37,7 @@ use Rattle.headline.specs.Headline.{HasRanges, AllHaveScores, ShowsLawsScores}
 use Rattle.headline.specs.Penned.{WasPenned}
 use Rattle.headline.proofs.Keeping.{Fine, begins_fine, run_keeps}
 use Rattle.headline.proofs.PennedVotes.{BothHold, all_penned}
-use Rattle.headline.proofs.Shown.{shown_both}
+use Rattle.headline.proofs.ShownBooks.{shown_both}
 use Rattle.headline.proofs.Sound.{Lawful, lawful_run, voted_taken}
 
 -- ---- a legal history has a standing

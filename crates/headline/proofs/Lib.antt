@@ -6,7 +6,7 @@ pub mod NotedRuns
 pub mod BoardKeeping
 pub mod Given
 pub mod Keeping
-pub mod Shown
+pub mod ShownBooks
 pub mod PennedVotes
 pub mod Sound
 pub mod SecondVotes

@@ -9,7 +9,7 @@ use Rattle.headline.specs.Setting.{Setting}
 use Rattle.headline.specs.Configurations.{Node, Configuration, board_at, fresh_boards, node}
 use Rattle.headline.specs.Steps.{Step}
 use Rattle.headline.specs.Runs.{Begins, BeginsAt, Moment, Run, last_of, AfterEach}
-use Rattle.headline.specs.Kept.{KeepsNoted, kept_at, kept_by_process}
+use Rattle.headline.specs.KeptVotes.{KeepsNoted, kept_at, kept_by_process}
 use Rattle.headline.proofs.AtStations.{at_board, at_desk}
 use Rattle.headline.proofs.Keeping.{Fine, begins_fine, run_keeps}
 use Rattle.headline.proofs.Noting.{Leaves, follows}

@@ -9,7 +9,7 @@ use Rattle.headline.specs.Setting.{Setting}
 use Rattle.headline.specs.Configurations.{Configuration}
 use Rattle.headline.specs.Runs.{Moment, last_of}
 use Rattle.headline.specs.Noted.{Brings, HasNoted, IsBrought, IsFound, beginning_of, position_at}
-use Rattle.headline.specs.Kept.{kept_at}
+use Rattle.headline.specs.KeptVotes.{kept_at}
 
 module _ {Disk Why : Type 0} (s : Setting Disk Why) where
   -- the station at its position keeps this vote

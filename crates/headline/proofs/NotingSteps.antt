@@ -23,7 +23,7 @@ use Rattle.headline.specs.BoardSteps.{AtBoard}
 use Rattle.headline.specs.Runs.{Moment}
 use Rattle.headline.specs.Noted.{Brings, IsBrought, IsFound, IsVoteAnswer, beginning_of, position_at, process_position}
 use Rattle.headline.specs.DeskAnswers.{AfterOpen, AfterPen, AfterReceive}
-use Rattle.headline.specs.Kept.{kept_at, kept_by_process, kept_by_seat}
+use Rattle.headline.specs.KeptVotes.{kept_at, kept_by_process, kept_by_seat}
 use Rattle.headline.proofs.Heeding.{Heeds, Reads, heeds, reads}
 use Rattle.headline.proofs.Heeding.{noting_at, noting_there, other_not}
 use Rattle.headline.proofs.Keeping.{Fine, running, node_fine}

@@ -11,7 +11,7 @@ use Rattle.headline.specs.Configurations.{Configuration, all_votes}
 use Rattle.headline.specs.Runs.{Begins, Moment, Run, last_of}
 use Rattle.headline.specs.Headline.{HaveOneScore, ShowsScore}
 use Rattle.headline.proofs.Keeping.{all_justified, begins_fine, run_keeps}
-use Rattle.headline.proofs.Shown.{moment, shown_settled}
+use Rattle.headline.proofs.ShownBooks.{moment, shown_settled}
 use Rattle.headline.proofs.Sound.{one_of_length}
 
 -- a history has one standing

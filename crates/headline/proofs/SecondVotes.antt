@@ -19,13 +19,13 @@ use Rattle.headline.specs.Steps.{Step}
 use Rattle.headline.specs.Runs.{Begins, Moment, Run, Shows, last_of, process_shows}
 use Rattle.headline.specs.Noted.{Brings, IsVoteAnswer, position_at}
 use Rattle.headline.specs.Headline.{NoneWaits, TakesSecond}
-use Rattle.headline.specs.Kept.{kept_at, kept_by_seat}
+use Rattle.headline.specs.KeptVotes.{kept_at, kept_by_seat}
 use Rattle.headline.proofs.BoardKeeping.{board_fine_at}
 use Rattle.headline.proofs.Given.{given_there}
 use Rattle.headline.proofs.Keeping.{Fine, begins_fine, run_keeps, running, node_fine}
 use Rattle.headline.proofs.Heeding.{board_put}
 use Rattle.headline.proofs.NotedRuns.{keeps_noted}
-use Rattle.headline.proofs.Shown.{none_keeps_both}
+use Rattle.headline.proofs.ShownBooks.{none_keeps_both}
 
 module _ {Disk Why : Type 0} (s : Setting Disk Why) where
   -- a station shows this book, and keeps this vote for its position

@@ -10,7 +10,7 @@ use Rattle.agree_core.specs.Books.{IsAgreedByFiles}
 use Rattle.headline.specs.declared.version.FileVersion.{FileVersion}
 use Rattle.headline.specs.Configurations.{Configuration, all_votes}
 use Rattle.headline.specs.Runs.{AtEachMoment, Begins, Moment, Run, last_of, AfterEach}
-use Rattle.headline.specs.Kept.{KeepsNoted}
+use Rattle.headline.specs.KeptVotes.{KeepsNoted}
 use Rattle.headline.specs.Besides.{IsSoundAnswer, KeepsVotes, StandsFast, WithinAgreed, AtEachEvent}
 use Rattle.headline.specs.Headline.{Headline}
 use Rattle.headline.specs.Match.{setting_of}

@@ -1,4 +1,4 @@
--- What is claimed: Laws and Headline, with Besides and Kept, over Runs, by what was Penned and Noted in them; Match is the Setting of
+-- What is claimed: Laws and Headline, with Besides and KeptVotes, over Runs, by what was Penned and Noted in them; Match is the Setting of
 -- a match. A step of a run is Steps, by what desks (DeskSteps, DeskAnswers, Mishaps, DeskFaults, Migrations) and boards (BoardSteps) do and answer
 -- (Answers), are given (Given), in Configurations at Events.
 pub mod Setting
@@ -17,7 +17,7 @@ pub mod Steps
 pub mod Runs
 pub mod Penned
 pub mod Noted
-pub mod Kept
+pub mod KeptVotes
 pub mod Headline
 pub mod Besides
 pub mod Laws

@@ -1,7 +1,7 @@
 -- What the words of the program do, with one filled-in command each, as a scorer types it.
 use Rattle.std.specs.Prelude.{ℕ, ◌≤◌, List, [], ◌∷◌, ◌++◌, length, All, codes}
 use Rattle.help.specs.declared.subject.Subject.{Subject}
-use Rattle.help.specs.declared.subject.Subject.TheVariants.{Help, Desk, Board, Key, Check, Card, Export, Page, Lines, Compare, Match, Replay, Migrate, Sheet, Typing}
+use Rattle.help.specs.declared.subject.Subject.TheVariants.{Help, Desk, Board, Key, Check, Card, Export, Page, Lines, Compare, Match, Replay, Migrate, Sheet, Typing, Start}
 
 -- rows that a plain terminal shows at once: 24 of 80 columns at most
 abbrev pub FitsAScreen : List (List ℕ) → Type 0
@@ -17,6 +17,7 @@ abbrev pub rows : Subject → List (List ℕ)
 rows Help =
     codes "ground: the book of a cricket match, kept by two scorers. Its words:" ∷
     codes "" ∷
+    codes "  start    keeps a match at one laptop: both desks, a board and their pages" ∷
     codes "  desk     a scorer's desk, which agrees what is typed with the other desk" ∷
     codes "  board    a board, which shows what both scorers have written" ∷
     codes "  key      writes a new key, for both desks and their boards" ∷
@@ -194,6 +195,15 @@ rows Typing =
     codes "  --lines L    where each line goes, a file or a pipe that is there" ∷
     codes "  --told T     where the desk's rows come from, likewise" ∷
     codes "  --columns N  the width of the terminal, 20 to 1000" ∷ []
+rows Start =
+    codes "start: keeps a match at one laptop in one window: both desks, a board and their" ∷
+    codes "pages. It asks who plays, or goes on with the match of the folder that it is" ∷
+    codes "begun in. The word is that of the script ./ground, which begins the program." ∷
+    codes "" ∷
+    codes "  ./ground start --rehearse" ∷
+    codes "" ∷
+    codes "  --rehearse  a match of two overs to learn by, in the folder rehearsal, where a" ∷
+    codes "              script is scorer B; or left out" ∷ []
 
 -- what is told of a word
 abbrev pub help_on : Subject → List ℕ

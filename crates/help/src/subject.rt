@@ -22,6 +22,8 @@ pub enum Subject {
     Migrate,
     Sheet,
     Typing,
+    /// The word of the script that begins the program.
+    Start,
 }
 
 /// The word of the program that a text is.
@@ -44,6 +46,7 @@ pub fn subject_of(word: &str) -> Option<Subject>
         "migrate" => Some(Subject::Migrate),
         "sheet" => Some(Subject::Sheet),
         "typing" => Some(Subject::Typing),
+        "start" => Some(Subject::Start),
         _ => None,
     }
 }

@@ -8,6 +8,7 @@ use crate::subject::Subject;
 const HELP: &str = "\
 ground: the book of a cricket match, kept by two scorers. Its words:
 
+  start    keeps a match at one laptop: both desks, a board and their pages
   desk     a scorer's desk, which agrees what is typed with the other desk
   board    a board, which shows what both scorers have written
   key      writes a new key, for both desks and their boards
@@ -215,6 +216,17 @@ typed, hands each line to the desk, and shows what that tells above it.
   --columns N  the width of the terminal, 20 to 1000
 ";
 
+const START: &str = "\
+start: keeps a match at one laptop in one window: both desks, a board and their
+pages. It asks who plays, or goes on with the match of the folder that it is
+begun in. The word is that of the script ./ground, which begins the program.
+
+  ./ground start --rehearse
+
+  --rehearse  a match of two overs to learn by, in the folder rehearsal, where a
+              script is scorer B; or left out
+";
+
 /// What is told of a word.
 pub fn help_on(subject: Subject) -> &'static str
     ensures { result.now ≡ texts.help_on subject }
@@ -235,5 +247,6 @@ pub fn help_on(subject: Subject) -> &'static str
         Subject::Migrate => MIGRATE,
         Subject::Sheet => SHEET,
         Subject::Typing => TYPING,
+        Subject::Start => START,
     }
 }

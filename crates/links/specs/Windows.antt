@@ -5,7 +5,7 @@ use Rattle.std.specs.Option.{ForSome}
 use Rattle.agree_core.specs.declared.messages.{Ask.Ask, Asker.Asker, DeskId.DeskId, Message.Message, Vote.Vote}
 use Rattle.agree_core.specs.declared.position.Position.{Position}
 use Rattle.agree_core.specs.Positions.{position_of}
-use Rattle.waits.specs.declared.times.TheConstants.{LONGEST_ASK_PAUSE}
+use Rattle.links.specs.declared.times.TheConstants.{LONGEST_ASK_PAUSE}
 use Rattle.wire.specs.Layout.{Says, is_at, written}
 use Rattle.links.specs.Passed.{Passed, Sent, Came}
 use Rattle.links.specs.declared.link.{Receivers.Receivers, Taken.Taken}

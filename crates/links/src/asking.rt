@@ -1,11 +1,11 @@
 //! When a station's ask is said, and said again.
 
 ghost use Rattle.std.specs.Prelude.{◌≡◌, ◌≤◌, ◌+◌, ◌⊎◌, IsSome, None, Some, true};
-ghost use Rattle.waits.specs.declared.times.TheConstants.{LONGEST_ASK_PAUSE};
+ghost use Rattle.links.specs.declared.times.TheConstants.{LONGEST_ASK_PAUSE};
 
+use crate::times::{FIRST_ASK_PAUSE, LONGEST_ASK_PAUSE, SHORTEST_ASK_PAUSE};
 use agree_core::{DeskId, Position};
 use std::mem;
-use waits::{FIRST_ASK_PAUSE, LONGEST_ASK_PAUSE, SHORTEST_ASK_PAUSE};
 use wire::MessageBytes;
 
 /// How often an ask is said again, beside what the station itself says.

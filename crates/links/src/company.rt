@@ -1,8 +1,8 @@
 //! Places that a peer's ask stands for: those behind it in its block.
 
 use crate::catch_up::{BLOCK, end_of_block};
+use crate::times::{WINDOW_PAUSE, WINDOW_REFILL};
 use agree_core::PLACES;
-use waits::{WINDOW_PAUSE, WINDOW_REFILL};
 
 /// How many blocks a book has.
 const BLOCKS: usize = (PLACES / BLOCK) as usize;

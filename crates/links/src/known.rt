@@ -2,7 +2,7 @@
 
 ghost use Rattle.std.specs.Prelude.{◌≡◌, ◌⊎◌, ◌≤◌, ◌+◌, IsSome, None, Some, [], true};
 ghost use Rattle.std.specs.BTreeMap.{values};
-ghost use Rattle.waits.specs.declared.times.TheConstants.{LONGEST_ASK_PAUSE};
+ghost use Rattle.links.specs.declared.times.TheConstants.{LONGEST_ASK_PAUSE};
 ghost use Rattle.links.specs.Windows.{AreOf, HasAnswers};
 
 use crate::asking::Asking;

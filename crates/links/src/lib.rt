@@ -15,6 +15,7 @@ mod log;
 mod sending;
 mod silence;
 mod stand;
+mod times;
 mod window;
 
 pub use aside::{Aside, HeldLine, HeldLines};

@@ -1,6 +1,6 @@
 //! How long a station has been silent.
 
-use waits::LONGEST_STATION_SILENCE;
+use crate::times::LONGEST_STATION_SILENCE;
 
 /// When something was said to all last, if anything was.
 #[derive(Clone, Copy)]

@@ -13,6 +13,7 @@ use wire::{MessageBytes, bytes_of};
 
 mod all_is_heard;
 mod behind;
+mod handed_back;
 
 /// A clock of the test's.
 #[derive(Drop)]

@@ -123,11 +123,16 @@ module _ {Disk : Type 0} (view : FileView Disk) (game : ℕ) (k l : DeskState Di
       ∙ sym (λ i. is_unkept k.seat k.votes (position_of_message game bytes (Message.Vote v) says i) (code_in game bytes v says i))
   unkept_so_read bytes read h out unkept (Message.Ask q) says r reads a = absurd r
 
+  by_asker : (before other voted : Bool) → ((before && other) && not voted) ≡ ((before && not voted) && other)
+  by_asker before other voted = grind arith
+
   pub shown_so : (bytes : List ℕ) (read : Result Message WireFault) (what : What) (out : List Message) (b : Bearing) (has_reply : Bool)
       → Takes view game k bytes what l out → Reads game bytes read
       → ((v : Vote) → read ≡ Ok (Message.Vote v) → b.another ≡ is_another k.seat k.votes (position_of v) (code v.entry))
       → ((v : Vote) → read ≡ Ok (Message.Vote v) → b.unkept ≡ is_unkept k.seat k.votes (position_of v) (code v.entry))
-      → ForOk read (λ m. b.passed_over ≡ is_before (message_at m) k.seat.position) → ForOk read (λ m. b.in_reach ≡ is_in_reach k.seat (message_at m))
+      → ((q : Ask) → read ≡ Ok (Message.Ask q)
+      → b.passed_over ≡ (is_before (message_at (Message.Ask q)) k.seat.position && is_other k.seat.desk (Some q.from)))
+      → ForOk read (λ m. b.in_reach ≡ is_in_reach k.seat (message_at m))
       → ((q : Ask) → read ≡ Ok (Message.Ask q)
       → b.is_level ≡ (is_at (message_at (Message.Ask q)) k.seat.position && is_other k.seat.desk (Some q.from)))
       → (what ≡ What.Asked → has_reply ≡ is_voted k.votes (position_in bytes))
@@ -143,8 +148,9 @@ module _ {Disk : Type 0} (view : FileView Disk) (game : ℕ) (k l : DeskState Di
       let is : read ≡ Ok (Message.Ask q) = reads_once game bytes read (Ok (Message.Ask q)) reads says in
       let here = position_of_message game bytes (Message.Ask q) says in
       let who : Some q.from ≡ asker_in bytes = sym (asker_of game bytes q says) in
-      let over = passed (Message.Ask q) is ∙ ap (λ (p : Position). is_before p k.seat.position) (sym here) in
+      let over = passed q is ∙ (λ i. is_before (sym here i) k.seat.position && is_other k.seat.desk (who i)) in
       let has = replied refl in
+      let shown = (λ i. over i && not (has i)) ∙ by_asker (is_before (position_in bytes) k.seat.position) _ (is_voted k.votes (position_in bytes)) in
       let level_is = level q is ∙ (λ i. is_at (sym here i) k.seat.position && is_other k.seat.desk (who i)) in
-      λ i. if over i && not (has i) then OtherLacks else (if level_is i then Level else Nothing)
+      λ i. if shown i then OtherLacks else (if level_is i then Level else Nothing)
   shown_so bytes read what out b has_reply t reads another unkept passed reach level replied = refl

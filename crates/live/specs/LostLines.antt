@@ -28,9 +28,9 @@ is_other A (Some Asker.B) = true
 is_other B (Some Asker.A) = true
 is_other d asker = false
 
--- An ask shows that the other's file lacks lines, where this desk has passed its position over, and that the other desk isn't
--- ahead, where it asks for the one at which this desk stands. That somebody asks for a later one shows nothing: a window asks
--- for places ahead.
+-- An ask of the other desk shows that its file lacks lines, where this desk has passed its position over, and that it isn't ahead,
+-- where it asks for the one at which this desk stands. That it asks for a later one shows nothing: a window asks for places ahead.
+-- A board's ask shows nothing: who keeps a board may ask for what he likes.
 abbrev pub asked : Bearing → Evidence
 asked b = if b.passed_over then OtherLacks else (if b.is_level then Level else Nothing)
 
@@ -61,7 +61,7 @@ abbrev pub bearing_of : SeatState → List Ballot → List ℕ → Bearing
 bearing_of s votes bytes = record {
   another = is_another s votes (position_in bytes) (body_in bytes);
   unkept = is_unkept s votes (position_in bytes) (body_in bytes);
-  passed_over = is_passed_over s votes (position_in bytes);
+  passed_over = is_passed_over s votes (position_in bytes) && is_other s.desk (asker_in bytes);
   in_reach = is_in_reach s (position_in bytes);
   is_level = is_at (position_in bytes) s.position && is_other s.desk (asker_in bytes);
 }

@@ -3,9 +3,9 @@
 ghost use Rattle.std.specs.Prelude.{◌≡◌};
 ghost use Rattle.live.specs.Signs as signs;
 
+use crate::times::LONGEST_REPEAT_WAIT;
 use agree_core::Heard;
 use board::BoardRefusal;
-use waits::LONGEST_REPEAT_WAIT;
 use wire::What;
 
 /// For how many milliseconds none comes, before a board for which both desks are ahead says so. It asks twice a second.

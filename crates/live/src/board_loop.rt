@@ -270,14 +270,15 @@ fn pass_over<N: Notices>(watch: &mut Watch<N>, between: &mut Between)
     between.telling = between.telling.unopened(notices);
 }
 
-/// Says what is due, and takes the next datagram. The first one of a turn is waited for, until something is due. It answers
-/// whether one was taken.
+/// Says what is due, and takes the next datagram. The first one of a turn is waited for, until something is due, and so many
+/// milliseconds at most. It answers whether one was taken.
 fn take_next<B: BookOf, L: Link, C: Clock, N: Notices>(
     board: &mut Board<B>,
     link: &mut L,
     clock: &mut C,
     watch: &mut Watch<N>,
     between: &mut Between,
+    longest_wait: u64,
 ) -> bool
     ensures taken { result ≡ true →
         (sheet : Sheet) (shown : Option (List ℕ)) (seen : List Sight) (turns had taken : ℕ) → taken < MOST_TAKEN →
@@ -295,7 +296,8 @@ fn take_next<B: BookOf, L: Link, C: Clock, N: Notices>(
 {
     let wait = say(board, link, clock, &mut between.pace);
     let mut buffer = [0; ROOM];
-    match link.take_message(board.game(), &mut buffer, wait) {
+    let longest = wait.min(longest_wait);
+    match link.take_message(board.game(), &mut buffer, longest) {
         Arrival::Datagram(_, read) => {
             let now = clock.millis();
             hear(board, &read, link, watch, between, now);
@@ -309,13 +311,14 @@ fn take_next<B: BookOf, L: Link, C: Clock, N: Notices>(
     }
 }
 
-/// Takes what came in a turn.
+/// Takes what came in a turn. The first of it is waited for, so many milliseconds at most.
 fn take_all<B: BookOf, L: Link, C: Clock, N: Notices>(
     board: &mut Board<B>,
     link: &mut L,
     clock: &mut C,
     watch: &mut Watch<N>,
     between: &mut Between,
+    longest_wait: u64,
 )
     ensures goes { (sheet : Sheet) (shown : Option (List ℕ)) (seen : List Sight) (turns had : ℕ) → (taken : ℕ) ×
         BoardGoes B.content B.innings_a_side sheet board.old board.new
@@ -326,7 +329,7 @@ fn take_all<B: BookOf, L: Link, C: Clock, N: Notices>(
 {
     between.pace.set_waits(true);
     for taken in 0..MOST_TAKEN {
-        if !take_next(board, link, clock, watch, between) {
+        if !take_next(board, link, clock, watch, between, longest_wait) {
             break;
         }
     }
@@ -418,7 +421,8 @@ fn turn<B: BookOf, L: Link, C: Clock, N: Notices, W: Sink, S: Shows<B>>(
     ensures failed { OnErr result (has_failed out.new ≡ true ⊎ S.failed state.new ≡ true) }
 {
     let before = board.book().len();
-    take_all(board, link, clock, watch, between);
+    let longest_wait = state.longest_wait();
+    take_all(board, link, clock, watch, between, longest_wait);
     let now = clock.millis();
     look_apart(board, watch, between, now);
     between.pace.end_turn();

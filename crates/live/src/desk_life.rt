@@ -60,17 +60,18 @@ fn greet<S: SlotsOf, B: BookOf + Drop, W: Sink>(
     told(out.flush())
 }
 
-/// Hands on what is seen of a desk, and the lines that are held.
+/// Hands on what is seen of a desk now, and the lines that are held.
 fn show<S: SlotsOf, B: BookOf + Drop, K: Keys, P: ShowsDesk<B>>(
     desk: &Desk<S, B>,
     sheet: &MatchSheet,
     keys: &K,
     page: &mut P,
+    now: u64,
 )
     ensures { P.goes_on page.old (desk_sight sheet.now (innings_of desk.now) (state_of desk.now)) page.new }
 {
     let own = own_line(desk);
-    page.show(sheet, desk.book(), desk.position(), own, keys.held());
+    page.show(sheet, desk.book(), desk.position(), own, keys.held(), now);
 }
 
 /// Tells the scorer where the desk of this letter stands, and takes so many turns.
@@ -90,14 +91,18 @@ fn take_turns<S: SlotsOf, B: BookOf + Drop, L: Link, K: Keys, C: Clock, W: Sink,
     ensures failed { result ≡ Err DeskEnd.Write → has_failed outside.new.out ≡ true }
 {
     greet(desk, sheet, &mut outside.out)?;
+    let now = outside.clock.millis();
     let mut between = Between {
         pace: Pace::new(),
-        peer: Peer::new(own, outside.clock.millis()),
+        peer: Peer::new(own, now),
         warned: Warned::NOTHING,
+        now,
+        shown_wait: page.longest_wait(),
     };
     for number in 0..turns {
         turn(alloc, desk, sheet, outside, &mut between)?;
-        show(desk, sheet, &outside.keys, page);
+        show(desk, sheet, &outside.keys, page, between.now);
+        between.shown_wait = page.longest_wait();
     }
     Ok(())
 }

@@ -161,6 +161,7 @@ fn listen<S: SlotsOf, B: BookOf + Drop, L: Link, K: Keys, C: Clock, W: Sink>(
 {
     take_all(desk, sheet, outside, between)?;
     let now = outside.clock.millis();
+    between.now = now;
     remind(desk, &mut outside.out, between, now)
 }
 

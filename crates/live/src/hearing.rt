@@ -222,7 +222,8 @@ fn take_next<S: SlotsOf, B: BookOf + Drop, L: Link, K: Keys, C: Clock, W: Sink>(
     } = outside;
     let wait = say(desk, link, clock, &mut between.pace);
     let mut buffer = [0; ROOM];
-    match link.take_message(desk.game(), &mut buffer, wait) {
+    let longest = wait.min(between.shown_wait);
+    match link.take_message(desk.game(), &mut buffer, longest) {
         Arrival::Datagram(_, read) => {
             let now = clock.millis();
             hear(desk, sheet, &read, link, out, between, now)?;

@@ -14,13 +14,14 @@ mod ends;
 pub mod hearing;
 mod later;
 mod laws;
-pub mod lost_lines;
+mod lost_lines;
 mod outside;
 mod pace;
 mod peer;
 mod reminding;
 mod shows;
 mod sight_log;
+mod times;
 mod watch;
 
 pub use begin::begin_desk;

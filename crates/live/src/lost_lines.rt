@@ -215,6 +215,18 @@ fn is_level<S: SlotsOf, B: BookOf + Drop>(
     is_at(at, desk.position()) && is_other(desk.letter(), asker)
 }
 
+/// Whether the other desk asks for a position before the one at which this desk stands.
+fn is_earlier<S: SlotsOf, B: BookOf + Drop>(
+    desk: &Desk<S, B>,
+    at: Position,
+    asker: Option<Asker>,
+) -> bool
+    ensures { result ≡ (votes.is_before at (state_of desk.now).seat.position
+        && lost.is_other (state_of desk.now).seat.desk asker) }
+{
+    is_before(at, desk.position()) && is_other(desk.letter(), asker)
+}
+
 /// What a message tells by its position and by who says it.
 #[derive(Clone, Copy)]
 pub struct Bearing {
@@ -222,7 +234,7 @@ pub struct Bearing {
     pub another: bool,
     /// A vote, if it is this desk's own, isn't among those that it has cast.
     pub unkept: bool,
-    /// This desk has passed the position over without a vote.
+    /// The other desk asks for a position that this desk has passed over without a vote.
     pub passed_over: bool,
     /// The other desk can have come to the position.
     pub in_reach: bool,
@@ -268,7 +280,8 @@ impl Bearing {
     }
 }
 
-/// What the message that came tells a desk, before that answers: a position before its own counts as passed over.
+/// What the message that came tells a desk, before that answers: a position before its own counts as passed over, if the other desk
+/// asks for it.
 pub fn bearing_of<S: SlotsOf, B: BookOf + Drop>(
     desk: &Desk<S, B>,
     read: &Result<Message, WireFault>,
@@ -278,19 +291,21 @@ pub fn bearing_of<S: SlotsOf, B: BookOf + Drop>(
         result.another ≡ votes.is_another (state_of desk.now).seat (state_of desk.now).votes (position_of v) (code v.entry) }
     ensures unkept { (v : AVote) → read.now ≡ Ok (Message.Vote v) →
         result.unkept ≡ lost.is_unkept (state_of desk.now).seat (state_of desk.now).votes (position_of v) (code v.entry) }
-    ensures passed_over { ForOk read.now (λ m. result.passed_over ≡ votes.is_before (is_at m) (state_of desk.now).seat.position) }
+    ensures passed_over { (q : AnAsk) → read.now ≡ Ok (Message.Ask q) →
+        result.passed_over ≡ (votes.is_before (is_at (Message.Ask q)) (state_of desk.now).seat.position
+        && lost.is_other (state_of desk.now).seat.desk (Some q.from)) }
     ensures in_reach { ForOk read.now (λ m. result.in_reach ≡ votes.is_in_reach (state_of desk.now).seat (is_at m)) }
     ensures level { (q : AnAsk) → read.now ≡ Ok (Message.Ask q) →
         result.is_level ≡ (votes.is_at (is_at (Message.Ask q)) (state_of desk.now).seat.position
         && lost.is_other (state_of desk.now).seat.desk (Some q.from)) }
 {
     let at = position_in(*read);
-    let own = desk.position();
+    let asker = asker_in(read);
     Bearing {
         another: is_another(desk, *read),
         unkept: is_unkept(desk, *read),
-        passed_over: is_before(at, own),
+        passed_over: is_earlier(desk, at, asker),
         in_reach: is_in_reach(desk, at),
-        is_level: is_level(desk, at, asker_in(read)),
+        is_level: is_level(desk, at, asker),
     }
 }

@@ -4,7 +4,7 @@ ghost use Rattle.std.specs.Prelude.{◌≡◌, ◌≤◌, ◌<◌, IfSome, false
 ghost use Rattle.std.proofs.Props.{props};
 ghost use Rattle.live.specs.Ticks.{recent_until};
 
-use waits::{FIRST_REPEAT_WAIT, LONGEST_REPEAT_WAIT};
+use crate::times::{FIRST_REPEAT_WAIT, LONGEST_REPEAT_WAIT};
 
 /// When a station says next what it says unasked: at once where its position is new, then again after 20 ms, after
 /// twice that and so on, up to twice a second. Whatever its clock shows, what was said half a second before is due.

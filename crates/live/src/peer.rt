@@ -8,8 +8,8 @@ ghost use Rattle.live.specs.Signs as signs;
 ghost use Rattle.live.specs.Signs.{IsSign};
 
 use crate::hearing::position_of;
+use crate::times::{LONGEST_REPEAT_WAIT, REMINDER_WAIT};
 use agree_core::{Asker, DeskId, Heard, Message, Position};
-use waits::{LONGEST_REPEAT_WAIT, REMINDER_WAIT};
 use wire::{What, WireFault};
 
 /// A desk as one who asks.

@@ -35,4 +35,7 @@ pub trait Shows<B: BookOf> {
         ensures goes_on { goes_on self.old
             (sight_of sheet.now (B.innings_a_side book.now) (B.content book.now) trouble) now self.new }
         ensures failed { OnErr result (failed self.new ≡ true) };
+
+    /// For how many milliseconds it may be left alone since it was handed the book: none where it has more to do at once.
+    fn longest_wait(&self) -> u64;
 }

@@ -10,6 +10,7 @@ mod peers;
 mod row_log;
 mod screen;
 mod sockets;
+mod times;
 mod waiting;
 
 pub use address::{Address, addresses_in};

@@ -2,17 +2,18 @@
 
 ghost use Rattle.std.specs.Prelude.{◌≡◌, ◌≤◌, ◌⊎◌, ℕ, [], IfOk, length};
 
+use crate::times::SOCKET_CALL_WAIT;
 use crate::waiting::{NO_DESCRIPTOR, WaitEnds, wait_at};
 use links::{Receivers, Taken};
 use seal::{
-    CarriedLog, MOST_PEERS, Opener, SealedBuffer, SealedBytes, SealedCarrier, TaggedMessage,
+    CarriedLog, MOST_PEERS, Opener, SealedBuffer, SealedCarrier, SealedForm, TaggedMessage,
     form_for,
 };
+use std::cell::Cell;
 use std::io::{self, ErrorKind, Write};
 use std::net::{Net, SocketAddr, UdpSocket};
 use std::os::fd::AsRawFd;
 use std::time::Duration;
-use waits::SOCKET_CALL_WAIT;
 
 /// Whether a call failed only because it could wait no longer.
 pub fn is_late(error: &io::Error) -> bool {
@@ -27,6 +28,8 @@ pub struct Port {
     ends: WaitEnds,
     /// Whether the last receive failed.
     fails: bool,
+    /// Whether somebody came or asks at the page of its ends, as the last wait told.
+    is_page_ready: bool,
 }
 
 impl Port {
@@ -40,6 +43,7 @@ impl Port {
             socket,
             ends: WaitEnds::NONE,
             fails: false,
+            is_page_ready: false,
         })
     }
 
@@ -60,12 +64,20 @@ impl Port {
 
     /// Waits until a receive may answer at once, so many milliseconds at most, and tells whether it may. A socket that
     /// failed is left alone for a moment: so one that always fails doesn't keep the processor busy.
-    fn is_ready(&self, wait: u64) -> bool {
-        if self.fails {
-            let _ = wait_at(NO_DESCRIPTOR, self.ends, SOCKET_CALL_WAIT.min(wait));
-            return true;
-        }
-        wait_at(self.socket.as_raw_fd(), self.ends, wait)
+    fn is_ready(&mut self, wait: u64) -> bool {
+        let (socket, wait) = if self.fails {
+            (NO_DESCRIPTOR, SOCKET_CALL_WAIT.min(wait))
+        } else {
+            (self.socket.as_raw_fd(), wait)
+        };
+        let ready = wait_at(socket, self.ends, wait);
+        self.is_page_ready = ready.page;
+        self.fails || ready.socket
+    }
+
+    /// Whether somebody came or asks at the page of its ends, as the last wait told.
+    pub fn is_page_ready(&self) -> bool {
+        self.is_page_ready
     }
 
     /// The next datagram, of so many bytes, as far as there is room, and where it came from. It is waited for, so many
@@ -111,8 +123,10 @@ fn is_meant(only: Option<SocketAddr>, address: SocketAddr) -> bool {
 /// A socket, the addresses of its peers, and what standard error was told of them. That it can't be told anything is
 /// no fault.
 #[derive(Drop)]
-struct Mail<E> {
+struct Mail<'w, E> {
     port: Port,
+    /// Where it is noted that somebody came or asks at the station's page.
+    called: &'w Cell<bool>,
     peers: [Option<SocketAddr>; MOST_PEERS],
     /// Whose datagram was taken last.
     last: Option<SocketAddr>,
@@ -125,7 +139,7 @@ struct Mail<E> {
     is_stranger_told: bool,
 }
 
-impl<E: Write + Drop> Mail<E> {
+impl<E: Write + Drop> Mail<'_, E> {
     /// Whether datagrams from this address are taken.
     fn knows(&self, from: SocketAddr) -> bool {
         self.peers.iter().any(|peer| *peer == Some(from))
@@ -133,7 +147,7 @@ impl<E: Write + Drop> Mail<E> {
 
     /// Sends bytes to a peer. That the machine refuses it is told where it begins to, and so is that it sends again. It
     /// answers whether it is refused now; what was held up for a moment says nothing.
-    fn send_to(&mut self, bytes: &SealedBytes, address: SocketAddr, is_refused: bool) -> bool {
+    fn send_to(&mut self, bytes: &SealedForm, address: SocketAddr, is_refused: bool) -> bool {
         match self.port.send(bytes.as_slice(), address) {
             Ok(_) => {
                 if is_refused {
@@ -193,9 +207,13 @@ impl<E: Write + Drop> Mail<E> {
 
     /// The next datagram, if it is a peer's and comes in time. That of a stranger is passed over, one a call.
     fn receive(&mut self, buffer: &mut SealedBuffer, wait: u64) -> Taken
-        ensures { (count : ℕ) → result ≡ Taken.Datagram count → count ≤ 65 }
+        ensures { (count : ℕ) → result ≡ Taken.Datagram count → count ≤ 81 }
     {
-        let (count, from) = match self.port.receive(buffer.as_mut_slice(), wait) {
+        let came = self.port.receive(buffer.as_mut_slice(), wait);
+        if self.port.is_page_ready() {
+            self.called.set(true);
+        }
+        let (count, from) = match came {
             Ok(came) => came,
             Err(error) => return missed(&error),
         };
@@ -210,31 +228,32 @@ impl<E: Write + Drop> Mail<E> {
 
 /// A socket at an address, which sends to its peers and takes what they sent. Standard error is told of each peer to
 /// which the machine begins to send nothing, or sends again, and once of a datagram of the match that comes from elsewhere.
-pub struct Peers<E> {
-    mail: Mail<E>,
+pub struct Peers<'w, E> {
+    mail: Mail<'w, E>,
     log: CarriedLog,
 }
 
 // one step for whoever lets it go, in place of one a part
-impl<E: Drop> Drop for Peers<E> {
+impl<E: Drop> Drop for Peers<'_, E> {
     fn drop(self) {
         let Peers { mail: _, log: _ } = self;
     }
 }
 
-impl<E: Write + Drop> Peers<E> {
+impl<'w, E: Write + Drop> Peers<'w, E> {
     ghost use Rattle.seal.specs.Carried.{carried_of};
 
     /// A socket at this address, in the match whose datagrams this opens, of which no call waits without a limit. A
-    /// wait for datagrams ends for these too.
+    /// wait for datagrams ends for these too: where that is for their page, it is noted.
     pub fn new(
         net: &impl Net,
         at: SocketAddr,
         peers: [Option<SocketAddr>; MOST_PEERS],
         ends: WaitEnds,
+        called: &'w Cell<bool>,
         opener: Opener,
         errors: E,
-    ) -> io::Result<Peers<E>>
+    ) -> io::Result<Peers<'w, E>>
         ensures { IfOk result (λ peers. carried_of peers.log ≡ []) }
     {
         let mut port = Port::new(net, at)?;
@@ -242,6 +261,7 @@ impl<E: Write + Drop> Peers<E> {
         Ok(Peers {
             mail: Mail {
                 port,
+                called,
                 peers,
                 last: None,
                 opener,
@@ -261,7 +281,7 @@ impl<E: Write + Drop> Peers<E> {
     }
 }
 
-impl<E: Write + Drop> SealedCarrier for Peers<E> {
+impl<E: Write + Drop> SealedCarrier for Peers<'_, E> {
     ghost use Rattle.seal.specs.Carried.{carried_of};
 
     ghost carried = { λ peers. carried_of peers.log };

@@ -5,6 +5,7 @@ ghost use Rattle.machine.specs.Rows as rows;
 ghost use Rattle.machine.specs.Rows.{are_whole, ends_row, lacks_last, shown_in};
 
 use crate::row_log::{RowLog, TakenLog, Written};
+use crate::times::SCREEN_PIECE_WAIT;
 use libc::net::{POLLOUT, poll};
 use libc::types::pollfd;
 use machine_files::may_have;
@@ -14,7 +15,6 @@ use std::io::{self, ErrorKind, Write};
 use std::os::fd::{AsRawFd, RawFd};
 use std::rt::{Stderr, Stdout};
 use std::snapshot::Snapshot;
-use waits::SCREEN_PIECE_WAIT;
 
 /// The most bytes of one write: a terminal or a pipe that says that it can be written has room for as many.
 const PIECE: usize = 128;

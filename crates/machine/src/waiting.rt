@@ -3,7 +3,6 @@
 use libc::net::{POLLIN, poll};
 use libc::types::pollfd;
 use std::os::fd::RawFd;
-use waits::LONGEST_PAGE_WAIT;
 
 /// What is passed over by a wait.
 pub const NO_DESCRIPTOR: RawFd = -1;
@@ -32,15 +31,22 @@ fn reads_of(descriptor: RawFd) -> pollfd {
     }
 }
 
-/// Waits until a socket or one of these can be read, so many milliseconds at most, fewer where a page is one of them, and tells
-/// whether the socket may be. A wait that fails says that it may: so whoever waits reads it, and no call ends at once for ever.
-pub fn wait_at(socket: RawFd, ends: WaitEnds, limit: u64) -> bool {
+/// What may be read behind a wait. Where the wait failed all may be: so whoever waits reads it, and no wait ends at once for ever.
+#[derive(Clone, Copy)]
+pub struct Ready {
+    pub socket: bool,
+    pub page: bool,
+}
+
+/// Waits until a socket or one of these can be read, so many milliseconds at most, and tells which may be.
+pub fn wait_at(socket: RawFd, ends: WaitEnds, limit: u64) -> Ready {
     let keyboard = ends.keyboard.unwrap_or(NO_DESCRIPTOR);
-    let (page, limit) = match ends.page {
-        Some(page) => (page, limit.min(LONGEST_PAGE_WAIT)),
-        None => (NO_DESCRIPTOR, limit),
-    };
+    let page = ends.page.unwrap_or(NO_DESCRIPTOR);
     let mut asked = [reads_of(socket), reads_of(keyboard), reads_of(page)];
     let limit = i32::try_from(limit).unwrap_or(i32::MAX);
-    poll(&mut asked, limit) < 0 || asked[0].revents != 0
+    let has_failed = poll(&mut asked, limit) < 0;
+    Ready {
+        socket: has_failed || asked[0].revents != 0,
+        page: has_failed || asked[2].revents != 0,
+    }
 }

@@ -5,25 +5,8 @@ ghost use Rattle.std.specs.List.{after_first, before_first, position_or_len};
 ghost use Rattle.streams.specs.Watched.{IsHandedOn, Prints, TellsFailure};
 ghost use Rattle.page.specs.Page as page;
 
-use crate::cards::CARDS;
-use crate::charts::CHARTS;
-use crate::head::{BODY, HEAD};
-use crate::innings::INNINGS;
-use crate::overs::OVERS;
-use crate::reading::READING;
-use crate::showing::{END, SCRIPT, SHOWING};
-use crate::style::STYLE;
+use crate::template::{BACK, FRONT};
 use streams::{Sink, Watched, WriteFailed};
-
-/// Prints what stands before the value.
-fn print_front<W: Sink>(out: &mut Watched<W>) -> Result<(), WriteFailed>
-    ensures text { OnOk result (Prints W.contents out.old out.new page.front) }
-    ensures failed { TellsFailure result out.old out.new }
-{
-    write!(out, "{}", HEAD)?;
-    write!(out, "{}", STYLE)?;
-    write!(out, "{}", BODY)
-}
 
 /// What stands before the first `<`, and what stands after it.
 fn cut(text: &str) -> Option<(&str, &str)>
@@ -48,28 +31,6 @@ fn print_escaped<W: Sink>(text: &str, out: &mut Watched<W>) -> Result<(), WriteF
     write!(out, "{rest}")
 }
 
-/// Prints the first half of what stands behind the value.
-fn print_reading<W: Sink>(out: &mut Watched<W>) -> Result<(), WriteFailed>
-    ensures text { OnOk result (Prints W.contents out.old out.new page.reading) }
-    ensures failed { TellsFailure result out.old out.new }
-{
-    write!(out, "{}", SCRIPT)?;
-    write!(out, "{}", READING)?;
-    write!(out, "{}", INNINGS)
-}
-
-/// Prints the second half.
-fn print_showing<W: Sink>(out: &mut Watched<W>) -> Result<(), WriteFailed>
-    ensures text { OnOk result (Prints W.contents out.old out.new page.showing) }
-    ensures failed { TellsFailure result out.old out.new }
-{
-    write!(out, "{}", CARDS)?;
-    write!(out, "{}", OVERS)?;
-    write!(out, "{}", CHARTS)?;
-    write!(out, "{}", SHOWING)?;
-    write!(out, "{}", END)
-}
-
 /// Prints the page of a book's value, which is the text of one JSON value. It fails only where a write fails; how much was
 /// written then isn't said.
 pub fn print_page<W: Sink>(value: &str, out: &mut Watched<W>) -> Result<(), WriteFailed>
@@ -77,9 +38,8 @@ pub fn print_page<W: Sink>(value: &str, out: &mut Watched<W>) -> Result<(), Writ
     ensures failed { TellsFailure result out.old out.new }
     ensures handed_on { OnOk result (IsHandedOn W.calls out.new) }
 {
-    print_front(out)?;
+    write!(out, "{}", FRONT)?;
     print_escaped(value, out)?;
-    print_reading(out)?;
-    print_showing(out)?;
+    write!(out, "{}", BACK)?;
     out.flush()
 }

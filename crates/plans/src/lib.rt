@@ -13,7 +13,6 @@ mod search;
 mod standing;
 mod target;
 
-pub use bowler::over_by;
 pub use laws::no_plan_against_the_laws;
 pub use plan::{Plan, plan_of};
 pub use planning::{Planned, plan_asked};

@@ -13,15 +13,13 @@ mod tags;
 mod tickets;
 mod veil;
 
-pub use judging::{MOST_WAITING, Post, Posts};
+pub use judging::{Post, Posts};
 pub use laws::{
     each_nonce_once, each_number_once, each_ticket_once, what_a_page_reads, what_a_ticket_gives,
     what_is_taken, what_is_typed, worked_frames,
 };
-pub use nonces::MOST_OUT;
 pub use posted::PostedLine;
 pub use posted_log::PostedLog;
 pub use refusal::Refusal;
-pub use stamp::{Pass, Stamp, place_in, tag_in};
-pub use tickets::{GOOD_FOR, Ticket};
+pub use stamp::{Pass, Stamp, tag_in};
 pub use veil::Frame;

@@ -9,7 +9,7 @@ use Rattle.agree_core.specs.declared.messages.DeskId.{DeskId}
 use Rattle.agree_core.specs.declared.messages.DeskId.TheVariants.{A}
 use Rattle.agree_core.specs.Ballots.{Ballot, In, votes_by}
 use Rattle.headline.proofs.Keeping.{Fine}
-use Rattle.headline.proofs.Shown.{by_both, none_keeps_both}
+use Rattle.headline.proofs.ShownBooks.{by_both, none_keeps_both}
 use Rattle.headline.proofs.EveryRun.{holds_in_run}
 use Rattle.headline.proofs.LawScores.{shown_scored}
 use Rattle.headline.proofs.PennedVotes.{all_penned}
@@ -19,7 +19,7 @@ use Rattle.headline.specs.Match.{setting_of}
 use Rattle.headline.specs.Runs.{Begins, Shows}
 use Rattle.headline.specs.declared.version.FileVersion.{FileVersion}
 use Rattle.headline.specs.Configurations.{Configuration, all_votes}
-use Rattle.headline.specs.Kept.{NoneKeepsBoth}
+use Rattle.headline.specs.KeptVotes.{NoneKeepsBoth}
 use Rattle.headline.specs.Setting.{Setting}
 use Rattle.corrections.specs.declared.refusal.Refusal.{Refusal}
 use Rattle.station_texts.specs.Saying.{SaysEntry}

@@ -12,7 +12,7 @@ use Rattle.headline.specs.Configurations.{Running, Configuration, node}
 use Rattle.headline.specs.declared.version.FileVersion.{FileVersion}
 use Rattle.headline.specs.Runs.{AtSomeMoment, Begins, Moment, Run, last_of}
 use Rattle.headline.proofs.Keeping.{Fine, begins_fine, run_keeps}
-use Rattle.progress.specs.Calm.{AllCalm}
+use Rattle.progress.specs.CalmMoments.{AllCalm}
 use Rattle.progress.specs.Progress.{HoldsAt}
 use Rattle.progress.proofs.Progress.{holds_at}
 use Rattle.progress.proofs.CalmRuns.{calm_join}

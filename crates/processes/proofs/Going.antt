@@ -14,7 +14,7 @@ use Rattle.headline.specs.Answers.{Answer}
 use Rattle.headline.specs.Steps.{Step}
 use Rattle.headline.specs.Runs.{Moment, Run, last_of}
 use Rattle.headline.specs.Besides.{AtEachEvent}
-use Rattle.progress.specs.Calm.{AllCalm, IsCalm}
+use Rattle.progress.specs.CalmMoments.{AllCalm, IsCalm}
 use Rattle.processes.specs.Laws.{GoesOn}
 use Rattle.processes.specs.Progress.{IsQuiet, Plays}
 

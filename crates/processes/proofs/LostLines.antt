@@ -1,6 +1,6 @@
 -- No message of a station shows that a desk's file lacks lines.
 use Rattle.std.proofs.Common.{arith, ◌≡◌, ℕ, Bool, false, List, refl, sym, ap, ◌∙◌, subst}
-use Rattle.std.specs.Prelude.{if◌then◌else◌}
+use Rattle.std.specs.Prelude.{◌&&◌, if◌then◌else◌}
 use Rattle.corrections.specs.declared.refusal.Refusal.{Refusal}
 use Rattle.agree_core.specs.declared.{messages.DeskId.DeskId, messages.Message.Message, messages.Vote.Vote, position.Position.Position, seat.Heard.Heard}
 use Rattle.agree_core.specs.Desks.{DeskState}
@@ -22,7 +22,7 @@ use Rattle.progress.proofs.CalmSteps.{one_process}
 use Rattle.progress.proofs.Settled.{fine_seat}
 use Rattle.live.specs.Desks as desks
 use Rattle.live.specs.Desks.{shown_by}
-use Rattle.live.specs.LostLines.{bearing_of, is_unkept, position_in}
+use Rattle.live.specs.LostLines.{asker_in, bearing_of, is_other, is_unkept, position_in}
 use Rattle.station_texts.specs.Doubts.{is_loss}
 use Rattle.station_texts.specs.declared.doubt.Evidence.TheVariants.{Nothing, OtherLacks, Ahead, Unkept, Level}
 use Rattle.live.proofs.LostLemmas.{position_of_message}
@@ -76,7 +76,8 @@ module _ {Disk : Type 0} (s : Setting Disk Refusal) (game innings : ℕ) where
       no_loss What.Asked (Message.Vote w, says, r) = absurd r
       no_loss What.Asked (Message.Ask q, says, r) =
           let found = made q says in
-          let passed = ap (is_passed_over k.seat k.votes) (here (Message.Ask q) says) ∙ holds.none_passed d k found.0 q runs found.1 in
+          let never = ap (is_passed_over k.seat k.votes) (here (Message.Ask q) says) ∙ holds.none_passed d k found.0 q runs found.1 in
+          let passed = ap (λ (x : Bool). x && is_other k.seat.desk (asker_in bytes)) never in
           let level = (bearing_of k.seat k.votes bytes).is_level in
           ap (λ (x : Bool). is_loss (if x then OtherLacks else (if level then Level else Nothing))) passed ∙ level_so level
       no_loss _ t = refl

@@ -22,7 +22,7 @@ use Rattle.headline.specs.Noted as noted
 use Rattle.headline.specs.Noted.{IsVoteAnswer, position_at}
 use Rattle.headline.specs.Runs.{Begins, Moment, Run, Shows, last_of}
 use Rattle.headline.specs.Steps.{Step}
-use Rattle.headline.specs.Kept.{kept_at}
+use Rattle.headline.specs.KeptVotes.{kept_at}
 use Rattle.headline.proofs.NotedRuns.{keeps_noted}
 use Rattle.headline.proofs.SecondVotes as headline
 use Rattle.live.specs.Boards as boards

@@ -13,7 +13,7 @@ use Rattle.headline.specs.declared.version.FileVersion.{FileVersion}
 use Rattle.headline.specs.Configurations.{board_at, node, process_disk}
 use Rattle.headline.specs.Match.{setting_of}
 use Rattle.headline.specs.Runs.{Begins}
-use Rattle.headline.proofs.Shown.{stands_fast}
+use Rattle.headline.proofs.ShownBooks.{stands_fast}
 use Rattle.progress.proofs.BoardTrips.{same_or_other}
 use Rattle.processes.specs.Happenings.{after}
 use Rattle.processes.specs.Lives.{BeginsFirst}

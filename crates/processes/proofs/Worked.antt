@@ -95,10 +95,12 @@ one_out m fine = All-cons IsMessage m [] fine none_out
 
 -- a station had sealed it
 a_sealed : (ring : Ring) (seal : List ℕ) (more : List Message) → slice_get (seals_by ring a_bytes) 0 ≡ Some seal → IsAuthentic ring 7 (a_says ∷ more) a_bytes
-a_sealed ring seal more there = λ v says. (sealed seal a_bytes, refl, (0, (seal, there, refl, λ m long same. (0, refl))))
+a_sealed ring seal more there = λ v says.
+    (sealed seal a_bytes, refl, (0, (seal, there, (None, tt, refl), λ m long same. (0, (a_says, refl, (None, tt, refl))))))
 
 b_sealed : (ring : Ring) (seal : List ℕ) → slice_get (seals_by ring b_bytes) 0 ≡ Some seal → IsAuthentic ring 7 (a_says ∷ b_says ∷ board_asks ∷ []) b_bytes
-b_sealed ring seal there = λ v says. (sealed seal b_bytes, refl, (0, (seal, there, refl, λ m long same. (1, refl))))
+b_sealed ring seal there = λ v says.
+    (sealed seal b_bytes, refl, (0, (seal, there, (None, tt, refl), λ m long same. (1, (b_says, refl, (None, tt, refl))))))
 
 -- ---- desk A
 

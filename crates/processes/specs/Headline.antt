@@ -11,7 +11,7 @@ use Rattle.headline.specs.declared.event.Station.{Station}
 use Rattle.headline.specs.Configurations.{Running, Configuration, all_votes, board_at, node}
 use Rattle.headline.specs.Runs.{Shows}
 use Rattle.headline.specs.Headline.{ByBoth, AllHaveScores, ShowsScore}
-use Rattle.headline.specs.Kept.{NoneKeepsBoth}
+use Rattle.headline.specs.KeptVotes.{NoneKeepsBoth}
 use Rattle.live.specs.Desks as desks
 use Rattle.station_texts.specs.Saying.{SaysEntry}
 use Rattle.processes.specs.Happenings.{BoardCalled, BoardGreeted, DeskCalled, DeskGreeted, Happening, after}

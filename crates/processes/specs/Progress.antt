@@ -16,7 +16,7 @@ use Rattle.headline.specs.Given.{IsGiven}
 use Rattle.headline.specs.Match.{setting_of}
 use Rattle.headline.specs.Runs.{Moment, Run, last_of}
 use Rattle.headline.specs.Setting.{Setting}
-use Rattle.progress.specs.Calm.{AllCalm, BothUp}
+use Rattle.progress.specs.CalmMoments.{AllCalm, BothUp}
 use Rattle.progress.specs.Exchange.{Exchange, HasExchanges}
 use Rattle.progress.specs.InStep.{InStep, IsBehindBy}
 use Rattle.progress.specs.Progress.{HoldsAt}

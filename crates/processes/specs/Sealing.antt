@@ -4,7 +4,7 @@ use Rattle.agree_core.specs.declared.messages.{DeskId.DeskId, Message.Message, V
 use Rattle.agree_core.specs.declared.messages.DeskId.TheVariants.{A, B}
 use Rattle.wire.specs.Layout.{Says}
 use Rattle.seal.specs.Rings.{Seals, ring_of_a, ring_of_b, seals_by}
-use Rattle.seal.specs.Sealed.{sealed}
+use Rattle.seal.specs.Sealed.{IsSealed}
 use Rattle.seal.specs.Unforged.{IsUnforged}
 use Rattle.seal.specs.declared.ring.Ring.{Ring}
 use Rattle.live.specs.Boards as boards
@@ -19,7 +19,7 @@ abbrev pub IsAuthentic : Ring → ℕ → List Message → List ℕ → Type 0
 IsAuthentic ring game sent message =
     (v : Vote) → Says game message (Message.Vote v)
     → (bytes : List ℕ) × (length message ≡ 48) × ((i : ℕ) × ((seal : List ℕ)
-    × (slice_get (seals_by ring message) i ≡ Some seal) × (bytes ≡ sealed seal message)
+    × (slice_get (seals_by ring message) i ≡ Some seal) × IsSealed seal message bytes
     × IsUnforged seal game sent bytes))
 
 -- so for the message that a call is given, where it has one

@@ -11,7 +11,7 @@ use Rattle.headline.specs.declared.event.Station.{Station}
 use Rattle.headline.specs.Configurations.{Configuration}
 use Rattle.headline.specs.Noted.{position_at}
 use Rattle.headline.specs.Runs.{Shows}
-use Rattle.headline.specs.Kept.{kept_at}
+use Rattle.headline.specs.KeptVotes.{kept_at}
 use Rattle.live.specs.Boards as boards
 use Rattle.live.specs.Boards.{BoardCall}
 use Rattle.live.specs.Desks as desks

@@ -20,7 +20,7 @@ use Rattle.headline.proofs.AtStations.{at_board}
 use Rattle.headline.proofs.Given.{given_there}
 use Rattle.headline.proofs.Heeding.{board_put}
 use Rattle.headline.proofs.Sound.{justified_of}
-use Rattle.progress.specs.Calm.{AllCalm, IsCalm}
+use Rattle.progress.specs.CalmMoments.{AllCalm, IsCalm}
 use Rattle.progress.specs.Exchange.{ComesTo, HandsOut}
 use Rattle.progress.proofs.CalmRuns.{Steady, last_out, steady_votes}
 use Rattle.progress.proofs.Exchanges.{Ear, Hearer, Knows, NoVote, On, none_full, on_on}

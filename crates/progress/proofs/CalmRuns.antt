@@ -13,7 +13,7 @@ use Rattle.headline.specs.Runs.{Moment, Run, last_of}
 use Rattle.headline.specs.Setting.{Setting}
 use Rattle.headline.specs.Steps.{Step}
 use Rattle.headline.proofs.Keeping.{Fine, step_keeps}
-use Rattle.progress.specs.Calm.{AllCalm, IsCalm, IsUp}
+use Rattle.progress.specs.CalmMoments.{AllCalm, IsCalm, IsUp}
 use Rattle.progress.specs.Exchange.{Amid, ComesTo, Reaches}
 use Rattle.progress.proofs.CalmSeats.{GoesOn, goes_on}
 use Rattle.progress.proofs.CalmSteps.{one_process, step_at_on}

@@ -5,7 +5,7 @@ use Rattle.agree_core.specs.declared.{position.Position.Position}
 use Rattle.agree_core.specs.Ballots.{Ballot, In}
 use Rattle.agree_core.specs.Positions.{Before, next_place, next_round}
 use Rattle.agree_core.specs.Seats.{SeatState, noting}
-use Rattle.progress.specs.Calm.{NotBack}
+use Rattle.progress.specs.CalmMoments.{NotBack}
 
 -- it notes the other desk's vote, before it casts its own
 abbrev pub Notes : SeatState → SeatState → Type 0

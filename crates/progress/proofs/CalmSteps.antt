@@ -17,7 +17,7 @@ use Rattle.headline.specs.Given.{IsGiven}
 use Rattle.headline.proofs.AtStations.{at_desk}
 use Rattle.headline.proofs.Given.{given_fine}
 use Rattle.headline.proofs.Keeping.{Fine, node_fine, running, their_message}
-use Rattle.progress.specs.Calm.{IsCalm, IsUp}
+use Rattle.progress.specs.CalmMoments.{IsCalm, IsUp}
 use Rattle.progress.proofs.CalmSeats.{GoesOn}
 
 module _ {Disk : Type 0} where

@@ -17,7 +17,7 @@ use Rattle.headline.specs.Setting.{Setting}
 use Rattle.headline.proofs.BoardKeeping.{board_fine_at}
 use Rattle.headline.proofs.Keeping.{all_justified, begins_fine, run_keeps}
 use Rattle.headline.proofs.Sound.{sound_answers}
-use Rattle.progress.specs.Calm.{AllCalm, NotBack}
+use Rattle.progress.specs.CalmMoments.{AllCalm, NotBack}
 use Rattle.progress.specs.Exchange.{Exchange, HasExchanges}
 use Rattle.progress.specs.InStep.{BothVoted, IsAfter, IsBehindBy}
 use Rattle.progress.specs.Progress.{BoardsFollow}

@@ -16,7 +16,7 @@ use Rattle.headline.specs.Steps.{Step}
 use Rattle.headline.proofs.Given.{given_there}
 use Rattle.headline.proofs.Keeping.{node_fine, running}
 use Rattle.headline.proofs.NotingSteps.{there}
-use Rattle.progress.specs.Calm.{IsUp}
+use Rattle.progress.specs.CalmMoments.{IsUp}
 use Rattle.progress.specs.Exchange.{Amid, ComesTo, Exchange, HandsOut, IsAnswered, Reaches}
 use Rattle.progress.proofs.CalmRuns.{CalmRun, Steady, last_out, given_at, last_split, sent_set, split, steady_votes}
 

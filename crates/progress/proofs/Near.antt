@@ -12,7 +12,7 @@ use Rattle.agree_core.proofs.Order.{compare, earlier, one_vote}
 use Rattle.agree_core.proofs.Both.{both_settled, both_turned}
 use Rattle.agree_core.proofs.Settling.{none_later}
 use Rattle.headline.proofs.Sound.{one_of_length}
-use Rattle.progress.specs.Calm.{NotBack}
+use Rattle.progress.specs.CalmMoments.{NotBack}
 use Rattle.progress.specs.InStep.{IsAfter, IsBehind}
 
 pub ordered : (p q : Position) → (p ≡ q) ⊎ (Before p q ⊎ Before q p)

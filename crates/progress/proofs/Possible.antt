@@ -22,7 +22,7 @@ use Rattle.headline.specs.DeskAnswers.{has_any}
 use Rattle.headline.specs.Runs.{Moment, Run, last_of}
 use Rattle.headline.specs.Setting.{Setting}
 use Rattle.headline.specs.Steps.{Step}
-use Rattle.progress.specs.Calm.{IsCalm}
+use Rattle.progress.specs.CalmMoments.{IsCalm}
 use Rattle.progress.specs.Exchange.{Amid, Exchange, HandsOut, HasExchanges, IsAnswered, Reaches}
 use Rattle.progress.specs.Progress.{MayHear}
 use Rattle.progress.proofs.Exchanges.{in_range_or_full}

@@ -16,7 +16,7 @@ use Rattle.headline.specs.Setting.{Setting}
 use Rattle.headline.proofs.BoardKeeping.{item_at}
 use Rattle.headline.proofs.Keeping.{Fine, begins_fine, run_keeps}
 use Rattle.headline.proofs.Sound.{justified_other}
-use Rattle.progress.specs.Calm.{NotBack}
+use Rattle.progress.specs.CalmMoments.{NotBack}
 use Rattle.progress.specs.InStep.{IsBehind}
 use Rattle.progress.specs.Progress.{AllInReach, DesksAreNear, HoldsAt, NoneIsAnother, NoVoteFromAhead}
 use Rattle.progress.proofs.Another.{not_another}

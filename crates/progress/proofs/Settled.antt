@@ -22,7 +22,7 @@ use Rattle.headline.specs.Events.{station_of}
 use Rattle.headline.specs.Runs.{Moment, last_of}
 use Rattle.headline.specs.Setting.{Setting}
 use Rattle.headline.proofs.Keeping.{Fine, node_fine, run_keeps, running, votes_at}
-use Rattle.progress.specs.Calm.{BothUp, IsUp, NotBack}
+use Rattle.progress.specs.CalmMoments.{BothUp, IsUp, NotBack}
 use Rattle.progress.specs.InStep.{BothVoted, EachKnows, InStep, IsBehind}
 use Rattle.progress.specs.Progress.{Hear, HearingAgainTells, HearingSettles, CanPen, CanPenInStep, StaysUp}
 use Rattle.progress.proofs.CalmRuns.{CalmRun, Steady, ends, seat_goes, steady_votes}

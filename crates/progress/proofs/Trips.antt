@@ -16,7 +16,7 @@ use Rattle.headline.specs.Steps.{Step}
 use Rattle.headline.proofs.Heeding.{other_not}
 use Rattle.headline.proofs.NotingSteps.{there}
 use Rattle.headline.proofs.Sound.{justified_other}
-use Rattle.progress.specs.Calm.{IsUp}
+use Rattle.progress.specs.CalmMoments.{IsUp}
 use Rattle.progress.specs.Exchange.{Exchange, HandsOut}
 use Rattle.progress.proofs.CalmRuns.{CalmRun, Steady, ends, last_out, seat_goes, sent_set, steady_votes}
 use Rattle.progress.proofs.CalmSeats.{GoesOn}

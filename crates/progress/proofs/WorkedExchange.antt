@@ -17,7 +17,7 @@ use Rattle.agree_core.specs.WorkedSteps.{Shown, says, shows, waits}
 use Rattle.headline.specs.declared.event.{Station.Station}
 use Rattle.headline.specs.Runs.{Run}
 use Rattle.progress.specs.Exchange.{Exchange, HandsOut, IsAnswered, Reaches}
-use Rattle.progress.specs.Calm.{IsUp}
+use Rattle.progress.specs.CalmMoments.{IsUp}
 use Rattle.progress.specs.InStep.{EachKnows}
 use Rattle.progress.specs.WorkedExchange.{WorkedExchange, a_answers, a_ticks, all_said, answer_given, ask_given, at, b_ticks, both_said, exchanged, heard, unheard, up, vote_given, worked}
 

@@ -9,7 +9,7 @@ use Rattle.agree_core.specs.Positions.{next_place, next_round}
 use Rattle.agree_core.specs.Readers.{other}
 use Rattle.agree_core.specs.Seats.{SeatState}
 use Rattle.headline.specs.Configurations.{Configuration, all_votes, node}
-use Rattle.progress.specs.Calm.{IsUp}
+use Rattle.progress.specs.CalmMoments.{IsUp}
 
 -- the desk has voted at this position
 abbrev pub HasVoted : AllVotes → DeskId → Position → Type 0

@@ -1,5 +1,5 @@
 -- All of these hold what is claimed; none serves private functions only.
-pub mod Calm
+pub mod CalmMoments
 pub mod Exchange
 pub mod InStep
 pub mod Progress

@@ -18,7 +18,7 @@ use Rattle.headline.specs.Configurations.{Configuration, Running, all_votes, boa
 use Rattle.headline.specs.Runs.{Moment, Run, last_of}
 use Rattle.headline.specs.Setting.{Setting}
 use Rattle.headline.specs.Steps.{Step}
-use Rattle.progress.specs.Calm.{AllCalm, BothUp, IsUp, NotBack}
+use Rattle.progress.specs.CalmMoments.{AllCalm, BothUp, IsUp, NotBack}
 use Rattle.progress.specs.Exchange.{Exchange, HasExchanges}
 use Rattle.progress.specs.InStep.{EachKnows, HasVoted, InStep, IsBehind, IsBehindBy}
 

@@ -10,5 +10,4 @@ mod placing;
 mod printing;
 
 pub use code::{Code, code_of};
-pub use content::LONGEST;
 pub use laws::{codewords_have_roots, modules_are_determined};

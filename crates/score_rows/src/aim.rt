@@ -1,148 +1,86 @@
 //! What a side needs, and how a match has ended.
 
-ghost use Rattle.std.specs.Prelude.{◌≡◌, ◌==◌, ◌++◌, OnOk, Some, codes, decimal, if◌then◌else◌};
+ghost use Rattle.std.specs.Prelude.{◌≡◌, ◌==◌, OnOk, codes, if◌then◌else◌};
 ghost use Rattle.match_laws.specs.Result.{outcome};
-ghost use Rattle.match_laws.specs.declared.outcome.Outcome.TheVariants.{Undecided};
 ghost use Rattle.match_laws.specs.Stands.{ForEachHistory};
+ghost use Rattle.cards.specs.Results.{counted};
 ghost use Rattle.limits.specs.Figures as figures;
 ghost use Rattle.streams.specs.Watched.{Prints, TellsFailure};
 ghost use Rattle.score_rows.specs.Row as rows;
 
-use crate::limited::print_off;
+use crate::limited::{Off, off};
+use crate::text::Text;
 use cards::MatchSheet;
 use limits::runs_needed;
 use match_laws::{Match, Outcome};
-use notation::Side;
 use streams::{Sink, Watched, WriteFailed};
 
-/// Prints that so many runs are needed off so many deliveries, on a row of its own.
-fn print_needs_off<W: Sink>(out: &mut Watched<W>, runs: u32, left: u32) -> Result<(), WriteFailed>
-    ensures text { OnOk result (Prints W.contents out.old out.new (rows.needs_row Undecided (Some runs) (Some left))) }
-    ensures failed { TellsFailure result out.old out.new }
-{
-    write!(out, "  needs {runs}")?;
-    print_off(out, runs, left)?;
-    writeln!(out)
-}
+pub type Aim = Option<(&'static str, u32)>;
 
-/// Prints what is needed off how many deliveries, where they are limited and the match isn't decided.
-pub fn print_needs_row<W: Sink>(
-    out: &mut Watched<W>,
-    score: &Match,
-    left: Option<u32>,
-) -> Result<(), WriteFailed>
-    ensures text { ForEachHistory score.now (λ n h. OnOk result (Prints W.contents out.old out.new
-        (rows.needs_row (outcome n h) (figures.runs_needed n h) left))) }
-    ensures failed { TellsFailure result out.old out.new }
+/// What is needed, where nothing limits the deliveries and the match isn't decided.
+pub fn aim(score: &Match, left: Option<u32>) -> Aim
+    ensures { ForEachHistory score.now (λ n h.
+        ⟦<Aim as Text>⟧.bytes result ≡ rows.aim (outcome n h) (figures.runs_needed n h) left) }
 {
     match (score.result(), runs_needed(score), left) {
-        (Outcome::Undecided, Some(runs), Some(left)) => print_needs_off(out, runs, left),
-        _ => Ok(()),
+        (Outcome::Undecided, Some(runs), None) => Some(("  needs ", runs)),
+        _ => None,
     }
 }
 
-pub fn run_word(count: u32) -> &'static str
-    ensures { result.now ≡ (if count == 1 then codes "run" else codes "runs") }
-{
-    if count == 1 { "run" } else { "runs" }
-}
+pub type NeedsRow = Option<(&'static str, u32, Off, &'static str)>;
 
-pub fn wicket_word(count: u32) -> &'static str
-    ensures { result.now ≡ (if count == 1 then codes "wicket" else codes "wickets") }
-{
-    if count == 1 { "wicket" } else { "wickets" }
-}
-
-/// Prints a side, and how it has won.
-fn print_winner<W: Sink>(out: &mut Watched<W>, side: &str, how: &str) -> Result<(), WriteFailed>
-    ensures text { OnOk result (Prints W.contents out.old out.new (codes "  " ++ side.now ++ how.now)) }
-    ensures failed { TellsFailure result out.old out.new }
-{
-    write!(out, "  {side}{how}")
-}
-
-/// Prints by how many of this.
-fn print_margin<W: Sink>(out: &mut Watched<W>, count: u32, unit: &str) -> Result<(), WriteFailed>
-    ensures text { OnOk result (Prints W.contents out.old out.new (decimal count ++ codes " " ++ unit.now)) }
-    ensures failed { TellsFailure result out.old out.new }
-{
-    write!(out, "{count} {unit}")
-}
-
-/// Prints that a side has won by so many of this.
-fn print_win<W: Sink>(
-    out: &mut Watched<W>,
-    side: &str,
-    how: &str,
-    count: u32,
-    unit: &str,
-) -> Result<(), WriteFailed>
-    ensures text { OnOk result (Prints W.contents out.old out.new
-        (codes "  " ++ side.now ++ how.now ++ (decimal count ++ codes " " ++ unit.now))) }
-    ensures failed { TellsFailure result out.old out.new }
-{
-    print_winner(out, side, how)?;
-    print_margin(out, count, unit)
-}
-
-/// Prints that a side has won by an innings and so many runs.
-fn print_innings_win<W: Sink>(
-    out: &mut Watched<W>,
-    sheet: &MatchSheet,
-    side: Side,
-    count: u32,
-) -> Result<(), WriteFailed>
-    ensures text { OnOk result (Prints W.contents out.old out.new (rows.innings_win sheet.now side count)) }
-    ensures failed { TellsFailure result out.old out.new }
-{
-    print_win(
-        out,
-        sheet.name(side),
-        " won by an innings and ",
-        count,
-        run_word(count),
-    )
-}
-
-/// Prints what is needed, where nothing limits the deliveries and the match isn't decided.
-pub fn print_aim<W: Sink>(
-    out: &mut Watched<W>,
-    score: &Match,
-    left: Option<u32>,
-) -> Result<(), WriteFailed>
-    ensures text { ForEachHistory score.now (λ n h. OnOk result (Prints W.contents out.old out.new
-        (rows.aim (outcome n h) (figures.runs_needed n h) left))) }
-    ensures failed { TellsFailure result out.old out.new }
+/// What is needed off how many deliveries, where they are limited and the match isn't decided.
+pub fn needs_row(score: &Match, left: Option<u32>) -> NeedsRow
+    ensures { ForEachHistory score.now (λ n h.
+        ⟦<NeedsRow as Text>⟧.bytes result ≡ rows.needs_row (outcome n h) (figures.runs_needed n h) left) }
 {
     match (score.result(), runs_needed(score), left) {
-        (Outcome::Undecided, Some(runs), None) => write!(out, "  needs {runs}"),
-        _ => Ok(()),
+        (Outcome::Undecided, Some(runs), Some(left)) => {
+            Some(("  needs ", runs, off(runs, left), "\n"))
+        }
+        _ => None,
     }
 }
 
-/// Prints how a match has ended, where it has.
-fn print_ended<W: Sink>(
-    out: &mut Watched<W>,
-    sheet: &MatchSheet,
-    outcome: Outcome,
-) -> Result<(), WriteFailed>
-    ensures text { OnOk result (Prints W.contents out.old out.new (rows.result_part sheet.now outcome)) }
-    ensures failed { TellsFailure result out.old out.new }
+type Counted = (u32, &'static str, &'static str);
+
+fn in_runs(count: u32) -> Counted
+    ensures { ⟦<Counted as Text>⟧.bytes result ≡ counted count (codes "run") (codes "runs") }
+{
+    (count, " ", if count == 1 { "run" } else { "runs" })
+}
+
+fn in_wickets(count: u32) -> Counted
+    ensures { ⟦<Counted as Text>⟧.bytes result ≡ counted count (codes "wicket") (codes "wickets") }
+{
+    (count, " ", if count == 1 { "wicket" } else { "wickets" })
+}
+
+type Ended<'a> = Option<(&'static str, &'a str, &'static str, Option<Counted>)>;
+
+/// How a match has ended, where it has.
+fn ended(sheet: &MatchSheet, outcome: Outcome) -> Ended<'_>
+    ensures { ⟦<Ended<'static> as Text>⟧.bytes result ≡ rows.result_part sheet.now outcome }
 {
     match outcome {
-        Outcome::Undecided => Ok(()),
-        Outcome::Draw => write!(out, "  match drawn"),
-        Outcome::Tie => write!(out, "  match tied"),
+        Outcome::Undecided => None,
+        Outcome::Draw => Some(("  ", "match drawn", "", None)),
+        Outcome::Tie => Some(("  ", "match tied", "", None)),
         Outcome::Runs(side, count) => {
-            print_win(out, sheet.name(side), " won by ", count, run_word(count))
+            Some(("  ", sheet.name(side), " won by ", Some(in_runs(count))))
         }
         Outcome::Wickets(side, count) => {
-            print_win(out, sheet.name(side), " won by ", count, wicket_word(count))
+            Some(("  ", sheet.name(side), " won by ", Some(in_wickets(count))))
         }
-        Outcome::InningsAnd(side, count) => print_innings_win(out, sheet, side, count),
+        Outcome::InningsAnd(side, count) => Some((
+            "  ",
+            sheet.name(side),
+            " won by an innings and ",
+            Some(in_runs(count)),
+        )),
         Outcome::PenaltyRuns(side) => {
-            let name = sheet.name(side);
-            write!(out, "  {name} won by penalty runs")
+            Some(("  ", sheet.name(side), " won by penalty runs", None))
         }
     }
 }
@@ -157,7 +95,7 @@ pub fn print_result<W: Sink>(
         (rows.result_part sheet.now (outcome n h)))) }
     ensures failed { TellsFailure result out.old out.new }
 {
-    print_ended(out, sheet, score.result())
+    ended(sheet, score.result()).print(out)
 }
 
 /// Whether a match has ended.
@@ -167,31 +105,23 @@ fn is_decided(outcome: Outcome) -> bool
     !matches!(outcome, Outcome::Undecided)
 }
 
-/// Prints how a match has ended, where it has, on a row of its own.
-fn print_ended_row<W: Sink>(
-    out: &mut Watched<W>,
-    sheet: &MatchSheet,
-    outcome: Outcome,
-) -> Result<(), WriteFailed>
-    ensures text { OnOk result (Prints W.contents out.old out.new (rows.result_row sheet.now outcome)) }
-    ensures failed { TellsFailure result out.old out.new }
+pub type ResultRow<'a> = Option<(Ended<'a>, &'static str)>;
+
+/// How a match has ended, where it has, on a row of its own.
+fn ended_row(sheet: &MatchSheet, outcome: Outcome) -> ResultRow<'_>
+    ensures { ⟦<ResultRow<'static> as Text>⟧.bytes result ≡ rows.result_row sheet.now outcome }
 {
-    if !is_decided(outcome) {
-        return Ok(());
+    if is_decided(outcome) {
+        Some((ended(sheet, outcome), "\n"))
+    } else {
+        None
     }
-    print_ended(out, sheet, outcome)?;
-    writeln!(out)
 }
 
-/// Prints the result of a match that is decided, on a row of its own.
-pub fn print_result_row<W: Sink>(
-    out: &mut Watched<W>,
-    sheet: &MatchSheet,
-    score: &Match,
-) -> Result<(), WriteFailed>
-    ensures text { ForEachHistory score.now (λ n h. OnOk result (Prints W.contents out.old out.new
-        (rows.result_row sheet.now (outcome n h)))) }
-    ensures failed { TellsFailure result out.old out.new }
+/// The result of a match that is decided, on a row of its own.
+pub fn result_row<'a>(sheet: &'a MatchSheet, score: &Match) -> ResultRow<'a>
+    ensures { ForEachHistory score.now (λ n h.
+        ⟦<ResultRow<'static> as Text>⟧.bytes result ≡ rows.result_row sheet.now (outcome n h)) }
 {
-    print_ended_row(out, sheet, score.result())
+    ended_row(sheet, score.result())
 }

@@ -1,6 +1,6 @@
 //! Who may bowl the next delivery.
 
-ghost use Rattle.std.specs.Prelude.{◌≡◌, ◌<◌, ◌++◌, OnOk, codes, decimal, true};
+ghost use Rattle.std.specs.Prelude.{◌≡◌, ◌<◌, OnOk, true};
 ghost use Rattle.std.specs.List.{list_all};
 ghost use Rattle.ball_laws.specs.Over.{numbers as all_numbers};
 ghost use Rattle.match_laws.specs.History.{begun};
@@ -9,6 +9,7 @@ ghost use Rattle.streams.specs.Watched.{Prints, TellsFailure};
 ghost use Rattle.score_rows.specs.Limited as limited;
 ghost use Rattle.notation.specs.Written.{is_player};
 
+use crate::text::Text;
 use cards::MatchSheet;
 use corrections::BookOf;
 use limits::{may_bowl, overs_yet};
@@ -16,54 +17,38 @@ use match_laws::opponent;
 use notation::Player;
 use streams::{Sink, Watched, WriteFailed};
 
-/// Prints how many overs a player has yet, where they are limited.
-fn print_yet<W: Sink, B: BookOf>(
-    out: &mut Watched<W>,
-    book: &B,
-    most: Option<u16>,
-    player: Player,
-) -> Result<(), WriteFailed>
-    ensures text { OnOk result (Prints W.contents out.old out.new
-        (limited.yet_text most player (history_of (B.content book.now)))) }
-    ensures failed { TellsFailure result out.old out.new }
+type Yet = Option<(&'static str, u32, &'static str)>;
+
+/// How many overs a player has yet, where they are limited.
+fn yet<B: BookOf>(book: &B, most: Option<u16>, player: Player) -> Yet
+    ensures { ⟦<Yet as Text>⟧.bytes result ≡ limited.yet_text most player (history_of (B.content book.now)) }
 {
     match most {
-        None => Ok(()),
-        Some(most) => {
-            let left = overs_yet(book, most, player);
-            write!(out, ", {left} left")
-        }
+        None => None,
+        Some(most) => Some((", ", overs_yet(book, most, player), " left")),
     }
 }
 
-/// Prints a player by number and name.
-fn print_name<W: Sink>(out: &mut Watched<W>, number: u8, name: &str) -> Result<(), WriteFailed>
-    ensures text { OnOk result (Prints W.contents out.old out.new (decimal number ++ codes " " ++ name.now)) }
-    ensures failed { TellsFailure result out.old out.new }
-{
-    write!(out, "{number} {name}")
-}
+type BowlerRow<'a> = (u32, &'static str, &'a str, (Yet, &'static str));
 
-/// Prints the row of a player of the side that fields.
-fn print_bowler_row<W: Sink, B: BookOf>(
-    out: &mut Watched<W>,
-    sheet: &MatchSheet,
+/// The row of a player of the side that fields.
+fn bowler_row<'a, B: BookOf>(
+    sheet: &'a MatchSheet,
     book: &B,
     innings: usize,
     player: Player,
-) -> Result<(), WriteFailed>
+) -> BowlerRow<'a>
     requires { innings < begun (history_of (B.content book.now)) }
-    ensures text { OnOk result (Prints W.contents out.old out.new
-        (limited.bowler_row sheet.now (history_of (B.content book.now)) innings player)) }
-    ensures failed { TellsFailure result out.old out.new }
+    ensures { ⟦<BowlerRow<'static> as Text>⟧.bytes result
+        ≡ limited.bowler_row sheet.now (history_of (B.content book.now)) innings player }
 {
     let side = opponent(book.score().side(innings));
-    print_name(out, player.number(), sheet.player(side, player))?;
-    print_yet(out, book, sheet.limits().overs_a_bowler(), player)?;
-    writeln!(out)
+    let name = sheet.player(side, player);
+    let yet = yet(book, sheet.limits().overs_a_bowler(), player);
+    (u32::from(player.number()), " ", name, (yet, "\n"))
 }
 
-/// The same, where he may bowl.
+/// Prints it, where he may bowl.
 fn print_if_may<W: Sink, B: BookOf>(
     out: &mut Watched<W>,
     sheet: &MatchSheet,
@@ -77,7 +62,7 @@ fn print_if_may<W: Sink, B: BookOf>(
     ensures failed { TellsFailure result out.old out.new }
 {
     if may_bowl(book, sheet.limits().overs_a_bowler(), player) {
-        print_bowler_row(out, sheet, book, innings, player)
+        bowler_row(sheet, book, innings, player).print(out)
     } else {
         Ok(())
     }

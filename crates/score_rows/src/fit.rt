@@ -1,4 +1,4 @@
-//! What of a row is shown, so that it fits.
+//! The row of an innings, and what of it is shown, so that it fits.
 
 ghost use Rattle.std.specs.Prelude.{◌≡◌, ◌<◌, [], false};
 ghost use Rattle.match_laws.specs.History.{begun};
@@ -8,85 +8,136 @@ ghost use Rattle.score_rows.specs.Fit as fit;
 ghost use Rattle.score_rows.specs.Row as rows;
 ghost use Rattle.ball_laws.specs.History.{open_over};
 
+use crate::aim::{Aim, aim};
+use crate::bowler::{Bowling, bowling};
 use crate::form::Form;
-use crate::limited::left_now;
+use crate::front::{Ahead, ahead};
+use crate::limited::{free, left_now};
+use crate::marks::{OpenMarks, newest_of, open_marks};
+use crate::over_end::{OverEnd, over_end};
 use crate::room::Room;
-use crate::two_rows::ahead_room;
-use crate::widths::bowling_room;
-use crate::widths_behind::{aim_room, free_room, newest_of, open_marks_room, over_end_room};
+use crate::text::Text;
 use cards::{Innings, MatchSheet};
 use corrections::{BookOf, Placed, overs_of};
 
-/// Behind the row of an innings, from its batters on.
-#[tactic(auto, using(crate::proofs::Rooms::behind_both), unfolding(crate::specs::Row::back))]
-fn back_room<B: BookOf>(
-    room: Room,
+pub type Back<'a> = (Bowling<'a>, OpenMarks<'a>, &'static str, (Aim, OverEnd));
+
+/// The row of an innings, behind its batters.
+#[tactic(auto, unfolding(crate::specs::Row::back))]
+fn back<'a, B: BookOf>(
     form: Form,
     is_all: bool,
-    shown: &[Placed],
-    sheet: &MatchSheet,
-    book: &B,
+    shown: &'a [Placed],
+    sheet: &'a MatchSheet,
+    book: &'a B,
     innings: usize,
-) -> Room
+) -> Back<'a>
     requires { innings < begun (history_of (B.content book.now)) }
-    ensures { result ≡ fit.behind room (rows.back form is_all (balls_of shown.now)
-        sheet.now (B.innings_a_side book.now) (history_of (B.content book.now)) innings) }
+    ensures { ⟦<Back<'static> as Text>⟧.bytes result ≡ rows.back form is_all (balls_of shown.now)
+        sheet.now (B.innings_a_side book.now) (history_of (B.content book.now)) innings }
 {
     let score = book.score();
     let over = overs_of(book).this;
-    let room = bowling_room(room, form, sheet, book, innings);
-    let room = open_marks_room(room, over, is_all, shown);
-    let room = free_room(room, form.is_beside(), sheet, book);
-    let innings = Innings {
+    let now = Innings {
         sheet,
         score,
         index: innings,
     };
-    let room = aim_room(room, score, left_now(innings));
-    over_end_room(room, over)
+    (
+        bowling(form, sheet, book, innings),
+        open_marks(over, is_all, shown),
+        free(form.is_beside(), sheet, book),
+        (aim(score, left_now(now)), over_end(over)),
+    )
 }
 
-/// What is left of a row behind the bowler's of an innings.
-fn line_room<B: BookOf>(
+pub type Line<'a> = (Ahead<'a>, Back<'a>);
+
+/// The bowler's row of an innings, with all marks of the open over or with these.
+fn line<'a, B: BookOf>(
     form: Form,
     is_all: bool,
-    shown: &[Placed],
-    sheet: &MatchSheet,
-    book: &B,
+    shown: &'a [Placed],
+    sheet: &'a MatchSheet,
+    book: &'a B,
     innings: usize,
-) -> Room
+) -> Line<'a>
     requires { innings < begun (history_of (B.content book.now)) }
-    ensures { result ≡ fit.behind (fit.all_columns sheet.now) (rows.line form is_all (balls_of shown.now)
-        sheet.now (B.innings_a_side book.now) (history_of (B.content book.now)) innings) }
+    ensures { ⟦<Line<'static> as Text>⟧.bytes result ≡ rows.line form is_all (balls_of shown.now)
+        sheet.now (B.innings_a_side book.now) (history_of (B.content book.now)) innings }
 {
-    let ahead = Innings {
+    let now = Innings {
         sheet,
         score: book.score(),
         index: innings,
     };
-    let room = ahead_room(Room::row(sheet), form, ahead);
-    back_room(room, form, is_all, shown, sheet, book, innings)
+    (
+        ahead(form, now),
+        back(form, is_all, shown, sheet, book, innings),
+    )
+}
+
+/// The same with all of them.
+#[tactic(auto, unfolding(crate::specs::Row::whole_line))]
+fn whole_line<'a, B: BookOf>(
+    form: Form,
+    sheet: &'a MatchSheet,
+    book: &'a B,
+    innings: usize,
+) -> Line<'a>
+    requires { innings < begun (history_of (B.content book.now)) }
+    ensures { ⟦<Line<'static> as Text>⟧.bytes result ≡ rows.whole_line form
+        sheet.now (B.innings_a_side book.now) (history_of (B.content book.now)) innings }
+{
+    line(form, true, overs_of(book).this, sheet, book, innings)
+}
+
+/// What is left of a row behind it without any.
+#[tactic(auto, unfolding(crate::specs::Row::bare_line))]
+fn bare_room<B: BookOf>(form: Form, sheet: &MatchSheet, book: &B, innings: usize) -> Room
+    requires { innings < begun (history_of (B.content book.now)) }
+    ensures { result ≡ fit.behind (fit.all_columns sheet.now) (rows.bare_line form
+        sheet.now (B.innings_a_side book.now) (history_of (B.content book.now)) innings) }
+{
+    line(form, false, &[], sheet, book, innings).behind(Room::row(sheet))
+}
+
+/// The same with as many as there is room for.
+#[tactic(auto, unfolding(crate::specs::Row::short_line))]
+fn short_line<'a, B: BookOf>(
+    form: Form,
+    sheet: &'a MatchSheet,
+    book: &'a B,
+    innings: usize,
+) -> Line<'a>
+    requires { innings < begun (history_of (B.content book.now)) }
+    ensures { ⟦<Line<'static> as Text>⟧.bytes result ≡ rows.short_line form
+        sheet.now (B.innings_a_side book.now) (history_of (B.content book.now)) innings }
+{
+    let room = bare_room(form, sheet, book, innings);
+    let shown = newest_of(overs_of(book).this, room);
+    line(form, false, shown, sheet, book, innings)
 }
 
 /// Whether the row of an innings fits in a form, with all marks of the open over.
-#[tactic(auto, using(crate::proofs::Rooms::left_behind), unfolding(crate::specs::Row::whole_line))]
-pub fn is_fit<B: BookOf>(form: Form, sheet: &MatchSheet, book: &B, innings: usize) -> bool
+#[tactic(auto, using(crate::proofs::Rooms::left_behind))]
+fn is_fit<B: BookOf>(form: Form, sheet: &MatchSheet, book: &B, innings: usize) -> bool
     requires { innings < begun (history_of (B.content book.now)) }
     ensures { result ≡ fit.fits sheet.now (rows.whole_line form
         sheet.now (B.innings_a_side book.now) (history_of (B.content book.now)) innings) }
 {
-    let over = overs_of(book).this;
-    line_room(form, true, over, sheet, book, innings).is_left()
+    let line = whole_line(form, sheet, book, innings);
+    line.behind(Room::row(sheet)).is_left()
 }
 
 /// Whether a form has room for the row of an innings without the marks of the open over.
-#[tactic(auto, using(crate::proofs::Rooms::left_behind), unfolding(crate::specs::Row::bare_line))]
+#[tactic(auto, using(crate::proofs::Rooms::left_behind))]
 fn has_room<B: BookOf>(form: Form, sheet: &MatchSheet, book: &B, innings: usize) -> bool
     requires { innings < begun (history_of (B.content book.now)) }
     ensures { result ≡ fit.fits sheet.now (rows.bare_line form
         sheet.now (B.innings_a_side book.now) (history_of (B.content book.now)) innings) }
 {
-    line_room(form, false, &[], sheet, book, innings).is_left()
+    bare_room(form, sheet, book, innings).is_left()
 }
 
 /// The first form in which the row of an innings fits with all marks, or else the first of the last four that has room for
@@ -124,20 +175,22 @@ pub fn form_of<B: BookOf>(sheet: &MatchSheet, book: &B, innings: usize) -> Form
     }
 }
 
-/// The newest items of the open over, as many as there is room for in a form.
-#[tactic(auto, unfolding(crate::specs::Row::bare_line))]
-pub fn shown_of<'b, B: BookOf>(
+/// The row of an innings in a form: all of it where it fits.
+#[tactic(auto, using(crate::proofs::Rooms::left_behind), unfolding(crate::specs::Row::line_in))]
+pub fn line_in<'a, B: BookOf>(
     form: Form,
-    sheet: &MatchSheet,
-    book: &'b B,
+    sheet: &'a MatchSheet,
+    book: &'a B,
     innings: usize,
-) -> &'b [Placed]
+) -> Line<'a>
     requires { innings < begun (history_of (B.content book.now)) }
-    ensures { balls_of result.now ≡ rows.newest
-        (fit.behind (fit.all_columns sheet.now) (rows.bare_line form
-        sheet.now (B.innings_a_side book.now) (history_of (B.content book.now)) innings))
-        (open_over (history_of (B.content book.now))) }
+    ensures { ⟦<Line<'static> as Text>⟧.bytes result ≡ rows.line_in form
+        sheet.now (B.innings_a_side book.now) (history_of (B.content book.now)) innings }
 {
-    let room = line_room(form, false, &[], sheet, book, innings);
-    newest_of(overs_of(book).this, room)
+    let line = whole_line(form, sheet, book, innings);
+    if line.behind(Room::row(sheet)).is_left() {
+        line
+    } else {
+        short_line(form, sheet, book, innings)
+    }
 }

@@ -1,12 +1,11 @@
 //! What of a row is shown, so that it fits the columns of a screen.
 
-ghost use Rattle.std.specs.Prelude.{◌≡◌, ◌-◌, ◌<◌, OnOk, take, true};
+ghost use Rattle.std.specs.Prelude.{◌≡◌, ◌-◌, ◌<◌, take, true};
 ghost use Rattle.cards.specs.Sheet as sheets;
 ghost use Rattle.std.specs.List.{list_all};
-ghost use Rattle.streams.specs.Watched.{Prints, TellsFailure};
 ghost use Rattle.score_rows.specs.Fit as fit;
 
-use streams::{Sink, Watched, WriteFailed};
+use crate::text::Text;
 
 /// What of a row is shown, the most first.
 #[derive(Clone, Copy)]
@@ -133,15 +132,17 @@ pub fn front_of(name: &str, most: usize) -> &str
     front
 }
 
-/// Prints a name of at most so many letters.
-pub fn print_name<W: Sink>(out: &mut Watched<W>, name: &str, most: usize) -> Result<(), WriteFailed>
+/// A name as it is shown, and the point behind one that is cut.
+pub type Name<'a> = (&'a str, &'static str);
+
+/// A name of at most so many letters.
+pub fn cut(name: &str, most: usize) -> Name<'_>
     requires { 0 < most }
-    ensures text { OnOk result (Prints W.contents out.old out.new (fit.cut most name.now)) }
-    ensures failed { TellsFailure result out.old out.new }
+    ensures { ⟦<Name<'static> as Text>⟧.bytes result ≡ fit.cut most name.now }
 {
-    if !is_long(name, most) {
-        return write!(out, "{name}");
+    if is_long(name, most) {
+        (front_of(name, most), ".")
+    } else {
+        (name, "")
     }
-    let front = front_of(name, most);
-    write!(out, "{front}.")
 }

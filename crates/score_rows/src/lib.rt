@@ -2,20 +2,19 @@
 #![tactic(auto)]
 
 mod aim;
+mod batters;
+mod bowler;
 mod bowlers;
-mod check_widths;
-mod ends_alike;
 mod fit;
 mod form;
+mod front;
 mod limited;
 mod marks;
 mod over_check;
 mod over_end;
 mod room;
 mod row;
-mod two_rows;
-mod widths;
-mod widths_behind;
+mod text;
 
 pub use aim::print_result;
 pub use bowlers::print_bowlers;

@@ -1,51 +1,59 @@
 //! What a desk tells of what the sheet limits.
 
-ghost use Rattle.std.specs.Prelude.{◌≡◌, ◌<◌, ◌++◌, OnOk, codes, decimal};
+ghost use Rattle.std.specs.Prelude.{◌≡◌, ◌<◌};
 ghost use Rattle.match_laws.specs.History.{begun};
 ghost use Rattle.corrections.specs.CleanList.{history_of};
 ghost use Rattle.cards.specs.Begun.{ForInnings};
-ghost use Rattle.streams.specs.Watched.{Prints, TellsFailure};
+ghost use Rattle.limits.specs.Rates as rates;
 ghost use Rattle.score_rows.specs.Limited as limited;
 
+use crate::text::Text;
 use cards::{Innings, MatchSheet};
 use corrections::{BookOf, overs_of};
-use limits::{TwoPlaces, an_over, deliveries_left, is_free_hit, overs_bowled, overs_left};
+use limits::{an_over, deliveries_left, is_free_hit, overs_bowled, overs_left};
 use match_laws::opponent;
 use notation::Player;
-use streams::{Sink, Watched, WriteFailed};
 
-/// Prints of how many overs an innings is, where the sheet says it.
-pub fn print_of<W: Sink>(out: &mut Watched<W>, overs: Option<u16>) -> Result<(), WriteFailed>
-    ensures text { OnOk result (Prints W.contents out.old out.new (limited.of_overs overs)) }
-    ensures failed { TellsFailure result out.old out.new }
+pub type OfOvers = Option<(&'static str, u32)>;
+
+/// Of how many overs an innings is, where the sheet says it.
+pub fn of_overs(overs: Option<u16>) -> OfOvers
+    ensures { ⟦<OfOvers as Text>⟧.bytes result ≡ limited.of_overs overs }
 {
     match overs {
-        None => Ok(()),
-        Some(overs) => write!(out, " of {overs}"),
+        None => None,
+        Some(overs) => Some((" of ", u32::from(overs))),
     }
 }
 
-/// Prints a rate, where there is one.
-fn print_rate<W: Sink>(out: &mut Watched<W>, rate: Option<u64>) -> Result<(), WriteFailed>
-    ensures text { OnOk result (Prints W.contents out.old out.new (limited.rate_text rate)) }
-    ensures failed { TellsFailure result out.old out.new }
+type TwoPlaces = (u64, &'static str, u64, u64);
+
+/// Hundredths, with two places.
+fn two_places(hundredths: u64) -> TwoPlaces
+    ensures { ⟦<TwoPlaces as Text>⟧.bytes result ≡ rates.two_places hundredths }
 {
-    match rate {
-        None => Ok(()),
-        Some(hundredths) => {
-            let rate = TwoPlaces { hundredths };
-            write!(out, " ({rate})")
-        }
+    (hundredths / 100, ".", hundredths / 10 % 10, hundredths % 10)
+}
+
+type Rate = Option<(&'static str, TwoPlaces, &'static str)>;
+
+/// A rate, where there is one.
+fn rate(hundredths: Option<u64>) -> Rate
+    ensures { ⟦<Rate as Text>⟧.bytes result ≡ limited.rate_text hundredths }
+{
+    match hundredths {
+        None => None,
+        Some(hundredths) => Some((" (", two_places(hundredths), ")")),
     }
 }
 
-/// Prints off how many deliveries so many runs are needed, and how many that is an over.
-pub fn print_off<W: Sink>(out: &mut Watched<W>, runs: u32, left: u32) -> Result<(), WriteFailed>
-    ensures text { OnOk result (Prints W.contents out.old out.new (limited.off_text runs left)) }
-    ensures failed { TellsFailure result out.old out.new }
+pub type Off = (&'static str, u32, Rate);
+
+/// Off how many deliveries so many runs are needed, and how many that is an over.
+pub fn off(runs: u32, left: u32) -> Off
+    ensures { ⟦<Off as Text>⟧.bytes result ≡ limited.off_text runs left }
 {
-    write!(out, " off {left}")?;
-    print_rate(out, an_over(runs, left))
+    (" off ", left, rate(an_over(runs, left)))
 }
 
 /// How many deliveries are left, where the sheet limits the overs.
@@ -59,89 +67,67 @@ pub fn left_now(innings: Innings<'_>) -> Option<u32>
 }
 
 /// Whether the next delivery is a free hit.
-pub fn is_free<B: BookOf>(sheet: &MatchSheet, book: &B) -> bool
+fn is_free<B: BookOf>(sheet: &MatchSheet, book: &B) -> bool
     ensures { result ≡ limited.is_free sheet.now (history_of (B.content book.now)) }
 {
     sheet.limits().free_hits() && is_free_hit(book)
 }
 
-/// Prints that the next delivery is a free hit, where it is and is told here.
-pub fn print_free<W: Sink, B: BookOf>(
-    out: &mut Watched<W>,
-    is_here: bool,
-    sheet: &MatchSheet,
-    book: &B,
-) -> Result<(), WriteFailed>
-    ensures text { OnOk result (Prints W.contents out.old out.new
-        (limited.free_text is_here sheet.now (history_of (B.content book.now)))) }
-    ensures failed { TellsFailure result out.old out.new }
+/// That the next delivery is a free hit, where it is and is told here.
+pub fn free<B: BookOf>(is_here: bool, sheet: &MatchSheet, book: &B) -> &'static str
+    ensures { result.now ≡ limited.free_text is_here sheet.now (history_of (B.content book.now)) }
 {
     if is_here && is_free(sheet, book) {
-        write!(out, "  free hit")
+        "  free hit"
     } else {
-        Ok(())
+        ""
     }
 }
 
 /// The same on a row of its own.
-pub fn print_free_row<W: Sink, B: BookOf>(
-    out: &mut Watched<W>,
-    is_here: bool,
-    sheet: &MatchSheet,
-    book: &B,
-) -> Result<(), WriteFailed>
-    ensures text { OnOk result (Prints W.contents out.old out.new
-        (limited.free_row is_here sheet.now (history_of (B.content book.now)))) }
-    ensures failed { TellsFailure result out.old out.new }
+pub fn free_row<B: BookOf>(is_here: bool, sheet: &MatchSheet, book: &B) -> &'static str
+    ensures { result.now ≡ limited.free_row is_here sheet.now (history_of (B.content book.now)) }
 {
     if is_here && is_free(sheet, book) {
-        writeln!(out, "  free hit")
+        "  free hit\n"
     } else {
-        Ok(())
+        ""
     }
 }
 
-/// Prints that a bowler is past his overs, where he is.
-fn print_past_of<W: Sink>(out: &mut Watched<W>, most: u16, bowled: u32) -> Result<(), WriteFailed>
-    ensures text { OnOk result (Prints W.contents out.old out.new (limited.past_text most bowled)) }
-    ensures failed { TellsFailure result out.old out.new }
+pub type Past = Option<(&'static str, u32)>;
+
+/// That a bowler is past his overs, where he is.
+fn past_of(most: u16, bowled: u32) -> Past
+    ensures { ⟦<Past as Text>⟧.bytes result ≡ limited.past_text most bowled }
 {
     if u32::from(most) < bowled {
-        write!(out, " past {most}")
+        Some((" past ", u32::from(most)))
     } else {
-        Ok(())
+        None
     }
 }
 
 /// The same of who bowls, if anybody does.
-pub fn print_past<W: Sink, B: BookOf>(
-    out: &mut Watched<W>,
-    book: &B,
-    most: Option<u16>,
-    bowler: Option<Player>,
-) -> Result<(), WriteFailed>
-    ensures text { OnOk result (Prints W.contents out.old out.new
-        (limited.past most (history_of (B.content book.now)) bowler)) }
-    ensures failed { TellsFailure result out.old out.new }
+pub fn past<B: BookOf>(book: &B, most: Option<u16>, bowler: Option<Player>) -> Past
+    ensures { ⟦<Past as Text>⟧.bytes result ≡ limited.past most (history_of (B.content book.now)) bowler }
 {
-    match most {
-        None => Ok(()),
-        Some(most) => match bowler {
-            None => Ok(()),
-            Some(player) => print_past_of(out, most, overs_bowled(book, player)),
-        },
+    match (most, bowler) {
+        (Some(most), Some(player)) => past_of(most, overs_bowled(book, player)),
+        _ => None,
     }
 }
 
-/// Prints what is left of an over.
-fn print_rest<W: Sink>(out: &mut Watched<W>, rest: u32) -> Result<(), WriteFailed>
-    ensures text { OnOk result (Prints W.contents out.old out.new (limited.rest_text rest)) }
-    ensures failed { TellsFailure result out.old out.new }
+type Rest = Option<(&'static str, u32)>;
+
+/// What is left of an over.
+fn rest(deliveries: u32) -> Rest
+    ensures { ⟦<Rest as Text>⟧.bytes result ≡ limited.rest_text deliveries }
 {
-    if rest == 0 {
-        Ok(())
+    if deliveries == 0 {
+        None
     } else {
-        write!(out, ".{rest}")
+        Some((".", deliveries))
     }
 }
 
@@ -155,257 +141,207 @@ fn overs_word(deliveries: u32) -> &'static str
     }
 }
 
-/// Prints how many overs so many deliveries are.
-fn print_left<W: Sink>(out: &mut Watched<W>, deliveries: u32) -> Result<(), WriteFailed>
-    ensures text { OnOk result (Prints W.contents out.old out.new (limited.left_text deliveries)) }
-    ensures failed { TellsFailure result out.old out.new }
+type Left = (u32, Rest, &'static str);
+
+/// How many overs so many deliveries are.
+fn left(deliveries: u32) -> Left
+    ensures { ⟦<Left as Text>⟧.bytes result ≡ limited.left_text deliveries }
 {
-    let whole = deliveries / 6;
-    write!(out, "{whole}")?;
-    print_rest(out, deliveries % 6)?;
-    let word = overs_word(deliveries);
-    write!(out, "{word}")
+    (deliveries / 6, rest(deliveries % 6), overs_word(deliveries))
 }
 
-/// Prints that all overs are bowled.
-fn print_all_bowled<W: Sink>(out: &mut Watched<W>, overs: u16) -> Result<(), WriteFailed>
-    ensures text { OnOk result (Prints W.contents out.old out.new (limited.all_bowled overs)) }
-    ensures failed { TellsFailure result out.old out.new }
+/// That all overs are bowled.
+fn all_bowled(overs: u16) -> Left
+    ensures { ⟦<Left as Text>⟧.bytes result ≡ limited.all_bowled overs }
 {
-    if overs == 1 {
-        write!(out, "{overs} over: end overs")
+    let word = if overs == 1 {
+        " over: end overs"
     } else {
-        write!(out, "{overs} overs: end overs")
-    }
+        " overs: end overs"
+    };
+    (u32::from(overs), None, word)
 }
 
-/// Prints what is left of an innings of so many overs.
-fn print_innings_left<W: Sink>(
-    out: &mut Watched<W>,
-    innings: Innings<'_>,
-    overs: u16,
-) -> Result<(), WriteFailed>
-    ensures text { ForInnings innings.entry (λ s h i.
-        OnOk result (Prints W.contents out.old out.new (limited.innings_left overs h i))) }
-    ensures failed { TellsFailure result out.old out.new }
+/// What is left of an innings of so many overs.
+fn innings_left(innings: Innings<'_>, overs: u16) -> Left
+    ensures { ForInnings innings.entry (λ s h i. ⟦<Left as Text>⟧.bytes result ≡ limited.innings_left overs h i) }
 {
     if overs_left(innings.score, innings.index, overs) == 0 {
-        print_all_bowled(out, overs)
+        all_bowled(overs)
     } else {
-        print_left(out, deliveries_left(innings.score, innings.index, overs))
+        left(deliveries_left(innings.score, innings.index, overs))
     }
 }
 
-/// Prints in how many overs a bowler of the side has bowled, of how many.
-fn print_bowled<W: Sink>(
-    out: &mut Watched<W>,
-    name: &str,
-    bowled: u32,
-    most: u16,
-) -> Result<(), WriteFailed>
-    ensures text { OnOk result (Prints W.contents out.old out.new
-        (codes "  " ++ name.now ++ codes " " ++ decimal bowled ++ codes " of " ++ decimal most)) }
-    ensures failed { TellsFailure result out.old out.new }
-{
-    write!(out, "  {name} {bowled} of {most}")
-}
+type BowledOf<'a> = (
+    &'static str,
+    &'a str,
+    &'static str,
+    (u32, &'static str, u32),
+);
 
-/// The same of a player.
-fn print_bowled_of<W: Sink, B: BookOf>(
-    out: &mut Watched<W>,
-    sheet: &MatchSheet,
+/// In how many overs a bowler has bowled, of how many.
+fn bowled_of<'a, B: BookOf>(
+    sheet: &'a MatchSheet,
     book: &B,
     innings: usize,
     most: u16,
     player: Player,
-) -> Result<(), WriteFailed>
+) -> BowledOf<'a>
     requires { innings < begun (history_of (B.content book.now)) }
-    ensures text { OnOk result (Prints W.contents out.old out.new
-        (limited.bowled_of sheet.now (history_of (B.content book.now)) innings most player)) }
-    ensures failed { TellsFailure result out.old out.new }
+    ensures { ⟦<BowledOf<'static> as Text>⟧.bytes result
+        ≡ limited.bowled_of sheet.now (history_of (B.content book.now)) innings most player }
 {
     let side = opponent(book.score().side(innings));
-    print_bowled(
-        out,
+    let bowled = overs_bowled(book, player);
+    (
+        "  ",
         sheet.player(side, player),
-        overs_bowled(book, player),
-        most,
+        " ",
+        (bowled, " of ", u32::from(most)),
     )
 }
 
+type BowlerPart<'a> = Option<BowledOf<'a>>;
+
 /// The same of the bowler of the last delivery, where bowlers are limited and there is one.
-fn print_bowler_part<W: Sink, B: BookOf>(
-    out: &mut Watched<W>,
-    sheet: &MatchSheet,
+fn bowler_part<'a, B: BookOf>(
+    sheet: &'a MatchSheet,
     book: &B,
     innings: usize,
     most: Option<u16>,
     bowler: Option<Player>,
-) -> Result<(), WriteFailed>
+) -> BowlerPart<'a>
     requires { innings < begun (history_of (B.content book.now)) }
-    ensures text { OnOk result (Prints W.contents out.old out.new
-        (limited.bowler_part sheet.now (history_of (B.content book.now)) innings most bowler)) }
-    ensures failed { TellsFailure result out.old out.new }
+    ensures { ⟦<BowlerPart<'static> as Text>⟧.bytes result
+        ≡ limited.bowler_part sheet.now (history_of (B.content book.now)) innings most bowler }
 {
-    match most {
-        None => Ok(()),
-        Some(most) => match bowler {
-            None => Ok(()),
-            Some(player) => print_bowled_of(out, sheet, book, innings, most, player),
-        },
+    match (most, bowler) {
+        (Some(most), Some(player)) => Some(bowled_of(sheet, book, innings, most, player)),
+        _ => None,
     }
 }
 
-/// A line of its own with it.
-fn print_bowled_line<W: Sink, B: BookOf>(
-    out: &mut Watched<W>,
-    sheet: &MatchSheet,
+pub type BowlerRow<'a> = Option<(BowledOf<'a>, &'static str)>;
+
+/// The same on a row of its own.
+fn bowler_line<'a, B: BookOf>(
+    sheet: &'a MatchSheet,
     book: &B,
     innings: usize,
-    most: u16,
-    player: Player,
-) -> Result<(), WriteFailed>
+    most: Option<u16>,
+    bowler: Option<Player>,
+) -> BowlerRow<'a>
     requires { innings < begun (history_of (B.content book.now)) }
-    ensures text { OnOk result (Prints W.contents out.old out.new
-        (limited.bowled_of sheet.now (history_of (B.content book.now)) innings most player ++ codes "\n")) }
-    ensures failed { TellsFailure result out.old out.new }
+    ensures { ⟦<BowlerRow<'static> as Text>⟧.bytes result
+        ≡ limited.bowler_line sheet.now (history_of (B.content book.now)) innings most bowler }
 {
-    print_bowled_of(out, sheet, book, innings, most, player)?;
-    writeln!(out)
+    match (most, bowler) {
+        (Some(most), Some(player)) => Some((bowled_of(sheet, book, innings, most, player), "\n")),
+        _ => None,
+    }
 }
 
-/// A line of its own with it, where he is past his overs.
-fn print_past_line<W: Sink, B: BookOf>(
-    out: &mut Watched<W>,
-    sheet: &MatchSheet,
+/// A row of its own with it, where he is past his overs.
+fn past_line<'a, B: BookOf>(
+    sheet: &'a MatchSheet,
     book: &B,
     innings: usize,
     most: u16,
     player: Player,
-) -> Result<(), WriteFailed>
+) -> BowlerRow<'a>
     requires { innings < begun (history_of (B.content book.now)) }
-    ensures text { OnOk result (Prints W.contents out.old out.new
-        (limited.past_line sheet.now (history_of (B.content book.now)) innings most player)) }
-    ensures failed { TellsFailure result out.old out.new }
+    ensures { ⟦<BowlerRow<'static> as Text>⟧.bytes result
+        ≡ limited.past_line sheet.now (history_of (B.content book.now)) innings most player }
 {
     if u32::from(most) < overs_bowled(book, player) {
-        print_bowled_line(out, sheet, book, innings, most, player)
+        Some((bowled_of(sheet, book, innings, most, player), "\n"))
     } else {
-        Ok(())
+        None
     }
 }
 
 /// The same of the bowler of the last delivery, where bowlers are limited and there is one.
-pub fn print_past_row<W: Sink, B: BookOf>(
-    out: &mut Watched<W>,
-    sheet: &MatchSheet,
+pub fn past_row<'a, B: BookOf>(
+    sheet: &'a MatchSheet,
     book: &B,
     innings: usize,
     most: Option<u16>,
     bowler: Option<Player>,
-) -> Result<(), WriteFailed>
+) -> BowlerRow<'a>
     requires { innings < begun (history_of (B.content book.now)) }
-    ensures text { OnOk result (Prints W.contents out.old out.new
-        (limited.past_row sheet.now (history_of (B.content book.now)) innings most bowler)) }
-    ensures failed { TellsFailure result out.old out.new }
+    ensures { ⟦<BowlerRow<'static> as Text>⟧.bytes result
+        ≡ limited.past_row sheet.now (history_of (B.content book.now)) innings most bowler }
 {
-    match most {
-        None => Ok(()),
-        Some(most) => match bowler {
-            None => Ok(()),
-            Some(player) => print_past_line(out, sheet, book, innings, most, player),
-        },
+    match (most, bowler) {
+        (Some(most), Some(player)) => past_line(sheet, book, innings, most, player),
+        _ => None,
     }
 }
 
-/// Prints the bowler of the last delivery in a line of its own, where bowlers are limited and there is one.
-fn print_bowler_line<W: Sink, B: BookOf>(
-    out: &mut Watched<W>,
-    sheet: &MatchSheet,
-    book: &B,
-    innings: usize,
-    most: Option<u16>,
-    bowler: Option<Player>,
-) -> Result<(), WriteFailed>
-    requires { innings < begun (history_of (B.content book.now)) }
-    ensures text { OnOk result (Prints W.contents out.old out.new
-        (limited.bowler_line sheet.now (history_of (B.content book.now)) innings most bowler)) }
-    ensures failed { TellsFailure result out.old out.new }
-{
-    match most {
-        None => Ok(()),
-        Some(most) => match bowler {
-            None => Ok(()),
-            Some(player) => print_bowled_line(out, sheet, book, innings, most, player),
-        },
-    }
-}
+type LeftLine<'a> = (&'static str, Left, BowlerPart<'a>, &'static str);
 
-/// Prints the overs left of so many, and the bowler behind them.
-fn print_left_line<W: Sink, B: BookOf>(
-    out: &mut Watched<W>,
-    sheet: &MatchSheet,
+/// The overs left of so many, and the bowler behind them.
+fn left_line<'a, B: BookOf>(
+    sheet: &'a MatchSheet,
     book: &B,
     innings: usize,
     overs: u16,
-) -> Result<(), WriteFailed>
+) -> LeftLine<'a>
     requires { innings < begun (history_of (B.content book.now)) }
-    ensures text { OnOk result (Prints W.contents out.old out.new
-        (limited.left_line sheet.now (history_of (B.content book.now)) innings overs)) }
-    ensures failed { TellsFailure result out.old out.new }
+    ensures { ⟦<LeftLine<'static> as Text>⟧.bytes result
+        ≡ limited.left_line sheet.now (history_of (B.content book.now)) innings overs }
 {
     let most = sheet.limits().overs_a_bowler();
     let bowler = overs_of(book).bowler();
-    write!(out, "  ")?;
     let open = Innings {
         sheet,
         score: book.score(),
         index: innings,
     };
-    print_innings_left(out, open, overs)?;
-    print_bowler_part(out, sheet, book, innings, most, bowler)?;
-    writeln!(out)
+    (
+        "  ",
+        innings_left(open, overs),
+        bowler_part(sheet, book, innings, most, bowler),
+        "\n",
+    )
 }
 
-/// Prints what is left, of overs or of the bowler alone.
-fn print_line_for<W: Sink, B: BookOf>(
-    out: &mut Watched<W>,
-    sheet: &MatchSheet,
+type LineFor<'a> = (Option<LeftLine<'a>>, BowlerRow<'a>);
+
+/// What is left, of overs or of the bowler alone.
+fn line_for<'a, B: BookOf>(
+    sheet: &'a MatchSheet,
     book: &B,
     innings: usize,
     overs: Option<u16>,
-) -> Result<(), WriteFailed>
+) -> LineFor<'a>
     requires { innings < begun (history_of (B.content book.now)) }
-    ensures text { OnOk result (Prints W.contents out.old out.new
-        (limited.line_for sheet.now (history_of (B.content book.now)) innings overs)) }
-    ensures failed { TellsFailure result out.old out.new }
+    ensures { ⟦<LineFor<'static> as Text>⟧.bytes result
+        ≡ limited.line_for sheet.now (history_of (B.content book.now)) innings overs }
 {
     match overs {
         None => {
             let most = sheet.limits().overs_a_bowler();
             let bowler = overs_of(book).bowler();
-            print_bowler_line(out, sheet, book, innings, most, bowler)
+            (None, bowler_line(sheet, book, innings, most, bowler))
         }
-        Some(overs) => print_left_line(out, sheet, book, innings, overs),
+        Some(overs) => (Some(left_line(sheet, book, innings, overs)), None),
     }
 }
 
-/// Prints what is left of an innings and of the bowler's overs, in a line, where the sheet limits either and the innings is
-/// open.
-pub fn print_limits<W: Sink, B: BookOf>(
-    out: &mut Watched<W>,
-    sheet: &MatchSheet,
-    book: &B,
-    innings: usize,
-) -> Result<(), WriteFailed>
+pub type LimitsLine<'a> = Option<LineFor<'a>>;
+
+/// What is left of an innings and of the bowler's overs, in a line, where the sheet limits either and the innings is open.
+pub fn limits_line<'a, B: BookOf>(sheet: &'a MatchSheet, book: &B, innings: usize) -> LimitsLine<'a>
     requires { innings < begun (history_of (B.content book.now)) }
-    ensures text { OnOk result (Prints W.contents out.old out.new
-        (limited.limits_line sheet.now (history_of (B.content book.now)) innings)) }
-    ensures failed { TellsFailure result out.old out.new }
+    ensures { ⟦<LimitsLine<'static> as Text>⟧.bytes result
+        ≡ limited.limits_line sheet.now (history_of (B.content book.now)) innings }
 {
     if book.score().is_open() {
-        print_line_for(out, sheet, book, innings, sheet.limits().overs_for(innings))
+        let overs = sheet.limits().overs_for(innings);
+        Some(line_for(sheet, book, innings, overs))
     } else {
-        Ok(())
+        None
     }
 }

@@ -1,210 +1,195 @@
 //! What two scorers compare after an over.
 
-ghost use Rattle.std.specs.Prelude.{◌≡◌, ◌≤◌, ◌<◌, [], OnOk, Some, codes, length};
+ghost use Rattle.std.specs.Prelude.{◌≡◌, ◌≤◌, ◌<◌, OnOk, length};
 ghost use Rattle.notation.specs.declared.entry.TheConstants.{PLACES};
 ghost use Rattle.match_laws.specs.History.{begun};
 ghost use Rattle.corrections.specs.CleanList.{history_of};
 ghost use Rattle.corrections.specs.Overs.{balls_of, over_now};
+ghost use Rattle.cards.specs.Batting as card;
 ghost use Rattle.cards.specs.Begun.{ForInnings};
 ghost use Rattle.streams.specs.Watched.{Prints, TellsFailure};
-ghost use Rattle.score_rows.specs.declared.form.Form.TheVariants.{Whole};
+ghost use Rattle.score_rows.specs.Fit as fit;
 ghost use Rattle.score_rows.specs.OverCheck as check;
-ghost use Rattle.score_rows.specs.Row as rows;
 
-use crate::check_widths::{all_extras, batters_fit, marks_fit, marks_shown, over_fits, total_fits};
+use crate::batters::{End, other, striker};
+use crate::bowler::{Bowler, bowler};
 use crate::form::Form;
-use crate::limited::print_limits;
-use crate::marks::runs_of;
-use crate::row::{print_bowler, print_open_marks, print_other, print_striker, print_total};
+use crate::front::{Total, total};
+use crate::limited::{LimitsLine, limits_line};
+use crate::marks::{OpenMarks, newest_of, open_marks, runs_of};
+use crate::room::Room;
+use crate::text::Text;
 use cards::{Innings, MatchSheet};
 use corrections::{BookOf, Placed, overs_of};
 use match_laws::Extras;
-use notation::Player;
 use streams::{Sink, Watched, WriteFailed};
 
-/// What stands between two parts: in one row, or in two.
-fn between(is_one: bool, joint: &'static str, beyond: &'static str) -> &'static str
-    ensures { result.now ≡ check.between is_one joint.now beyond.now }
+type InRows<'a, A, B> = (A, &'a str, B, &'a str);
+
+/// Two parts of a row, or of two where that has too many columns.
+#[tactic(auto, using(crate::proofs::Rooms::behind_both, crate::proofs::Rooms::left_behind))]
+fn in_rows<'a, A: Text, B: Text>(
+    sheet: &MatchSheet,
+    first: A,
+    joint: &'a str,
+    beyond: &'a str,
+    second: B,
+) -> InRows<'a, A, B>
+    ensures { ⟦<InRows<'static, A, B> as Text>⟧.bytes result
+        ≡ check.in_rows sheet.now (A.bytes first) joint.now beyond.now (B.bytes second) }
 {
-    if is_one { joint } else { beyond }
+    let room = first.behind(Room::row(sheet)).text(joint);
+    let between = if second.behind(room).is_left() {
+        joint
+    } else {
+        beyond
+    };
+    (first, between, second, "\n")
 }
 
-/// Prints a text.
-fn print<W: Sink>(out: &mut Watched<W>, text: &str) -> Result<(), WriteFailed>
-    ensures text { OnOk result (Prints W.contents out.old out.new text.now) }
-    ensures failed { TellsFailure result out.old out.new }
+/// All extras of an innings.
+fn all_extras(extras: &Extras) -> u64
+    ensures { result ≡ card.all_extras extras.now }
 {
-    write!(out, "{text}")
+    let off_deliveries = u64::from(extras.byes) + u64::from(extras.legs) + u64::from(extras.wides);
+    off_deliveries + u64::from(extras.noballs) + u64::from(extras.penalty)
 }
 
-/// Prints all extras, byes and leg byes.
-fn print_extras_front<W: Sink>(out: &mut Watched<W>, extras: &Extras) -> Result<(), WriteFailed>
-    ensures text { OnOk result (Prints W.contents out.old out.new (check.extras_front extras.now)) }
-    ensures failed { TellsFailure result out.old out.new }
+type ExtrasText = (
+    (&'static str, u64, &'static str, (u32, &'static str, u32)),
+    (
+        &'static str,
+        u32,
+        &'static str,
+        (u32, &'static str, u32, &'static str),
+    ),
+);
+
+/// All extras, and of which kinds they are.
+fn extras_text(extras: &Extras) -> ExtrasText
+    ensures { ⟦<ExtrasText as Text>⟧.bytes result ≡ check.extras_text extras.now }
 {
     let all = all_extras(extras);
-    let byes = extras.byes;
-    let legs = extras.legs;
-    write!(out, "extras {all} (b {byes}, lb {legs}")
+    (
+        ("extras ", all, " (b ", (extras.byes, ", lb ", extras.legs)),
+        (
+            ", w ",
+            extras.wides,
+            ", nb ",
+            (extras.noballs, ", p ", extras.penalty, ")"),
+        ),
+    )
 }
 
-/// Prints wides, no balls and penalty runs.
-fn print_extras_back<W: Sink>(out: &mut Watched<W>, extras: &Extras) -> Result<(), WriteFailed>
-    ensures text { OnOk result (Prints W.contents out.old out.new (check.extras_back extras.now)) }
-    ensures failed { TellsFailure result out.old out.new }
+type TotalLine<'a> = InRows<'a, (&'static str, Total<'a>), ExtrasText>;
+
+/// The total and the extras.
+fn total_line(innings: Innings<'_>) -> TotalLine<'_>
+    ensures { ForInnings innings.entry (λ s h i. ⟦<TotalLine<'static> as Text>⟧.bytes result ≡ check.total_line s h i) }
 {
-    let wides = extras.wides;
-    let noballs = extras.noballs;
-    let penalty = extras.penalty;
-    write!(out, ", w {wides}, nb {noballs}, p {penalty})")
+    let extras = innings.score.extras(innings.index);
+    in_rows(
+        innings.sheet,
+        ("  ", total(innings)),
+        ", ",
+        ",\n    ",
+        extras_text(&extras),
+    )
 }
 
-/// Prints all extras, and of which kinds they are.
-fn print_extras<W: Sink>(out: &mut Watched<W>, extras: &Extras) -> Result<(), WriteFailed>
-    ensures text { OnOk result (Prints W.contents out.old out.new (check.extras_text extras.now)) }
-    ensures failed { TellsFailure result out.old out.new }
+type BattersLine<'a> = InRows<'a, (&'static str, End<'a>), End<'a>>;
+
+/// Both batters.
+fn batters_line(innings: Innings<'_>) -> BattersLine<'_>
+    ensures { ForInnings innings.entry (λ s h i. ⟦<BattersLine<'static> as Text>⟧.bytes result ≡ check.batters_line s h i) }
 {
-    print_extras_front(out, extras)?;
-    print_extras_back(out, extras)
+    in_rows(
+        innings.sheet,
+        ("  ", striker(Form::Whole, innings)),
+        "  ",
+        "\n    ",
+        other(Form::Whole, innings),
+    )
 }
 
-/// Prints the total and the extras.
-fn print_total_line<W: Sink>(out: &mut Watched<W>, innings: Innings<'_>) -> Result<(), WriteFailed>
-    ensures text { ForInnings innings.entry (λ s h i.
-        OnOk result (Prints W.contents out.old out.new (check.total_line s h i))) }
-    ensures failed { TellsFailure result out.old out.new }
-{
-    let fits = total_fits(innings);
-    print(out, "  ")?;
-    print_total(out, innings)?;
-    print(out, between(fits, ", ", ",\n    "))?;
-    print_extras(out, &innings.score.extras(innings.index))?;
-    print(out, "\n")
-}
+type Marked<'a> = (OpenMarks<'a>, &'static str, u32);
 
-/// Prints both batters.
-fn print_batters_line<W: Sink>(
-    out: &mut Watched<W>,
-    innings: Innings<'_>,
-) -> Result<(), WriteFailed>
-    ensures text { ForInnings innings.entry (λ s h i.
-        OnOk result (Prints W.contents out.old out.new (check.batters_line s h i))) }
-    ensures failed { TellsFailure result out.old out.new }
-{
-    let fits = batters_fit(innings);
-    print(out, "  ")?;
-    print_striker(out, Form::Whole, innings)?;
-    print(out, between(fits, "  ", "\n    "))?;
-    print_other(out, Form::Whole, innings)?;
-    print(out, "\n")
-}
-
-/// Prints the marks of an over, all or these, and all its runs.
-fn print_marked<W: Sink>(
-    out: &mut Watched<W>,
-    over: &[Placed],
-    is_all: bool,
-    shown: &[Placed],
-) -> Result<(), WriteFailed>
+/// The marks of an over, all or these, and all its runs.
+fn marked<'a>(over: &[Placed], is_all: bool, shown: &'a [Placed]) -> Marked<'a>
     requires { length over.now ≤ PLACES }
-    ensures text { OnOk result (Prints W.contents out.old out.new
-        (check.marked (balls_of over.now) is_all (balls_of shown.now))) }
-    ensures failed { TellsFailure result out.old out.new }
+    ensures { ⟦<Marked<'static> as Text>⟧.bytes result
+        ≡ check.marked (balls_of over.now) is_all (balls_of shown.now) }
 {
-    print_open_marks(out, over, is_all, shown)?;
-    let runs = runs_of(over);
-    write!(out, " = {runs}")
+    (open_marks(over, is_all, shown), " = ", runs_of(over))
 }
 
-/// Prints a bowler and the marks of an over, all or these, and all its runs.
-fn print_bowled<W: Sink>(
-    out: &mut Watched<W>,
-    innings: Innings<'_>,
-    bowler: Player,
-    over: &[Placed],
-    is_all: bool,
-    shown: &[Placed],
-) -> Result<(), WriteFailed>
-    requires few { length over.now ≤ PLACES }
-    ensures text { ForInnings innings.entry (λ s h i.
-        OnOk result (Prints W.contents out.old out.new (check.in_rows s
-        (rows.bowler Whole s h i (Some bowler)) [] (codes "\n  ")
-        (check.marked (balls_of over.now) is_all (balls_of shown.now))))) }
-    ensures failed { TellsFailure result out.old out.new }
+/// What is left of a row of their own.
+#[tactic(auto, using(crate::proofs::Rooms::behind_both))]
+fn own_room(sheet: &MatchSheet, over: &[Placed], is_all: bool, shown: &[Placed]) -> Room
+    requires { length over.now ≤ PLACES }
+    ensures { result ≡ fit.behind (fit.all_columns sheet.now)
+        (check.own_row (balls_of over.now) is_all (balls_of shown.now)) }
 {
-    let fits = over_fits(innings, bowler, over, is_all, shown);
-    print_bowler(out, Form::Whole, innings, Some(bowler))?;
-    print(out, between(fits, "", "\n  "))?;
-    print_marked(out, over, is_all, shown)?;
-    print(out, "\n")
+    let marked = marked(over, is_all, shown);
+    marked.behind(Room::row(sheet).text("  "))
 }
 
-/// Prints a bowler and an over, with all marks that have room in a row of their own, or else the newest.
-fn print_bowler_over<W: Sink>(
-    out: &mut Watched<W>,
-    innings: Innings<'_>,
-    bowler: Player,
-    over: &[Placed],
-) -> Result<(), WriteFailed>
-    requires few { length over.now ≤ PLACES }
-    ensures text { ForInnings innings.entry (λ s h i.
-        OnOk result (Prints W.contents out.old out.new (check.in_rows s
-        (rows.bowler Whole s h i (Some bowler)) [] (codes "\n  ")
-        (check.over_text s (balls_of over.now))))) }
-    ensures failed { TellsFailure result out.old out.new }
+/// An over with all marks that have room in a row of their own, or else the newest.
+#[tactic(auto, using(crate::proofs::Rooms::left_behind))]
+fn over_text<'a>(sheet: &MatchSheet, over: &'a [Placed]) -> Marked<'a>
+    requires { length over.now ≤ PLACES }
+    ensures { ⟦<Marked<'static> as Text>⟧.bytes result ≡ check.over_text sheet.now (balls_of over.now) }
 {
-    if marks_fit(innings.sheet, over) {
-        return print_bowled(out, innings, bowler, over, true, over);
+    if own_room(sheet, over, true, over).is_left() {
+        return marked(over, true, over);
     }
-    let shown = marks_shown(innings.sheet, over);
-    print_bowled(out, innings, bowler, over, false, shown)
+    let shown = newest_of(over, own_room(sheet, over, false, &[]));
+    marked(over, false, shown)
 }
 
-/// Prints the bowler of the last delivery and its over, if there is one.
-fn print_over_line<W: Sink, B: BookOf>(
-    out: &mut Watched<W>,
-    sheet: &MatchSheet,
-    book: &B,
-    innings: usize,
-) -> Result<(), WriteFailed>
+type OverLine<'a> = Option<InRows<'a, Bowler<'a>, Marked<'a>>>;
+
+/// The bowler of the last delivery and its over, if there is one.
+fn over_line<'a, B: BookOf>(sheet: &'a MatchSheet, book: &'a B, innings: usize) -> OverLine<'a>
     requires { innings < begun (history_of (B.content book.now)) }
-    ensures text { OnOk result (Prints W.contents out.old out.new
-        (check.over_line sheet.now (history_of (B.content book.now)) innings (over_now (history_of (B.content book.now))))) }
-    ensures failed { TellsFailure result out.old out.new }
+    ensures { ⟦<OverLine<'static> as Text>⟧.bytes result ≡ check.over_line sheet.now
+        (history_of (B.content book.now)) innings (over_now (history_of (B.content book.now))) }
 {
     let overs = overs_of(book);
-    let Some(bowler) = overs.bowler() else {
-        return Ok(());
-    };
-    let innings = Innings {
+    let player = overs.bowler()?;
+    let now = Innings {
         sheet,
         score: book.score(),
         index: innings,
     };
-    print_bowler_over(out, innings, bowler, overs.newest())
+    Some(in_rows(
+        sheet,
+        bowler(Form::Whole, now, Some(player)),
+        "",
+        "\n  ",
+        over_text(sheet, overs.newest()),
+    ))
 }
 
-/// Prints the check of an over of an innings.
-fn print_lines<W: Sink, B: BookOf>(
-    out: &mut Watched<W>,
-    sheet: &MatchSheet,
-    book: &B,
-    innings: usize,
-) -> Result<(), WriteFailed>
+type CheckLines<'a> = (TotalLine<'a>, BattersLine<'a>, OverLine<'a>, LimitsLine<'a>);
+
+/// The check of an over of an innings.
+fn check_lines<'a, B: BookOf>(sheet: &'a MatchSheet, book: &'a B, innings: usize) -> CheckLines<'a>
     requires { innings < begun (history_of (B.content book.now)) }
-    ensures text { OnOk result (Prints W.contents out.old out.new
-        (check.check_lines sheet.now (history_of (B.content book.now)) innings)) }
-    ensures failed { TellsFailure result out.old out.new }
+    ensures { ⟦<CheckLines<'static> as Text>⟧.bytes result
+        ≡ check.check_lines sheet.now (history_of (B.content book.now)) innings }
 {
     let now = Innings {
         sheet,
         score: book.score(),
         index: innings,
     };
-    print_total_line(out, now)?;
-    print_batters_line(out, now)?;
-    print_over_line(out, sheet, book, innings)?;
-    print_limits(out, sheet, book, innings)
+    (
+        total_line(now),
+        batters_line(now),
+        over_line(sheet, book, innings),
+        limits_line(sheet, book, innings),
+    )
 }
 
 /// Prints what two scorers compare after an over: the total with the extras, both batters, and the bowler of the last
@@ -223,5 +208,5 @@ pub fn print_check<W: Sink, B: BookOf>(
     if begun == 0 {
         return writeln!(out, "No play");
     }
-    print_lines(out, sheet, book, begun - 1)
+    check_lines(sheet, book, begun - 1).print(out)
 }

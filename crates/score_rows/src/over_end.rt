@@ -10,6 +10,7 @@ ghost use Rattle.streams.specs.Watched.{Prints, TellsFailure};
 ghost use Rattle.score_rows.specs.Row as rows;
 ghost use Rattle.score_rows.specs.inner.Items as items;
 
+use crate::text::Text;
 use ball_laws::counts;
 use corrections::{BookOf, Placed, bowler_of, overs_of};
 use notation::{Plain, Player};
@@ -27,7 +28,7 @@ fn item_counts(item: &Plain) -> u32
 }
 
 /// How many deliveries of an over count.
-pub fn counting_of(over: &[Placed]) -> u32
+fn counting_of(over: &[Placed]) -> u32
     requires { length over.now ≤ PLACES }
     ensures { result ≡ counting (balls_of over.now) }
 {
@@ -71,7 +72,7 @@ fn are_two(bowler: Option<Player>, other: Option<Player>) -> bool
 }
 
 /// Whether six deliveries counted before the over's last one, and another bowled that than the one before it.
-pub fn is_uncalled(over: &[Placed]) -> bool
+fn is_uncalled(over: &[Placed]) -> bool
     requires { length over.now ≤ PLACES }
     ensures { result ≡ rows.is_uncalled (balls_of over.now) }
 {
@@ -79,44 +80,44 @@ pub fn is_uncalled(over: &[Placed]) -> bool
     counting_of(older) >= 6 && are_two(bowler_of(over), bowler_of(older))
 }
 
-/// Prints that over isn't called, where a bowler began another one.
-fn print_uncalled<W: Sink>(out: &mut Watched<W>, over: &[Placed]) -> Result<(), WriteFailed>
+/// That an over isn't called, where a bowler began another one.
+fn uncalled(over: &[Placed]) -> &'static str
     requires { length over.now ≤ PLACES }
-    ensures text { OnOk result (Prints W.contents out.old out.new (rows.uncalled_text (balls_of over.now))) }
-    ensures failed { TellsFailure result out.old out.new }
+    ensures { result.now ≡ rows.uncalled_text (balls_of over.now) }
 {
     if is_uncalled(over) {
-        write!(out, ", the over isn't called")
+        ", the over isn't called"
     } else {
-        Ok(())
+        ""
     }
 }
 
-/// Prints how many deliveries of the open over count, from the sixth on.
-pub fn print_over_end<W: Sink>(out: &mut Watched<W>, over: &[Placed]) -> Result<(), WriteFailed>
+pub type OverEnd = Option<(&'static str, u32, &'static str, &'static str)>;
+
+/// How many deliveries of the open over count, from the sixth on.
+pub fn over_end(over: &[Placed]) -> OverEnd
     requires { length over.now ≤ PLACES }
-    ensures text { OnOk result (Prints W.contents out.old out.new (rows.over_end (balls_of over.now))) }
-    ensures failed { TellsFailure result out.old out.new }
+    ensures { ⟦<OverEnd as Text>⟧.bytes result ≡ rows.over_end (balls_of over.now) }
 {
     let count = counting_of(over);
     if count < 6 {
-        return Ok(());
+        return None;
     }
-    write!(out, "  {count} balls")?;
-    print_uncalled(out, over)
+    Some(("  ", count, " balls", uncalled(over)))
 }
 
-/// Prints, of an over that was called with another number of deliveries that count than six, that number.
-fn print_note<W: Sink>(out: &mut Watched<W>, count: u32) -> Result<(), WriteFailed>
-    ensures text { OnOk result (Prints W.contents out.old out.new (rows.called_note count)) }
-    ensures failed { TellsFailure result out.old out.new }
+type Note = Option<(&'static str, Option<(u32, &'static str)>)>;
+
+/// Of an over that was called with another number of deliveries that count than six, that number.
+fn note(count: u32) -> Note
+    ensures { ⟦<Note as Text>⟧.bytes result ≡ rows.called_note count }
 {
     if count == 6 {
-        Ok(())
+        None
     } else if count == 1 {
-        write!(out, " (1 ball)")
+        Some((" (1 ball)", None))
     } else {
-        write!(out, " ({count} balls)")
+        Some((" (", Some((count, " balls)"))))
     }
 }
 
@@ -129,5 +130,5 @@ pub fn print_over_note<W: Sink, B: BookOf>(
         (rows.called_note (counting (last_called_over (history_of (B.content book.now)))))) }
     ensures failed { TellsFailure result out.old out.new }
 {
-    print_note(out, counting_of(overs_of(book).last))
+    note(counting_of(overs_of(book).last)).print(out)
 }

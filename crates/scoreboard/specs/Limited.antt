@@ -12,7 +12,7 @@ use Rattle.limits.specs.Figures.{overs_left, deliveries_left, runs_needed, run_r
 use Rattle.cards.specs.Sheet.{Sheet}
 use Rattle.json.specs.Json.{Json, null, boolean, string}
 use Rattle.json_fields.specs.Values.{Field, array_of, object_of, number_field, number_value}
-use Rattle.scoreboard.specs.declared.told.Told.{Told}
+use Rattle.scoreboard.specs.declared.situation.Situation.{Situation}
 
 -- a number, if there is one
 abbrev pub number_or_null : Option ℕ → Json
@@ -66,8 +66,8 @@ bowled_by h (Some p) = Some (overs_bowled p h)
 abbrev pub is_free_now : Sheet → History → Bool
 is_free_now s h = s.limits.free_hits && is_free_hit h
 
-abbrev pub told_in : Sheet → ℕ → History → ℕ → Told
-told_in s n h i = record {
+abbrev pub situation_in : Sheet → ℕ → History → ℕ → Situation
+situation_in s n h i = record {
   overs = overs_open s h i;
   overs_left = overs_in h i (overs_open s h i);
   balls_left = balls_in h i (overs_open s h i);
@@ -80,8 +80,8 @@ told_in s n h i = record {
   bowler_overs = bowled_by h (bowler_now h);
 }
 
-abbrev pub nothing_told : Told
-nothing_told = record {
+abbrev pub no_situation : Situation
+no_situation = record {
   overs = None;
   overs_left = None;
   balls_left = None;
@@ -95,27 +95,27 @@ nothing_told = record {
 }
 
 -- of the innings begun last
-abbrev pub told_of : Sheet → ℕ → History → Told
-told_of s n h = if begun h == 0 then nothing_told else told_in s n h (current h)
+abbrev pub situation_of : Sheet → ℕ → History → Situation
+situation_of s n h = if begun h == 0 then no_situation else situation_in s n h (current h)
 
-abbrev pub left_fields : Told → List Field
+abbrev pub left_fields : Situation → List Field
 left_fields t =
     (codes "overs", number_or_null t.overs) ∷ []
     ++ (codes "overs_left", number_or_null t.overs_left) ∷ []
     ++ (codes "balls_left", number_or_null t.balls_left) ∷ []
 
-abbrev pub rate_fields : Told → List Field
+abbrev pub rate_fields : Situation → List Field
 rate_fields t =
     (codes "needed_an_over", rate_or_null t.needed_an_over) ∷ []
     ++ (codes "needed_a_ball", rate_or_null t.needed_a_ball) ∷ []
     ++ (codes "run_rate", rate_or_null t.run_rate) ∷ []
     ++ (codes "last_rate", rate_or_null t.last_rate) ∷ []
 
-abbrev pub play_fields : Told → List Field
+abbrev pub play_fields : Situation → List Field
 play_fields t =
     (codes "free_hit", boolean t.free_hit) ∷ []
     ++ (codes "powerplay", number_or_null t.powerplay) ∷ []
     ++ (codes "bowler_overs", number_or_null t.bowler_overs) ∷ []
 
-abbrev pub told_fields : Told → List Field
-told_fields t = left_fields t ++ rate_fields t ++ play_fields t
+abbrev pub situation_fields : Situation → List Field
+situation_fields t = left_fields t ++ rate_fields t ++ play_fields t

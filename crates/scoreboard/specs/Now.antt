@@ -12,7 +12,7 @@ use Rattle.cards.specs.Results.{result_text}
 use Rattle.json.specs.Json.{Json, null, string}
 use Rattle.json_fields.specs.Values.{Field, array_of, object_of}
 use Rattle.cards.specs.Marks.{mark_of}
-use Rattle.scoreboard.specs.Limited.{number_or_null, told_fields, told_of}
+use Rattle.scoreboard.specs.Limited.{number_or_null, situation_fields, situation_of}
 use Rattle.scoreboard.specs.Stand.{partnership_field, partnership_now}
 
 -- a text, if there is one
@@ -49,4 +49,4 @@ result_fields s n h =
 
 abbrev pub now_value : Sheet → ℕ → History → Json
 now_value s n h =
-    object_of (players_fields h ++ both_overs h ++ result_fields s n h ++ told_fields (told_of s n h) ++ partnership_field (partnership_now h) ∷ [])
+    object_of (players_fields h ++ both_overs h ++ result_fields s n h ++ situation_fields (situation_of s n h) ++ partnership_field (partnership_now h) ∷ [])

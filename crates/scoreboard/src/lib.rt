@@ -10,8 +10,8 @@ mod marks;
 mod now;
 mod recent;
 mod shares;
+mod situation;
 mod stand;
-mod told;
 mod value;
 
 pub use laws::boards_add_up;

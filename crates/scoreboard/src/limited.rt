@@ -5,7 +5,7 @@ ghost use Rattle.limits.specs.Rates.{two_places};
 ghost use Rattle.json_fields.specs.Values.{PutsFields, PutsValues, array_of, number_value};
 ghost use Rattle.scoreboard.specs.Limited as laws;
 
-use crate::told::Told;
+use crate::situation::Situation;
 use itoa::Buffer;
 use json_fields::{
     Compact, begin_array, begin_field, begin_object, end_array, end_object, put_bool, put_figure,
@@ -139,38 +139,42 @@ pub fn put_limits(out: &mut Compact, limits: &Limits) -> Result<(), AllocError>
 }
 
 /// Puts what is left.
-fn put_left(out: &mut Compact, told: &Told) -> Result<(), AllocError>
-    ensures { PutsFields result out.old out.new (laws.left_fields told.now) }
+fn put_left(out: &mut Compact, situation: &Situation) -> Result<(), AllocError>
+    ensures { PutsFields result out.old out.new (laws.left_fields situation.now) }
 {
-    put_overs_or_null(out, "overs", told.overs)?;
-    put_figure_or_null(out, "overs_left", told.overs_left)?;
-    put_figure_or_null(out, "balls_left", told.balls_left)
+    put_overs_or_null(out, "overs", situation.overs)?;
+    put_figure_or_null(out, "overs_left", situation.overs_left)?;
+    put_figure_or_null(out, "balls_left", situation.balls_left)
 }
 
 /// Puts what is needed, and how fast runs came.
-fn put_rates(out: &mut Compact, alloc: Global, told: &Told) -> Result<(), AllocError>
-    ensures { PutsFields result out.old out.new (laws.rate_fields told.now) }
+fn put_rates(out: &mut Compact, alloc: Global, situation: &Situation) -> Result<(), AllocError>
+    ensures { PutsFields result out.old out.new (laws.rate_fields situation.now) }
 {
-    put_rate(out, alloc, "needed_an_over", told.needed_an_over)?;
-    put_rate(out, alloc, "needed_a_ball", told.needed_a_ball)?;
-    put_rate(out, alloc, "run_rate", told.run_rate)?;
-    put_rate(out, alloc, "last_rate", told.last_rate)
+    put_rate(out, alloc, "needed_an_over", situation.needed_an_over)?;
+    put_rate(out, alloc, "needed_a_ball", situation.needed_a_ball)?;
+    put_rate(out, alloc, "run_rate", situation.run_rate)?;
+    put_rate(out, alloc, "last_rate", situation.last_rate)
 }
 
 /// Puts a free hit, the powerplay, and the overs of the bowler.
-fn put_play(out: &mut Compact, told: &Told) -> Result<(), AllocError>
-    ensures { PutsFields result out.old out.new (laws.play_fields told.now) }
+fn put_play(out: &mut Compact, situation: &Situation) -> Result<(), AllocError>
+    ensures { PutsFields result out.old out.new (laws.play_fields situation.now) }
 {
-    put_bool(out, "free_hit", told.free_hit)?;
-    put_count_or_null(out, "powerplay", told.powerplay)?;
-    put_figure_or_null(out, "bowler_overs", told.bowler_overs)
+    put_bool(out, "free_hit", situation.free_hit)?;
+    put_count_or_null(out, "powerplay", situation.powerplay)?;
+    put_figure_or_null(out, "bowler_overs", situation.bowler_overs)
 }
 
 /// Puts what follows of what the sheet limits.
-pub fn put_told(out: &mut Compact, alloc: Global, told: &Told) -> Result<(), AllocError>
-    ensures { PutsFields result out.old out.new (laws.told_fields told.now) }
+pub fn put_situation(
+    out: &mut Compact,
+    alloc: Global,
+    situation: &Situation,
+) -> Result<(), AllocError>
+    ensures { PutsFields result out.old out.new (laws.situation_fields situation.now) }
 {
-    put_left(out, told)?;
-    put_rates(out, alloc, told)?;
-    put_play(out, told)
+    put_left(out, situation)?;
+    put_rates(out, alloc, situation)?;
+    put_play(out, situation)
 }

@@ -8,10 +8,10 @@ ghost use Rattle.scoreboard.specs.Limited as limited;
 ghost use Rattle.scoreboard.specs.Now as laws;
 ghost use Rattle.scoreboard.specs.Stand.{partnership_now};
 
-use crate::limited::{put_figure_or_null, put_told};
+use crate::limited::{put_figure_or_null, put_situation};
 use crate::marks::put_marks;
+use crate::situation::Situation;
 use crate::stand::{Partnership, put_partnership};
-use crate::told::Told;
 use cards::{MatchSheet, result_text};
 use corrections::{Overs, Placed};
 use json_fields::{
@@ -99,17 +99,17 @@ pub fn put_now(
     sheet: &MatchSheet,
     score: &Match,
     overs: &Overs<'_>,
-    told: &Told,
+    situation: &Situation,
     partnership: Option<Partnership>,
 ) -> Result<(), AllocError>
-    ensures { ForEachHistory score.now (λ n h. AreOversOf overs.now h → told.now ≡ limited.told_of sheet.now n h →
+    ensures { ForEachHistory score.now (λ n h. AreOversOf overs.now h → situation.now ≡ limited.situation_of sheet.now n h →
         partnership ≡ partnership_now h → PutsFields result out.old out.new ((codes "now", laws.now_value sheet.now n h) ∷ [])) }
 {
     begin_field(out, "now")?;
     put_players(out, score, overs)?;
     put_overs(out, alloc, overs)?;
     put_aim(out, alloc, sheet, score)?;
-    put_told(out, alloc, told)?;
+    put_situation(out, alloc, situation)?;
     put_partnership(out, partnership)?;
     end_object(out)
 }

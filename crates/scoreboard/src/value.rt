@@ -13,8 +13,8 @@ ghost use Rattle.scoreboard.specs.inner.Counting as counting;
 use crate::innings::put_all_innings;
 use crate::limited::put_limits;
 use crate::now::put_now;
+use crate::situation::situation_of;
 use crate::stand::partnership_now;
-use crate::told::told_of;
 use board::{Trouble, Why};
 use cards::{MatchSheet, all_runs};
 use corrections::{BookOf, Placed, overs_of};
@@ -114,7 +114,7 @@ fn put_book<B: BookOf>(
     let score = book.score();
     let overs = overs_of(book);
     let falls = falls_at(alloc, book)?;
-    let told = told_of(sheet, book, &overs);
+    let situation = situation_of(sheet, book, &overs);
     put_head(out, sheet, book.len())?;
     put_limits(out, sheet.limits())?;
     put_all_innings(out, alloc, sheet, score, falls.as_slice())?;
@@ -124,7 +124,7 @@ fn put_book<B: BookOf>(
         sheet,
         score,
         &overs,
-        &told,
+        &situation,
         partnership_now(book),
     )?;
     put_over_runs(out, alloc, book)

@@ -17,7 +17,7 @@ pub trait ShowsDesk<B: BookOf> {
     /// How it goes on once this was handed to it.
     ghost goes_on: { Self → DeskSight → Self → Type 0 };
 
-    /// Shows this, where that is new.
+    /// Shows this, where that is new, at this time in milliseconds since some moment.
     fn show(
         &mut self,
         sheet: &MatchSheet,
@@ -25,9 +25,13 @@ pub trait ShowsDesk<B: BookOf> {
         at: Position,
         own: Option<Entry>,
         held: &[HeldLine],
+        now: u64,
     )
         requires { IfSome own IsEntry }
         ensures { goes_on self.old (sight_at sheet.now (B.innings_a_side book.now) (B.content book.now) at own) self.new };
+
+    /// For how many milliseconds it may be left alone since it was shown the desk: none where it has more to do at once.
+    fn longest_wait(&self) -> u64;
 }
 
 /// Nothing but the rows of a desk is shown.
@@ -44,5 +48,10 @@ impl<B: BookOf> ShowsDesk<B> for RowsAlone {
         _at: Position,
         _own: Option<Entry>,
         _held: &[HeldLine],
+        _now: u64,
     ) {}
+
+    fn longest_wait(&self) -> u64 {
+        u64::MAX
+    }
 }

@@ -1,16 +1,18 @@
 -- What passes at a sealed link.
-use Rattle.std.proofs.Common.{◌≡◌, ◌||◌, ◌⊎◌, inl, inr, ℕ, zero, suc, Some, List, [], ◌∷◌, ◌++◌, Bool, true, false, length, length-append, take, arith, refl, sym, ap, subst, ◌∙◌, append-nil}
-use Rattle.std.specs.Prelude.{bytes_eq, slice_get}
+use Rattle.std.proofs.Common.{◌≡◌, ◌||◌, ◌&&◌, ◌⊎◌, inl, inr, ℕ, zero, suc, Some, List, [], ◌∷◌, ◌++◌, Bool, true, false, length, take, arith, refl, sym, ap, subst, ◌∙◌, append-nil}
+use Rattle.std.specs.Prelude.{bytes_eq, slice_get, slice_index}
 use Rattle.std.specs.List.{list_any}
-use Rattle.std.proofs.lemmas.List.{length-take}
+use Rattle.std.proofs.lemmas.List.{get_or-take, length-take-le}
 use Rattle.std.proofs.lemmas.List.Concat.{flat_map-append}
 use Rattle.std.proofs.lemmas.Slice.Eq.{bytes_eq-Decides}
-use Rattle.seal.specs.Sealed.{sealed, tag}
-use Rattle.seal.specs.Rings.{IsForm, IsFormBy, seals_by, tagged}
+use Rattle.seal.specs.Sealed.{IsSealed, has_size, sealed, untagged}
+use Rattle.seal.specs.Receipts.{kept_for, outgoing}
+use Rattle.seal.specs.Rings.{IsForm, IsFormBy, seals_by, sender_in}
 use Rattle.seal.specs.Tagged.{bytes_of}
 use Rattle.seal.specs.declared.carrier.TaggedMessage.{TaggedMessage}
+use Rattle.seal.specs.declared.receipts.Receipts.{Receipts}
 use Rattle.seal.specs.declared.ring.Ring.{Ring}
-use Rattle.seal.proofs.SealedForms.{front, front_tagged, length-tag}
+use Rattle.seal.proofs.SealedForms.{front, front_outgoing, long, of_untagged, sized, whole}
 use Rattle.seal.specs.Opening.{GivenWasBrought, WasBrought, came_open, opening, opening_of, opens}
 use Rattle.links.specs.Passed.{Passed, Sent, Came}
 use Rattle.links.specs.declared.link.Receivers.{Receivers}
@@ -20,34 +22,38 @@ pub opening_more : (ring : Ring) (carried : List Passed) (p : Passed) → openin
 opening_more ring carried p = flat_map-append (opening_of ring) carried (p ∷ []) ∙ ap (λ (l : List Passed). opening ring carried ++ l) (append-nil (opening_of ring p))
 
 -- a message that was sent
-pub sent_more : (to : Receivers) (ring : Ring) (old new : List Passed) (m : List ℕ) (sent : TaggedMessage) → length m ≡ 48 → sent ≡ tagged ring m
+pub sent_more : (to : Receivers) (ring : Ring) (receipts : Receipts) (old new : List Passed) (m : List ℕ) (sent : TaggedMessage)
+    → length m ≡ 48 → sent ≡ outgoing ring receipts m
     → new ≡ old ++ Sent to (bytes_of sent) ∷ [] → opening ring new ≡ opening ring old ++ Sent to m ∷ []
-sent_more to ring old new m sent h e is =
+sent_more to ring receipts old new m sent h e is =
     ap (opening ring) is ∙ opening_more ring old (Sent to (bytes_of sent))
-    ∙ ap (λ (l : List ℕ). opening ring old ++ Sent to l ∷ []) (ap (λ (t : TaggedMessage). take 48 (bytes_of t)) e ∙ front_tagged ring m h)
+    ∙ ap (λ (l : List ℕ). opening ring old ++ Sent to l ∷ []) (ap (λ (t : TaggedMessage). take 48 (bytes_of t)) e ∙ front_outgoing (kept_for receipts m) ring m h)
 
 -- by a seal of a list bytes open where the test of each says so
-abbrev pub any_test : List ℕ → List ℕ → List (List ℕ) → Bool
-any_test m bytes seals = list_any (λ seal. bytes_eq bytes (sealed seal m)) seals
+abbrev any_test : List ℕ → List ℕ → List (List ℕ) → Bool
+any_test front bytes seals = list_any (λ seal. bytes_eq bytes (sealed seal front)) seals
+
+abbrev IsOneOf : List (List ℕ) → List ℕ → List ℕ → Type 0
+IsOneOf seals front bytes = (i : ℕ) × ((seal : List ℕ) × (slice_get seals i ≡ Some seal) × (bytes ≡ sealed seal front))
 
 by_first : (s : List ℕ) (seals : List (List ℕ)) (m bytes : List ℕ) (b : Bool) → bytes_eq bytes (sealed s m) ≡ b
-    → (b ≡ false → IsFormBy seals m bytes) → IsFormBy (s ∷ seals) m bytes
+    → (b ≡ false → IsOneOf seals m bytes) → IsOneOf (s ∷ seals) m bytes
 by_first s seals m bytes true t rest = (zero, (s, refl, (bytes_eq-Decides bytes (sealed s m)).0 t))
 by_first s seals m bytes false t rest = let found = rest refl in (suc found.0, found.1)
 
-some_opens : (seals : List (List ℕ)) (m bytes : List ℕ) → any_test m bytes seals ≡ true → IsFormBy seals m bytes
+some_opens : (seals : List (List ℕ)) (m bytes : List ℕ) → any_test m bytes seals ≡ true → IsOneOf seals m bytes
 some_opens [] m bytes e = absurd (cc)
 some_opens (s ∷ seals) m bytes e =
     by_first s seals m bytes (bytes_eq bytes (sealed s m)) refl (λ no. some_opens seals m bytes (rw no at e))
 
 -- by one seal more
-pub before_or_last : (seals : List (List ℕ)) (s m bytes : List ℕ) → IsFormBy (seals ++ s ∷ []) m bytes → IsFormBy seals m bytes ⊎ (bytes ≡ sealed s m)
-before_or_last [] s m bytes (zero, is) = let one : s ≡ is.0 = cc in inr (is.2 ∙ ap (λ (l : List ℕ). sealed l m) (sym one))
+pub before_or_last : (seals : List (List ℕ)) (s m bytes : List ℕ) → IsFormBy (seals ++ s ∷ []) m bytes → IsFormBy seals m bytes ⊎ IsSealed s m bytes
+before_or_last [] s m bytes (zero, is) = let one : is.0 ≡ s = cc in inr (subst (λ (l : List ℕ). IsSealed l m bytes) one is.2)
 before_or_last [] s m bytes (suc i, is) = absurd (cc)
 before_or_last (x ∷ seals) s m bytes (zero, is) = inl (zero, is)
 before_or_last (x ∷ seals) s m bytes (suc i, is) = later_or_last (before_or_last seals s m bytes (i, is))
   where
-    later_or_last : IsFormBy seals m bytes ⊎ (bytes ≡ sealed s m) → IsFormBy (x ∷ seals) m bytes ⊎ (bytes ≡ sealed s m)
+    later_or_last : IsFormBy seals m bytes ⊎ IsSealed s m bytes → IsFormBy (x ∷ seals) m bytes ⊎ IsSealed s m bytes
     later_or_last (inl found) = inl (suc found.0, found.1)
     later_or_last (inr e) = inr e
 
@@ -67,31 +73,43 @@ opens_some (s ∷ seals) m bytes (suc i) seal there e =
 pub front_of : (seals : List (List ℕ)) (m bytes : List ℕ) → length m ≡ 48 → IsFormBy seals m bytes → take 48 bytes ≡ m
 front_of seals m bytes h is = front is.1.0 m bytes h is.1.2
 
+-- the number of its sender is where it is in the message
+pub sender_before : (seals : List (List ℕ)) (m bytes : List ℕ) → length m ≡ 48 → IsFormBy seals m bytes → slice_index bytes 12 ≡ sender_in m
+sender_before seals m bytes h is = sym (get_or-take 48 bytes 12 0 (omega arith)) ∙ ap (λ (l : List ℕ). slice_index l 12) (front_of seals m bytes h is)
+
 form_at : (ring : Ring) (m n bytes : List ℕ) → m ≡ n → IsForm ring m bytes → IsForm ring n bytes
 form_at ring m n bytes e is = subst (λ (l : List ℕ). IsForm ring l bytes) e is
 
+both : (a b : Bool) → a ≡ true → b ≡ true → (a && b) ≡ true
+both a b h k = grind arith
+
+each_of : (a b : Bool) → (a && b) ≡ true → (a ≡ true) × (b ≡ true)
+each_of a b h = grind arith
+
 is_open : (ring : Ring) (m bytes : List ℕ) → length m ≡ 48 → IsForm ring m bytes → opens ring bytes ≡ true
 is_open ring m bytes h is =
-    let there = form_at ring m (take 48 bytes) bytes (sym (front_of (seals_by ring m) m bytes h is)) is in
-    opens_some (seals_by ring (take 48 bytes)) (take 48 bytes) bytes there.0 there.1.0 there.1.1 there.1.2
+    let same : take 48 bytes ≡ m = front_of (seals_by ring m) m bytes h is in
+    let there = form_at ring m (take 48 bytes) bytes (sym same) is in
+    both (has_size bytes) _ (sized is.1.0 m bytes h is.1.2)
+    (opens_some (seals_by ring (take 48 bytes)) (untagged bytes) bytes there.0 there.1.0 there.1.1 (of_untagged there.1.0 (take 48 bytes) bytes there.1.2))
 
 open_form : (ring : Ring) (bytes : List ℕ) → opens ring bytes ≡ true → IsForm ring (take 48 bytes) bytes
-open_form ring bytes t = some_opens (seals_by ring (take 48 bytes)) (take 48 bytes) bytes t
+open_form ring bytes t =
+    let fine = each_of (has_size bytes) _ t in
+    let found = some_opens (seals_by ring (take 48 bytes)) (untagged bytes) bytes fine.1 in
+    (found.0, (found.1.0, found.1.1, whole found.1.0 bytes fine.0 found.1.2))
+
+-- what opens has a message in front
+open_size : (ring : Ring) (bytes : List ℕ) → opens ring bytes ≡ true → length (take 48 bytes) ≡ 48
+open_size ring bytes t =
+    let fine = each_of (has_size bytes) _ t in
+    let size = long bytes fine.0 in
+    length-take-le 48 bytes (omega (arith, size))
 
 -- bytes that are a message's sealed form open as it
 pub opens_as : (ring : Ring) (m bytes : List ℕ) → length m ≡ 48 → IsForm ring m bytes → opening_of ring (Came bytes) ≡ Came m ∷ []
 opens_as ring m bytes h is =
     ap (λ (b : Bool). came_open b bytes) (is_open ring m bytes h is) ∙ ap (λ (l : List ℕ). Came l ∷ []) (front_of (seals_by ring m) m bytes h is)
-
--- bytes that are their front's sealed form have a message in front
-pub front_size : (seals : List (List ℕ)) (bytes : List ℕ) → IsFormBy seals (take 48 bytes) bytes → length (take 48 bytes) ≡ 48
-front_size seals bytes is =
-    let seal = is.1.0 in
-    let behind = length-tag seal (take 48 bytes) in
-    let both = length-append (take 48 bytes) (tag seal (take 48 bytes)) in
-    let size = ap length is.1.2 in
-    let front = length-take 48 bytes in
-    omega (arith, behind, both, size, front)
 
 never : (b : Bool) → (b ≡ true → ⊥) → b ≡ false
 never true n = absurd (n refl)
@@ -102,17 +120,14 @@ pub tells_open : (b : Bool) (ring : Ring) (m bytes : List ℕ) → length m ≡ 
     → ((n : List ℕ) → length n ≡ 48 → IsForm ring n bytes → b ≡ true) → b ≡ opens ring bytes
 tells_open true ring m bytes h only each = sym (is_open ring m bytes h (only refl))
 tells_open false ring m bytes h only each = sym (never (opens ring bytes) (λ t.
-    let form = open_form ring bytes t in
-    let is : false ≡ true = each (take 48 bytes) (front_size (seals_by ring (take 48 bytes)) bytes form) form in absurd (cc)))
+    let is : false ≡ true = each (take 48 bytes) (open_size ring bytes t) (open_form ring bytes t) in absurd (cc)))
 
 closed : (b : Bool) (bytes : List ℕ) → (b ≡ true → ⊥) → came_open b bytes ≡ []
 closed b bytes n = grind arith
 
 -- bytes that are no message's sealed form open as nothing
 pub opens_not : (ring : Ring) (bytes : List ℕ) → ((m : List ℕ) → length m ≡ 48 → IsForm ring m bytes → ⊥) → opening_of ring (Came bytes) ≡ []
-opens_not ring bytes none = closed (opens ring bytes) bytes (λ t.
-    let form = open_form ring bytes t in
-    none (take 48 bytes) (front_size (seals_by ring (take 48 bytes)) bytes form) form)
+opens_not ring bytes none = closed (opens ring bytes) bytes (λ t. none (take 48 bytes) (open_size ring bytes t) (open_form ring bytes t))
 
 -- one that came and opens, and one that doesn't
 pub came_more : (ring : Ring) (old new : List Passed) (m bytes : List ℕ) → length m ≡ 48 → IsForm ring m bytes → new ≡ old ++ Came bytes ∷ []
@@ -135,7 +150,7 @@ came_first : (ring : Ring) (bytes : List ℕ) (carried : List Passed) (m : List 
 came_first ring bytes carried m rest true t zero e =
     let form = open_form ring bytes t in
     let is : take 48 bytes ≡ m = cc in
-    (bytes, ap length (sym is) ∙ front_size (seals_by ring (take 48 bytes)) bytes form, form_at ring (take 48 bytes) m bytes is form, (zero, refl))
+    (bytes, ap length (sym is) ∙ open_size ring bytes t, form_at ring (take 48 bytes) m bytes is form, (zero, refl))
 came_first ring bytes carried m rest true t (suc i) e = later ring (Came bytes) carried m (rest i e)
 came_first ring bytes carried m rest false t i e = later ring (Came bytes) carried m (rest i e)
 

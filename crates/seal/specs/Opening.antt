@@ -1,14 +1,15 @@
 -- What passes at a sealed link: the opening of what its carrier carries.
-use Rattle.std.specs.Prelude.{◌≡◌, ℕ, Bool, true, false, List, [], ◌∷◌, bytes_eq, length, slice_get, take, Some}
+use Rattle.std.specs.Prelude.{◌≡◌, ◌&&◌, ℕ, Bool, true, false, List, [], ◌∷◌, bytes_eq, length, slice_get, take, Some}
 use Rattle.std.specs.List.{flat_map, list_any}
 use Rattle.seal.specs.Rings.{IsForm, seals_by}
-use Rattle.seal.specs.Sealed.{sealed}
+use Rattle.seal.specs.Sealed.{has_size, sealed, untagged}
 use Rattle.seal.specs.declared.ring.Ring.{Ring}
 use Rattle.links.specs.Passed.{Passed, Sent, Came}
 
--- the bytes are the sealed form of a message, which is their front, by a seal of who sent it
+-- the bytes are the sealed form of a message, which is their front, by a seal of who sent it: behind it they may have a receipt
 abbrev pub opens : Ring → List ℕ → Bool
-opens ring bytes = list_any (λ seal. bytes_eq bytes (sealed seal (take 48 bytes))) (seals_by ring (take 48 bytes))
+opens ring bytes =
+    has_size bytes && list_any (λ seal. bytes_eq bytes (sealed seal (untagged bytes))) (seals_by ring (take 48 bytes))
 
 -- of bytes that came the message, where they open, and nothing where they don't
 abbrev pub came_open : Bool → List ℕ → List Passed

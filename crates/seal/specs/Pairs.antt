@@ -1,16 +1,22 @@
 -- Each vote is sealed for each hearer, and opens there, by the seal of that pair.
-use Rattle.std.specs.Prelude.{◌≡◌, ◌<◌, ℕ, suc, List, [], ◌∷◌, length, replicate}
+use Rattle.std.specs.Prelude.{◌≡◌, ◌<◌, ℕ, zero, suc, Option, None, Some, List, [], ◌∷◌, length, replicate}
 use Rattle.agree_core.specs.declared.messages.Message.{Message}
 use Rattle.wire.specs.Layout.{sender, written}
-use Rattle.seal.specs.Rings.{Seals, form_for, ring_of_a, ring_of_b, ring_of_board, seal_for, seals_by, sender_in, tagged}
-use Rattle.seal.specs.Sealed.{sealed}
+use Rattle.seal.specs.Receipts.{handed_back}
+use Rattle.seal.specs.Rings.{Seals, form_for, receipt_of, ring_of_a, ring_of_b, ring_of_board, seal_for, seals_by, sender_in, tagged}
+use Rattle.seal.specs.Sealed.{covered, sealed}
 use Rattle.seal.specs.declared.ring.Ring.{Ring}
 
--- what goes to a peer is the message, sealed by the seal of that peer
+-- the receipt that a message has for a peer
+abbrev pub receipt_for : ℕ → Ring → List ℕ → Option (List ℕ)
+receipt_for zero ring message = None
+receipt_for (suc n) ring message = receipt_of ring message
+
+-- what goes to a peer is the message, with the receipt that is for that peer, sealed by the seal of that peer
 abbrev pub EachHasItsForm : Type 0
 EachHasItsForm =
     (ring : Ring) (peer : ℕ) (message : List ℕ) → length message ≡ 48 → peer < length ring.seals
-    → form_for peer (tagged ring message) ≡ sealed (seal_for ring peer) message
+    → form_for peer (tagged ring message) ≡ sealed (seal_for ring peer) (covered message (receipt_for peer ring message))
 
 -- the sender in a message's bytes is who sends it: a vote's desk, or who asks
 abbrev pub EachNamesItsSender : Type 0
@@ -29,8 +35,8 @@ pub record SealsByPair (seals : Seals) : Type 0 where
 abbrev pub of_boards : (ℕ → List ℕ) → List (List ℕ)
 of_boards shared = shared 1 ∷ shared 2 ∷ shared 3 ∷ shared 4 ∷ []
 
--- and by which a message opens, with the number of its sender. A desk's own number is in what a board hands back to it. What opens
--- at a board as a desk's vote has a seal that no other board has.
+-- and by which a message opens, with the number of its sender. A desk's own number is in what a board hands back to it: that opens
+-- by the seal of both desks, which no board has. What opens at a board as a desk's vote has a seal that no other board has.
 pub record OpensByPair (seals : Seals) (message : List ℕ) : Type 0 where
   pub b_at_a : sender_in message ≡ 2 → seals_by (ring_of_a seals) message ≡ seals.desks ∷ []
   pub a_at_b : sender_in message ≡ 1 → seals_by (ring_of_b seals) message ≡ seals.desks ∷ []
@@ -38,5 +44,11 @@ pub record OpensByPair (seals : Seals) (message : List ℕ) : Type 0 where
   pub b_at_board : (n : ℕ) → sender_in message ≡ 2 → seals_by (ring_of_board seals n) message ≡ replicate 4 (seals.b n)
   pub board_at_a : sender_in message ≡ 3 → seals_by (ring_of_a seals) message ≡ of_boards seals.a
   pub board_at_b : sender_in message ≡ 3 → seals_by (ring_of_b seals) message ≡ of_boards seals.b
-  pub own_at_a : sender_in message ≡ 1 → seals_by (ring_of_a seals) message ≡ of_boards seals.a
-  pub own_at_b : sender_in message ≡ 2 → seals_by (ring_of_b seals) message ≡ of_boards seals.b
+  pub own_at_a : sender_in message ≡ 1 → seals_by (ring_of_a seals) message ≡ seals.desks ∷ []
+  pub own_at_b : sender_in message ≡ 2 → seals_by (ring_of_b seals) message ≡ seals.desks ∷ []
+
+-- A board that hands a vote back with the receipt that came with it hands back, to whichever peer, what that desk sealed for the
+-- other one: so it opens at the desk.
+pub record HandedBackIsTheDesks (seals : Seals) (message receipt : List ℕ) (peer : ℕ) : Type 0 where
+  pub of_a : receipt_of (ring_of_a seals) message ≡ Some receipt → form_for peer (handed_back message receipt) ≡ sealed seals.desks message
+  pub of_b : receipt_of (ring_of_b seals) message ≡ Some receipt → form_for peer (handed_back message receipt) ≡ sealed seals.desks message

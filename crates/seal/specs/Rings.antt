@@ -1,8 +1,8 @@
 -- Rings: the seals of a station, one that it shares with each of its peers. A desk's first peer is the other desk, and the others
 -- are boards. A board's first peer is desk A, and all others are desk B.
-use Rattle.std.specs.Prelude.{◌≡◌, ℕ, Some, List, [], ◌∷◌, ◌++◌, drop, if◌then◌else◌, map, nat_eq, replicate, slice_get, slice_index, slice_index_or, take}
+use Rattle.std.specs.Prelude.{◌≡◌, ◌&&◌, ℕ, zero, suc, Bool, false, true, None, Option, Some, List, [], ◌∷◌, ◌++◌, drop, if◌then◌else◌, map, nat_eq, not, replicate, slice_get, slice_index, slice_index_or, take}
 use Rattle.agree_core.specs.declared.messages.Asker.{Asker}
-use Rattle.seal.specs.Sealed.{sealed, tag}
+use Rattle.seal.specs.Sealed.{IsSealed, covered, tag}
 use Rattle.seal.specs.declared.carrier.TaggedMessage.{TaggedMessage}
 use Rattle.seal.specs.declared.ring.Ring.{Ring}
 
@@ -10,9 +10,23 @@ use Rattle.seal.specs.declared.ring.Ring.{Ring}
 abbrev pub sender_in : List ℕ → ℕ
 sender_in message = slice_index message 12
 
--- the seals by which a message of who has this number opens: the first peer's own, or those of all others
+-- it is a vote
+abbrev pub is_vote : List ℕ → Bool
+is_vote message = nat_eq (slice_index message 3) 1
+
+abbrev pub is_desk : Asker → Bool
+is_desk Asker.Board = false
+is_desk desk = true
+
+-- A message of who has this number opens at a station by the seal that it shares with its first peer: at a desk a desk's, its own
+-- too, and at a board desk A's.
+abbrev pub is_by_first : Asker → ℕ → Bool
+is_by_first Asker.Board sender = nat_eq sender 1
+is_by_first desk sender = not (nat_eq sender 3)
+
+-- the seals by which it opens: the first peer's own, or those of all others
 abbrev pub seals_of : Ring → ℕ → List (List ℕ)
-seals_of ring sender = if nat_eq sender ring.first_sender then take 1 ring.seals else drop 1 ring.seals
+seals_of ring sender = if is_by_first ring.station sender then take 1 ring.seals else drop 1 ring.seals
 
 -- those by which a message opens
 abbrev pub seals_by : Ring → List ℕ → List (List ℕ)
@@ -21,33 +35,47 @@ seals_by ring message = seals_of ring (sender_in message)
 -- bytes are the sealed form of a message by one of these seals
 abbrev pub IsFormBy : List (List ℕ) → List ℕ → List ℕ → Type 0
 IsFormBy seals message bytes =
-    (i : ℕ) × ((seal : List ℕ) × (slice_get seals i ≡ Some seal) × (bytes ≡ sealed seal message))
+    (i : ℕ) × ((seal : List ℕ) × (slice_get seals i ≡ Some seal) × IsSealed seal message bytes)
 
 -- they are the form in which a message comes from who sent it
 abbrev pub IsForm : Ring → List ℕ → List ℕ → Type 0
 IsForm ring message bytes = IsFormBy (seals_by ring message) message bytes
 
--- a message with its tags, one for each peer
-abbrev pub tagged : Ring → List ℕ → TaggedMessage
-tagged ring message = record { message = message; tags = map (λ seal. tag seal message) ring.seals }
-
--- what of that goes to a peer: the message, and this peer's tag
-abbrev pub form_for : ℕ → TaggedMessage → List ℕ
-form_for peer sent = sent.message ++ slice_index_or sent.tags peer []
-
 -- the seal of what goes to a peer
 abbrev pub seal_for : Ring → ℕ → List ℕ
 seal_for ring peer = slice_index_or ring.seals peer []
 
--- the number of who is the first peer of a station
-abbrev pub first_sender : Asker → ℕ
-first_sender Asker.A = 2
-first_sender Asker.B = 1
-first_sender Asker.Board = 1
+-- a desk with keys for each pair gives boards a receipt of each vote: the tag that it makes of it for the other desk
+abbrev pub gives_receipt : Ring → List ℕ → Bool
+gives_receipt ring message = ring.is_of_pairs && is_desk ring.station && is_vote message
 
--- a station's ring, of its seals
-abbrev pub ring_of : Asker → List (List ℕ) → Ring
-ring_of station seals = record { seals = seals; first_sender = first_sender station }
+abbrev pub receipt_of : Ring → List ℕ → Option (List ℕ)
+receipt_of ring message = if gives_receipt ring message then Some (tag (seal_for ring 0) message) else None
+
+-- a message's tags, one for each peer: for the first of the message alone, for all others of it and its receipt
+abbrev pub tags_of : List (List ℕ) → List ℕ → Option (List ℕ) → List (List ℕ)
+tags_of [] message receipt = []
+tags_of (first ∷ others) message receipt = tag first message ∷ map (λ seal. tag seal (covered message receipt)) others
+
+-- a message with its receipt and its tags
+abbrev pub tagged : Ring → List ℕ → TaggedMessage
+tagged ring message = record {
+  message = message;
+  receipt = receipt_of ring message;
+  tags = tags_of ring.seals message (receipt_of ring message);
+}
+
+-- what of that goes to a peer: the message, to others than the first with the receipt, and this peer's tag
+abbrev pub covered_for : ℕ → TaggedMessage → List ℕ
+covered_for zero sent = sent.message
+covered_for (suc n) sent = covered sent.message sent.receipt
+
+abbrev pub form_for : ℕ → TaggedMessage → List ℕ
+form_for peer sent = covered_for peer sent ++ slice_index_or sent.tags peer []
+
+-- a station's ring, of its seals, and whether they are of keys for each pair
+abbrev pub ring_of : Asker → List (List ℕ) → Bool → Ring
+ring_of station seals is_of_pairs = record { station = station; seals = seals; is_of_pairs = is_of_pairs }
 
 -- the seals of a match, one for each pair of those who hear each other's votes: both desks; desk A and each board; desk B and each
 -- board
@@ -66,10 +94,10 @@ board_seals a b = a ∷ replicate 4 b
 
 -- the rings of the stations of such a match, boards counted from 1. None has all seals.
 abbrev pub ring_of_a : Seals → Ring
-ring_of_a seals = ring_of Asker.A (desk_seals seals.desks seals.a)
+ring_of_a seals = ring_of Asker.A (desk_seals seals.desks seals.a) true
 
 abbrev pub ring_of_b : Seals → Ring
-ring_of_b seals = ring_of Asker.B (desk_seals seals.desks seals.b)
+ring_of_b seals = ring_of Asker.B (desk_seals seals.desks seals.b) true
 
 abbrev pub ring_of_board : Seals → ℕ → Ring
-ring_of_board seals n = ring_of Asker.Board (board_seals (seals.a n) (seals.b n))
+ring_of_board seals n = ring_of Asker.Board (board_seals (seals.a n) (seals.b n)) true

@@ -9,18 +9,23 @@ use links::{Receivers, Taken};
 use std::snapshot::Snapshot;
 use wire::MessageBytes;
 
-/// A sealed datagram: a message's bytes, and the 16 of its tag.
+/// A tag.
+pub type Tag = [u8; 16];
+
+/// A sealed datagram without a receipt: a message's bytes, and the 16 of its tag.
 pub type SealedBytes = [u8; 64];
 
-/// A message that is sent, and its tag for each of five peers. Each is sent its own alone (`form_for`).
+/// A message that is sent, its tag for each of five peers, and the receipt that it has, if any, for all but the first of these. Each
+/// is sent its own alone (`form_for`).
 #[derive(Clone, Copy)]
 pub struct TaggedMessage {
     pub message: MessageBytes,
-    pub tags: [[u8; 16]; 5],
+    pub receipt: Option<Tag>,
+    pub tags: [Tag; 5],
 }
 
 /// How many bytes of a sealed datagram are taken at most: more than it has, so that a longer one is seen as such.
-pub const SEALED_ROOM: usize = 65;
+pub const SEALED_ROOM: usize = 81;
 
 /// Room for a sealed datagram that is taken.
 pub type SealedBuffer = [u8; SEALED_ROOM];
@@ -49,7 +54,7 @@ pub trait SealedCarrier {
     /// Takes the next datagram that came from a peer: the front of the buffer. One is waited for, so many milliseconds at
     /// most, and no longer than until a scorer may have typed. Others' datagrams, and those whose taking fails, are lost.
     fn bring(&mut self, buffer: &mut SealedBuffer, wait: u64) -> Taken
-        ensures { IsTakenUpTo 65 result buffer.new (carried self.old) (carried self.new) };
+        ensures { IsTakenUpTo 81 result buffer.new (carried self.old) (carried self.new) };
 }
 
 /// Every message that was sent with its tags, and every datagram that came, in order. Clauses alone read it.

@@ -5,10 +5,11 @@ mod carrier;
 mod datagram;
 mod laws;
 mod link;
+mod receipts;
 mod ring;
 
 pub use carrier::{
-    CarriedLog, SEALED_ROOM, SealedBuffer, SealedBytes, SealedCarrier, TaggedMessage,
+    CarriedLog, SEALED_ROOM, SealedBuffer, SealedBytes, SealedCarrier, Tag, TaggedMessage,
 };
 pub use datagram::{Seal, hmac};
 pub use laws::{
@@ -16,4 +17,5 @@ pub use laws::{
     worked_tags,
 };
 pub use link::Sealed;
-pub use ring::{MOST_PEERS, Opener, Ring, form_for};
+pub use receipts::{MOST_RECEIPTS, Receipts};
+pub use ring::{MOST_PEERS, Opener, Ring, SealedForm, form_for};

@@ -1,27 +1,75 @@
 //! A link whose datagrams are sealed.
 
-ghost use Rattle.std.specs.Prelude.{◌≡◌};
+ghost use Rattle.std.specs.Prelude.{◌≡◌, ◌∷◌, ◌++◌, []};
+ghost use Rattle.links.specs.Passed.{IsTaken, Sent};
+ghost use Rattle.links.specs.declared.link.Receivers.TheVariants.{ToAll, ToOne};
+ghost use Rattle.seal.specs.Receipts as laws;
+ghost use Rattle.seal.specs.Tagged.{bytes_of};
 
-use crate::carrier::{SEALED_ROOM, SealedCarrier};
+use crate::carrier::{SEALED_ROOM, SealedCarrier, Tag, TaggedMessage};
+use crate::datagram::{SEALED_WITH_RECEIPT, TAG};
+use crate::receipts::Receipts;
 use crate::ring::Ring;
 use links::{DatagramBuffer, Link, PeerLink, Taken};
 use wire::{MessageBytes, SIZE};
 
+/// A message with this tag for whoever is sent it.
+fn handed_back(message: &MessageBytes, receipt: Tag) -> TaggedMessage
+    ensures { result ≡ laws.handed_back message.now receipt }
+{
+    TaggedMessage {
+        message: *message,
+        receipt: None,
+        tags: [receipt; 5],
+    }
+}
+
+/// What goes out for a message: with the receipt that is kept for it, if there is one, in place of the station's own tags.
+fn outgoing(ring: &Ring, receipts: &Receipts, message: &MessageBytes) -> TaggedMessage
+    ensures { result ≡ laws.outgoing ring.now receipts.now message.now }
+{
+    match receipts.kept_for(message) {
+        Some(receipt) => handed_back(message, receipt),
+        None => ring.tagged(message),
+    }
+}
+
+/// Keeps the receipt in bytes that opened, where they have one and the station keeps it.
+fn keep(ring: &Ring, receipts: &mut Receipts, bytes: &[u8])
+    ensures { laws.IsKeptOf ring.now receipts.old receipts.new bytes.now }
+{
+    if !ring.keeps_receipts() || bytes.len() != SEALED_WITH_RECEIPT {
+        return;
+    }
+    let mut message = [0; SIZE];
+    message.copy_from_slice(&bytes[..SIZE]);
+    let mut receipt = [0; TAG];
+    receipt.copy_from_slice(&bytes[SIZE..SIZE + TAG]);
+    receipts.keep(&message, &receipt);
+}
+
 /// A link that seals what is sent for each peer, and opens what comes by the seal of who sent it. What doesn't open is told as
-/// such, and nothing of it is handed on: so what is taken was opened, whatever the carrier brings.
+/// such, and nothing of it is handed on: so what is taken was opened, whatever the carrier brings. At a board with keys for each pair
+/// it keeps the receipts of desks' votes, and a vote for which it has one goes out with that.
 #[derive(Drop)]
 pub struct Sealed<R> {
     carrier: R,
     ring: Ring,
+    receipts: Receipts,
 }
 
 impl<R: SealedCarrier> Sealed<R> {
-    /// A link over a carrier, with the seals of a station.
-    pub fn new(carrier: R, ring: Ring) -> Sealed<R>
+    /// A link over a carrier, with the seals of a station and the receipts that it keeps.
+    pub fn new(carrier: R, ring: Ring, receipts: Receipts) -> Sealed<R>
         ensures carrier { result.carrier ≡ carrier }
         ensures ring { result.ring ≡ ring }
+        ensures receipts { result.receipts ≡ receipts }
     {
-        Sealed { carrier, ring }
+        Sealed {
+            carrier,
+            ring,
+            receipts,
+        }
     }
 
     /// What carries its sealed datagrams.
@@ -37,21 +85,42 @@ impl<R: SealedCarrier> Link for Sealed<R> {
 
     ghost log = { λ sealed. opening sealed.ring (R.carried sealed.carrier) };
 
-    fn send(&mut self, bytes: &MessageBytes) {
-        self.carrier.carry(&self.ring.tagged(bytes));
+    fn send(&mut self, bytes: &MessageBytes)
+        ensures log { opening self.new.ring (R.carried self.new.carrier)
+            ≡ opening self.old.ring (R.carried self.old.carrier) ++ Sent ToAll bytes.now ∷ [] }
+        ensures sent { R.carried self.new.carrier
+            ≡ R.carried self.old.carrier ++ Sent ToAll (bytes_of (laws.outgoing self.old.ring self.old.receipts bytes.now)) ∷ [] }
+        ensures same { (self.new.ring ≡ self.old.ring) × (self.new.receipts ≡ self.old.receipts) }
+    {
+        self.carrier
+            .carry(&outgoing(&self.ring, &self.receipts, bytes));
     }
 
-    fn reply(&mut self, bytes: &MessageBytes) {
-        self.carrier.carry_back(&self.ring.tagged(bytes));
+    fn reply(&mut self, bytes: &MessageBytes)
+        ensures log { opening self.new.ring (R.carried self.new.carrier)
+            ≡ opening self.old.ring (R.carried self.old.carrier) ++ Sent ToOne bytes.now ∷ [] }
+        ensures sent { R.carried self.new.carrier
+            ≡ R.carried self.old.carrier ++ Sent ToOne (bytes_of (laws.outgoing self.old.ring self.old.receipts bytes.now)) ∷ [] }
+        ensures same { (self.new.ring ≡ self.old.ring) × (self.new.receipts ≡ self.old.receipts) }
+    {
+        self.carrier
+            .carry_back(&outgoing(&self.ring, &self.receipts, bytes));
     }
 
-    fn take(&mut self, buffer: &mut DatagramBuffer, wait: u64) -> Taken {
+    fn take(&mut self, buffer: &mut DatagramBuffer, wait: u64) -> Taken
+        ensures taken { IsTaken result buffer.new (opening self.old.ring (R.carried self.old.carrier))
+            (opening self.new.ring (R.carried self.new.carrier)) }
+        ensures kept { laws.KeepsOf self.old.ring result self.old.receipts self.new.receipts
+            (R.carried self.old.carrier) (R.carried self.new.carrier) }
+        ensures same { self.new.ring ≡ self.old.ring }
+    {
         let mut sealed = [0; SEALED_ROOM];
         let count = match self.carrier.bring(&mut sealed, wait) {
             Taken::Datagram(count) => count,
             missed => return missed,
         };
         if self.ring.opened(&sealed[..count], buffer) {
+            keep(&self.ring, &mut self.receipts, &sealed[..count]);
             Taken::Datagram(SIZE)
         } else {
             Taken::Unopened
@@ -60,8 +129,17 @@ impl<R: SealedCarrier> Link for Sealed<R> {
 }
 
 impl<R: SealedCarrier> PeerLink for Sealed<R> {
-    fn send_to(&mut self, peer: usize, bytes: &MessageBytes) {
-        self.carrier.carry_to(peer, &self.ring.tagged(bytes));
+    ghost use Rattle.seal.specs.Opening.{opening};
+
+    fn send_to(&mut self, peer: usize, bytes: &MessageBytes)
+        ensures log { opening self.new.ring (R.carried self.new.carrier)
+            ≡ opening self.old.ring (R.carried self.old.carrier) ++ Sent ToOne bytes.now ∷ [] }
+        ensures sent { R.carried self.new.carrier
+            ≡ R.carried self.old.carrier ++ Sent ToOne (bytes_of (laws.outgoing self.old.ring self.old.receipts bytes.now)) ∷ [] }
+        ensures same { (self.new.ring ≡ self.old.ring) × (self.new.receipts ≡ self.old.receipts) }
+    {
+        self.carrier
+            .carry_to(peer, &outgoing(&self.ring, &self.receipts, bytes));
     }
 
     fn last_peer(&self) -> usize {

@@ -1,12 +1,15 @@
 //! A station's seals, one for each of its peers, and by which of them what comes opens.
 
-ghost use Rattle.std.specs.Prelude.{◌≡◌, ◌<◌, ◌≤◌, ◌+◌, ℕ, List, drop, false, if◌then◌else◌, length, nat_eq, slice_get, take, true};
+ghost use Rattle.std.specs.Prelude.{◌≡◌, ◌<◌, ◌≤◌, ◌+◌, ◌++◌, [], ℕ, List, drop, false, if◌then◌else◌, length, nat_eq, slice_get, take, true};
+ghost use Rattle.arrayvec.specs.ArrayVec.{array_vec_len};
+ghost use Rattle.seal.specs.Receipts.{keeps};
 ghost use Rattle.seal.specs.Rings as rings;
-ghost use Rattle.seal.specs.Sealed.{sealed};
+ghost use Rattle.seal.specs.Sealed.{covered, sealed};
 
-use crate::carrier::{SealedBytes, TaggedMessage};
-use crate::datagram::{SEALED, Seal, joined};
+use crate::carrier::{Tag, TaggedMessage};
+use crate::datagram::{Seal, has_size};
 use agree_core::Asker;
+use arrayvec::ArrayVec;
 use links::{DatagramBuffer, ROOM};
 use wire::MessageBytes;
 
@@ -14,23 +17,63 @@ use wire::MessageBytes;
 pub const MOST_PEERS: usize = 5;
 
 /// Where the number of its sender stands in a message.
-const SENDER: usize = 12;
+pub const SENDER: usize = 12;
 
-/// What goes to a peer of a message with its tags: the message, and the tag that is for this peer.
-pub fn form_for(peer: usize, message: &TaggedMessage) -> SealedBytes
-    requires { peer < 5 }
-    ensures { result ≡ rings.form_for peer message.now }
+/// Where the kind of a message stands in it: 1 is a vote.
+const KIND: usize = 3;
+
+/// A sealed datagram, with a receipt or without.
+pub type SealedForm = ArrayVec<u8, 80>;
+
+/// Puts bytes behind others, where there is room.
+fn put(form: &mut SealedForm, bytes: &[u8])
+    requires { array_vec_len form.old + length bytes.now ≤ 80 }
+    ensures items { form.new.items ≡ form.old.items ++ bytes.now }
+    ensures len { array_vec_len form.new ≡ array_vec_len form.old + length bytes.now }
 {
-    joined(&message.message, &message.tags[peer])
+    let _fits = form.try_extend_from_slice(bytes);
 }
 
-/// The number of the first peer of a station, as it stands in messages: the other desk of a desk, and desk A of a board.
-fn first_sender(station: Asker) -> u8
-    ensures { result ≡ rings.first_sender station }
+/// Puts a tag behind a message.
+fn put_tag(form: &mut SealedForm, tag: &Tag)
+    requires { array_vec_len form.old ≤ 64 }
+    ensures items { form.new.items ≡ form.old.items ++ tag.now }
+    ensures len { array_vec_len form.new ≡ array_vec_len form.old + 16 }
+{
+    put(form, tag.as_slice());
+}
+
+/// A message, and its receipt where it has one.
+fn covered_by(message: &MessageBytes, receipt: Option<Tag>) -> SealedForm
+    ensures items { result.items ≡ covered message.now receipt }
+    ensures len { array_vec_len result ≤ 64 }
+{
+    let mut form = SealedForm::new();
+    put(&mut form, message.as_slice());
+    if let Some(receipt) = receipt {
+        put_tag(&mut form, &receipt);
+    }
+    form
+}
+
+/// What goes to a peer of a message with its tags: the message, its receipt but for the first peer, and the tag that is for this peer.
+pub fn form_for(peer: usize, message: &TaggedMessage) -> SealedForm
+    requires { peer < 5 }
+    ensures { result.items ≡ rings.form_for peer message.now }
+{
+    let receipt = if peer == 0 { None } else { message.receipt };
+    let mut form = covered_by(&message.message, receipt);
+    put_tag(&mut form, &message.tags[peer]);
+    form
+}
+
+/// Whether a message of who has this number opens at a station by the seal that it shares with its first peer.
+fn is_by_first(station: Asker, sender: u8) -> bool
+    ensures { result ≡ rings.is_by_first station sender }
 {
     match station {
-        Asker::A => 2,
-        Asker::B | Asker::Board => 1,
+        Asker::A | Asker::B => sender != 3,
+        Asker::Board => sender == 1,
     }
 }
 
@@ -54,19 +97,21 @@ fn opened_by(seals: &[Seal], bytes: &[u8], buffer: &mut DatagramBuffer) -> bool
 /// board's first peer is desk A, and all others are desk B.
 #[derive(Drop)]
 pub struct Ring {
+    station: Asker,
     seals: [Seal; MOST_PEERS],
-    /// The number of the first peer, as it stands in messages.
-    first_sender: u8,
+    /// Whether they are of keys for each pair.
+    is_of_pairs: bool,
 }
 
 impl Ring {
-    /// The ring of a station, of the seals that it shares with its peers.
-    pub fn new(station: Asker, seals: [Seal; MOST_PEERS]) -> Ring
-        ensures { result ≡ rings.ring_of station seals }
+    /// The ring of a station, of the seals that it shares with its peers, and whether they are of keys for each pair.
+    pub fn new(station: Asker, seals: [Seal; MOST_PEERS], is_of_pairs: bool) -> Ring
+        ensures { result ≡ rings.ring_of station seals is_of_pairs }
     {
         Ring {
+            station,
             seals,
-            first_sender: first_sender(station),
+            is_of_pairs,
         }
     }
 
@@ -76,6 +121,7 @@ impl Ring {
     {
         let [first, second, third, fourth, fifth] = &self.seals;
         Ring {
+            station: self.station,
             seals: [
                 first.copied(),
                 second.copied(),
@@ -83,7 +129,7 @@ impl Ring {
                 fourth.copied(),
                 fifth.copied(),
             ],
-            first_sender: self.first_sender,
+            is_of_pairs: self.is_of_pairs,
         }
     }
 
@@ -104,19 +150,42 @@ impl Ring {
         }
     }
 
-    /// A message with its tags, one for each peer.
+    /// Whether this is a board's ring, of keys for each pair: then it keeps receipts.
+    pub fn keeps_receipts(&self) -> bool
+        ensures { result ≡ keeps self.now }
+    {
+        self.is_of_pairs && matches!(self.station, Asker::Board)
+    }
+
+    /// Whether a message is a desk's vote, and the desk gives boards a receipt of it.
+    fn gives_receipt(&self, message: &MessageBytes) -> bool
+        ensures { result ≡ rings.gives_receipt self.now message.now }
+    {
+        self.is_of_pairs && !matches!(self.station, Asker::Board) && message[KIND] == 1
+    }
+
+    /// A message with its tags, one for each peer, and with the receipt that a desk gives boards of a vote.
     pub fn tagged(&self, message: &MessageBytes) -> TaggedMessage
         ensures { result ≡ rings.tagged self.now message.now }
     {
         let [first, second, third, fourth, fifth] = &self.seals;
+        let tag = first.tag(message.as_slice());
+        let receipt = if self.gives_receipt(message) {
+            Some(tag)
+        } else {
+            None
+        };
+        let covered = covered_by(message, receipt);
+        let covered = covered.as_slice();
         TaggedMessage {
             message: *message,
+            receipt,
             tags: [
-                first.tag(message.as_slice()),
-                second.tag(message.as_slice()),
-                third.tag(message.as_slice()),
-                fourth.tag(message.as_slice()),
-                fifth.tag(message.as_slice()),
+                tag,
+                second.tag(covered),
+                third.tag(covered),
+                fourth.tag(covered),
+                fifth.tag(covered),
             ],
         }
     }
@@ -126,7 +195,7 @@ impl Ring {
         ensures { result.now ≡ rings.seals_of self.now sender }
     {
         let seals = &self.seals[..];
-        if sender == self.first_sender {
+        if is_by_first(self.station, sender) {
             &seals[..1]
         } else {
             &seals[1..]
@@ -141,7 +210,7 @@ impl Ring {
             → rings.IsForm self.now message bytes.now → (result ≡ true) × (take 48 buffer.new ≡ message) }
         ensures none { result ≡ false → buffer.new ≡ buffer.old }
     {
-        if bytes.len() != SEALED {
+        if !has_size(bytes) {
             return false;
         }
         opened_by(self.seals_of(bytes[SENDER]), bytes, buffer)

@@ -1,5 +1,5 @@
 -- Keys: one for all stations, or one for each pair of those who hear each other's votes; in files, and a new one's text.
-use Rattle.std.specs.Prelude.{ℕ, ◌≡◌, ◌≤◌, ◌⊎◌, ◌+◌, List, [], ◌∷◌, ◌++◌, codes, length, replicate, take}
+use Rattle.std.specs.Prelude.{ℕ, false, true, ◌≡◌, ◌≤◌, ◌⊎◌, ◌+◌, List, [], ◌∷◌, ◌++◌, codes, length, replicate, take}
 use Rattle.std.specs.Str.{IsTrimAsciiEnd}
 use Rattle.hex.specs.Hex.{encode_lower}
 use Rattle.agree_core.specs.declared.messages.Asker.{Asker}
@@ -57,14 +57,14 @@ IsPlainKey bytes key = IsKey bytes key × (take (length owner_front) bytes ≡ o
 
 -- a station's ring where all have one seal
 abbrev pub ring_of_one : Asker → List ℕ → Ring
-ring_of_one station seal = ring_of station (replicate 5 seal)
+ring_of_one station seal = ring_of station (replicate 5 seal) false
 
 -- a station's ring, of its file of these bytes and this digest of the sheet: of one key, or of two
 abbrev pub HasRing : List ℕ → Asker → List ℕ → Ring → Type 0
 HasRing bytes station digest ring =
     ((key : List ℕ) × IsPlainKey bytes key × (ring ≡ ring_of_one station (seal_of key digest)))
     ⊎ ((first : List ℕ) × ((second : List ℕ) × HasPairKeys bytes station first second
-    × (ring ≡ ring_of station (pair_seals station first second digest))))
+    × (ring ≡ ring_of station (pair_seals station first second digest) true)))
 
 -- the same of a file of some bytes
 abbrev pub IsRingOfSome : Asker → List ℕ → Ring → Type 0

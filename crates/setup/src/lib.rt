@@ -25,11 +25,11 @@ pub use crate::key_fault::KeyFault;
 pub use crate::key_owner::{KEY_OWNERS, KeyOwner};
 pub use crate::opening::{Output, bytes_at, old_votes_at, open_input, output, sheet_at};
 pub use crate::pair_keys::{KeyDigits, board_key, key_digits, pair_text};
-pub use crate::sealing::{Sealing, StationLink, key_in, station_of};
+pub use crate::sealing::{Sealing, StationLink, station_of};
 pub use crate::sheet::sheet_run;
 pub use crate::short_sheet::{
-    LONGEST_CARD_SHEET, LONGEST_SHEET, SheetFile, card_sheet_at, sheet_file_at, short_sheet_at,
-    short_sheet_bytes, short_sheet_of, stations_at, tell_station,
+    SheetFile, card_sheet_at, sheet_file_at, short_sheet_at, short_sheet_bytes, short_sheet_of,
+    stations_at, tell_station,
 };
 pub use crate::twins::tell_twins;
 pub use crate::votes_file::{

@@ -13,6 +13,7 @@ use entry_log::OldSlots;
 use machine::{Address, MOST_PEERS, Peers, StandardStream, WaitEnds};
 use machine_files::{FileDisk, OpenFault};
 use seal::Opener;
+use std::cell::Cell;
 use std::fs::File;
 use std::io::{BufWriter, Write};
 use std::net::{Net, SocketAddr};
@@ -93,18 +94,20 @@ pub fn output(rt: &HostRuntime) -> Result<Output<'_>, Stopped<'static>> {
     Ok(Watched::new(printer(rt)?))
 }
 
-/// A station's socket at its address, in the match whose datagrams this opens, and what else ends its waits.
-pub fn peers_at<'a, E: Write + Drop>(
+/// A station's socket at its address, in the match whose datagrams this opens, and what else ends its waits; where that is the
+/// page, it is noted.
+pub fn peers_at<'a, 'w, E: Write + Drop>(
     net: &impl Net,
     at: Address<'a>,
     peers: [Option<SocketAddr>; MOST_PEERS],
     ends: WaitEnds,
+    called: &'w Cell<bool>,
     opener: Opener,
     errors: E,
-) -> Result<Peers<E>, Stopped<'a>>
+) -> Result<Peers<'w, E>, Stopped<'a>>
     ensures { IfOk result (λ peers. carried_of peers.log ≡ []) }
 {
-    match Peers::new(net, at.socket, peers, ends, opener, errors) {
+    match Peers::new(net, at.socket, peers, ends, called, opener, errors) {
         Ok(peers) => Ok(peers),
         Err(_) => Err(Stopped {
             path: at.text,

@@ -19,8 +19,9 @@ use hex::encode_to_slice;
 use links::Window;
 use machine::{Address, MOST_PEERS, MonotonicClock, Peers, WaitEnds};
 use machine_files::is_same_file;
-use seal::{Ring, Seal, Sealed};
+use seal::{Receipts, Ring, Seal, Sealed};
 use std::alloc::Global;
+use std::cell::Cell;
 use std::fs;
 use std::io::{self, Write};
 use std::net::SocketAddr;
@@ -28,7 +29,7 @@ use std::os::unix::fs::MetadataExt;
 use streams::{Feed, Watched, read_all};
 
 /// A station's link: in a window, over sealed datagrams, at a socket.
-pub type StationLink<'r, E> = Window<Sealed<Peers<E>>, MonotonicClock<'r, HostRuntime>>;
+pub type StationLink<'r, 'w, E> = Window<Sealed<Peers<'w, E>>, MonotonicClock<'r, HostRuntime>>;
 
 /// How many bytes a key has at least.
 pub const SHORTEST_KEY: usize = 16;
@@ -107,7 +108,7 @@ fn ring_of_one(key: &[u8], station: Asker, digest: &[u8; 32]) -> Ring
     let seal = Seal::new(key, digest);
     let (second, third) = (seal.copied(), seal.copied());
     let (fourth, fifth) = (seal.copied(), seal.copied());
-    Ring::new(station, [seal, second, third, fourth, fifth])
+    Ring::new(station, [seal, second, third, fourth, fifth], false)
 }
 
 /// The seal that a desk shares with a board, of the second key in the desk's file.
@@ -154,7 +155,7 @@ fn ring_of_pairs(
         Asker::A | Asker::B => desk_seals(first, second, digest),
         Asker::Board => board_seals(first, second, digest),
     };
-    Ok(Ring::new(station, seals))
+    Ok(Ring::new(station, seals, true))
 }
 
 /// The seals of a station, of the bytes of its key's file and the digest of the sheet.
@@ -381,29 +382,37 @@ impl Sealing {
         }
     }
 
-    /// A station's sealed datagrams at its address, of which none passed yet. Its waits end for these too.
-    pub fn sealed_at<'a, E: Write + Drop>(
+    /// Room for the receipts that a board with keys for each pair keeps of desks' votes, none yet.
+    fn receipts<'a>(&self, alloc: Global, path: &'a str) -> Result<Receipts, Stopped<'a>> {
+        Receipts::of(alloc, &self.ring).map_err(|_| Stopped::at(path, StopFault::NoMemory))
+    }
+
+    /// A station's sealed datagrams at its address, of which none passed yet. Its waits end for these too: where that is for
+    /// their page, it is noted.
+    pub fn sealed_at<'a, 'w, E: Write + Drop>(
         &self,
         rt: &HostRuntime,
         at: Address<'a>,
         peers: [Option<SocketAddr>; MOST_PEERS],
         ends: WaitEnds,
+        called: &'w Cell<bool>,
         errors: E,
-    ) -> Result<Sealed<Peers<E>>, Stopped<'a>>
+    ) -> Result<Sealed<Peers<'w, E>>, Stopped<'a>>
         ensures ring { IfOk result (λ sealed. sealed.ring ≡ self.now.ring) }
         ensures log { IfOk result (λ sealed. carried_of sealed.carrier.log ≡ []) }
     {
-        let peers = peers_at(rt, at, peers, ends, self.ring.opener(), errors)?;
-        Ok(Sealed::new(peers, self.ring.copied()))
+        let receipts = self.receipts(rt.alloc(), at.text)?;
+        let peers = peers_at(rt, at, peers, ends, called, self.ring.opener(), errors)?;
+        Ok(Sealed::new(peers, self.ring.copied(), receipts))
     }
 
     /// A station's link over its sealed datagrams, of which none passed yet. It has no socket but theirs.
-    pub fn link_over<'r, E: Write + Drop>(
+    pub fn link_over<'r, 'w, E: Write + Drop>(
         &self,
         alloc: Global,
         clock: MonotonicClock<'r, HostRuntime>,
-        sealed: Sealed<Peers<E>>,
-    ) -> StationLink<'r, E>
+        sealed: Sealed<Peers<'w, E>>,
+    ) -> StationLink<'r, 'w, E>
         requires { carried_of sealed.carrier.log ≡ [] }
         ensures game { result.game ≡ self.now.game }
         ensures above { result.above ≡ [] }

@@ -6,7 +6,7 @@ use Rattle.desk_state.specs.Book.{book_text}
 use Rattle.desk_state.specs.Value.{open_text, state_text}
 use Rattle.screen.specs.Sights.{DeskSight}
 use Rattle.viewers.specs.Replies.{SameOpenly, ShowsBook, ShowsOpenly}
-use Rattle.viewers.specs.declared.shown.Shown.{Shown}
+use Rattle.viewers.specs.declared.page_texts.PageTexts.{PageTexts}
 use Rattle.station_pages.specs.declared.sight.{TextLog.TextLog, TextLog.Empty, TextLog.Given'}
 
 -- the texts that it was given, the oldest first: each time one for all, and one for its scorer alone
@@ -27,13 +27,13 @@ ShowsState desk before after sight =
     ++ (open_of desk sight, state_text sight.sheet sight.innings sight.book desk sight.at sight.own held) ∷ []))
 
 -- who hasn't the secret is served of the book what they were, or what stands in that one
-abbrev pub ServesBook : Shown → Shown → List Entry → Type 0
+abbrev pub ServesBook : PageTexts → PageTexts → List Entry → Type 0
 ServesBook before after book = SameOpenly before after ⊎ ShowsBook (book_text book) before after
 
 -- and of the state what they were, or what all may read of that desk
-abbrev pub ServesState : DeskId → Shown → Shown → DeskSight → Type 0
+abbrev pub ServesState : DeskId → PageTexts → PageTexts → DeskSight → Type 0
 ServesState desk before after sight = SameOpenly before after ⊎ ShowsOpenly (open_of desk sight) before after
 
 -- first of the book, and then of the state
-abbrev pub ServesOthers : DeskId → Shown → Shown → DeskSight → Type 0
-ServesOthers desk before after sight = (mid : Shown) × ServesBook before mid sight.book × ServesState desk mid after sight
+abbrev pub ServesOthers : DeskId → PageTexts → PageTexts → DeskSight → Type 0
+ServesOthers desk before after sight = (mid : PageTexts) × ServesBook before mid sight.book × ServesState desk mid after sight

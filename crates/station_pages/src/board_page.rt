@@ -3,7 +3,6 @@
 ghost use Rattle.std.specs.Prelude.{◌≡◌, ◌∷◌, ◌++◌, []};
 ghost use Rattle.station_pages.specs.Handed.{newest_or, texts_in};
 
-use crate::attended::Attends;
 use crate::handed::HandedLog;
 use std::os::fd::RawFd;
 use viewers::Viewers;
@@ -55,20 +54,18 @@ impl BoardPage {
         self.viewers.put_state(text);
     }
 
-    /// Tells those who look at it what it shows, where they weren't told it.
-    pub fn tell(&mut self, now: u64)
+    /// Does what can be done at once for those who look at it, and tells them what it shows, where they weren't told it. Where
+    /// nobody called, none has come or asked.
+    pub fn attend(&mut self, is_called: bool, now: u64)
         ensures lines { self.new.lines ≡ self.old.lines }
         ensures states { self.new.states ≡ self.old.states }
     {
+        self.viewers.pump(is_called, now);
         self.viewers.tell(now);
     }
-}
 
-impl Attends for BoardPage {
-    fn attend(&mut self, now: u64)
-        ensures lines { self.new.lines ≡ self.old.lines }
-        ensures states { self.new.states ≡ self.old.states }
-    {
-        self.viewers.pump(now);
+    /// For how many milliseconds it may be left alone since it was seen to.
+    pub fn longest_wait(&self) -> u64 {
+        self.viewers.longest_wait()
     }
 }

@@ -1,8 +1,7 @@
-//! A station and its page: a clock by which it is seen to, and of a desk what is typed in it, the words that are its own, the
-//! rows that it shows, and the state.
+//! A station and its page: of a desk what is typed in it, the words that are its own, the rows that it shows, and the state; of a
+//! board what it shows.
 #![tactic(auto)]
 
-mod attended;
 mod board_page;
 mod handed;
 mod page_lines;
@@ -11,7 +10,6 @@ mod rows;
 mod scorers_page;
 mod sight;
 
-pub use attended::{Attended, Attends};
 pub use board_page::BoardPage;
 pub use handed::HandedLog;
 pub use page_lines::PageLines;

@@ -4,14 +4,16 @@ ghost use Rattle.std.specs.Prelude.{◌≡◌};
 ghost use Rattle.sha2.specs.Sha256.{sha256};
 ghost use Rattle.viewers.specs.Replies.{ShowsBook, ShowsOpenly};
 
-use crate::attended::Attends;
 use crate::rows::Rows;
 use agree_core::Position;
 use posts::PostedLine;
 use std::alloc::Global;
 use std::os::fd::RawFd;
 use viewers::Viewers;
-use waits::WATCHERS_COUNT_PAUSE;
+
+/// For how many milliseconds those who look at a desk's page aren't counted again.
+/// Strangers who come and go fill no screen.
+const WATCHERS_COUNT_PAUSE: u64 = 5_000;
 
 /// The page of a desk: who looks at it, and the newest rows that its scorer was told.
 #[derive(Drop)]
@@ -120,14 +122,19 @@ impl ScorersPage {
     pub fn has_lines(&self) -> bool {
         self.viewers.has_lines()
     }
-}
 
-impl Attends for ScorersPage {
-    fn attend(&mut self, now: u64) {
+    /// Does what can be done at once for those who look or type, and tells them what is new. Where nobody called, none has come, asked
+    /// or typed.
+    pub fn attend(&mut self, is_called: bool, now: u64) {
         self.now = now;
-        self.viewers.pump(now);
+        self.viewers.pump(is_called, now);
         self.viewers.veil();
         self.viewers.tell(now);
         self.count(now);
+    }
+
+    /// For how many milliseconds it may be left alone since it was seen to.
+    pub fn longest_wait(&self) -> u64 {
+        self.viewers.longest_wait()
     }
 }

@@ -17,7 +17,7 @@ use links::{HeldLine, HeldLines};
 use notation::Entry;
 use screen::ShowsDesk;
 use std::alloc::{AllocError, Global};
-use std::cell::RefCell;
+use std::cell::{Cell, RefCell};
 use std::snapshot::Snapshot;
 
 /// The state of a desk: as all may read it, and whole, for its scorer alone.
@@ -43,12 +43,14 @@ struct Seen {
     has_voted: bool,
 }
 
-/// What a page shows of a desk: its state, whenever it is another one.
+/// What a page shows of a desk: its state, whenever it is another one. It is seen to whenever it is shown the desk.
 #[derive(Drop)]
 pub struct PageSight<'p> {
     alloc: Global,
     desk: DeskId,
     page: Option<&'p RefCell<ScorersPage>>,
+    /// Whether somebody came or asks there.
+    called: &'p Cell<bool>,
     /// How many entries the book had that was shown last.
     entries: Option<u32>,
     seen: Option<Seen>,
@@ -92,8 +94,13 @@ fn texts_of<B: BookOf>(
 }
 
 impl<'p> PageSight<'p> {
-    /// Of this desk, of which nothing was shown yet.
-    pub fn new(alloc: Global, desk: DeskId, page: Option<&'p RefCell<ScorersPage>>) -> PageSight<'p>
+    /// Of this desk, of which nothing was shown yet. It is noted elsewhere whether somebody came or asks at the page.
+    pub fn new(
+        alloc: Global,
+        desk: DeskId,
+        page: Option<&'p RefCell<ScorersPage>>,
+        called: &'p Cell<bool>,
+    ) -> PageSight<'p>
         ensures desk { result.desk ≡ desk }
         ensures log { texts_in result.log ≡ [] }
     {
@@ -101,6 +108,7 @@ impl<'p> PageSight<'p> {
             alloc,
             desk,
             page,
+            called,
             entries: None,
             seen: None,
             held: HeldLines::new(),
@@ -201,12 +209,25 @@ impl<B: BookOf> ShowsDesk<B> for PageSight<'_> {
         at: Position,
         own: Option<Entry>,
         held: &[HeldLine],
+        now: u64,
     ) {
         let Some(page) = self.page else {
             return;
         };
         if let Ok(mut page) = page.try_borrow_mut() {
             self.put(&mut page, sheet, book, at, own, held);
+            page.attend(self.called.get(), now);
+            self.called.set(false);
+        }
+    }
+
+    fn longest_wait(&self) -> u64 {
+        match self.page {
+            Some(page) => match page.try_borrow() {
+                Ok(page) => page.longest_wait(),
+                Err(_) => u64::MAX,
+            },
+            None => u64::MAX,
         }
     }
 }

@@ -88,7 +88,7 @@ fn print_unkept<W: Sink>(out: &mut Watched<W>) -> Result<(), WriteFailed>
 }
 
 /// Prints that a desk begins to doubt its file, or doesn't any more.
-pub fn print_doubt<W: Sink>(
+pub(crate) fn print_doubt<W: Sink>(
     out: &mut Watched<W>,
     doubt: Doubt,
     evidence: Evidence,
@@ -108,7 +108,7 @@ pub fn print_doubt<W: Sink>(
 }
 
 /// Prints that a desk doubts its file, where it does.
-pub fn print_doubted<W: Sink>(out: &mut Watched<W>, doubt: Doubt) -> Result<(), WriteFailed>
+pub(crate) fn print_doubted<W: Sink>(out: &mut Watched<W>, doubt: Doubt) -> Result<(), WriteFailed>
     ensures text { OnOk result (Prints W.contents out.old out.new (doubts.doubted_text doubt)) }
     ensures failed { TellsFailure result out.old out.new }
 {
@@ -120,7 +120,7 @@ pub fn print_doubted<W: Sink>(out: &mut Watched<W>, doubt: Doubt) -> Result<(), 
 }
 
 /// Prints that a desk goes on, or that nothing held it up.
-pub fn print_going<W: Sink>(out: &mut Watched<W>, doubt: Doubt) -> Result<(), WriteFailed>
+pub(crate) fn print_going<W: Sink>(out: &mut Watched<W>, doubt: Doubt) -> Result<(), WriteFailed>
     ensures text { OnOk result (Prints W.contents out.old out.new (doubts.going_text (doubts.holds_up doubt))) }
     ensures failed { TellsFailure result out.old out.new }
 {

@@ -132,7 +132,7 @@ fn print_no_fielder<W: Sink>(
 }
 
 /// Prints what isn't clear in a line.
-pub fn print_unclear<W: Sink>(
+pub(crate) fn print_unclear<W: Sink>(
     out: &mut Watched<W>,
     sheet: &MatchSheet,
     unclear: &Unclear,

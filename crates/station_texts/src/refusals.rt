@@ -30,7 +30,7 @@ fn print_explained<W: Sink>(out: &mut Watched<W>, why: Refusal) -> Result<(), Wr
 }
 
 /// Prints why an entry is refused. A failed disk isn't told here.
-pub fn print_refused<W: Sink>(out: &mut Watched<W>, why: Refusal) -> Result<(), WriteFailed>
+pub(crate) fn print_refused<W: Sink>(out: &mut Watched<W>, why: Refusal) -> Result<(), WriteFailed>
     ensures text { OnOk result (Prints W.contents out.old out.new (texts.refused_text why)) }
     ensures failed { TellsFailure result out.old out.new }
 {
@@ -58,7 +58,7 @@ fn print_later_numbers<W: Sink>(
 }
 
 /// Prints what would stand at the place, and why that is refused.
-pub fn print_later_words<W: Sink>(
+pub(crate) fn print_later_words<W: Sink>(
     out: &mut Watched<W>,
     place: u32,
     item: Plain,
@@ -93,7 +93,7 @@ fn print_later<B: BookOf, W: Sink>(
 }
 
 /// Prints why an entry is refused; of a correction, the first place that it leaves refused, with what would stand there.
-pub fn print_refused_entry<B: BookOf, W: Sink>(
+pub(crate) fn print_refused_entry<B: BookOf, W: Sink>(
     out: &mut Watched<W>,
     book: &B,
     entry: &Entry,

@@ -22,7 +22,7 @@ use std::alloc::Global;
 use std::str;
 
 /// A text that makes a line behind `again `: with it, it isn't longer than a line is.
-pub type BehindAgain = ArrayString<122>;
+pub(crate) type BehindAgain = ArrayString<122>;
 
 /// What a scorer's line comes to.
 #[derive(Drop)]

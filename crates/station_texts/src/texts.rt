@@ -31,7 +31,11 @@ use screen::{
 use streams::{Sink, Watched, WriteFailed};
 
 /// Prints a place, and what is told of it.
-pub fn print_at<W: Sink>(out: &mut Watched<W>, place: u32, words: &str) -> Result<(), WriteFailed>
+pub(crate) fn print_at<W: Sink>(
+    out: &mut Watched<W>,
+    place: u32,
+    words: &str,
+) -> Result<(), WriteFailed>
     ensures text { OnOk result (Prints W.contents out.old out.new (texts.at_place place words.now)) }
     ensures failed { TellsFailure result out.old out.new }
 {
@@ -164,7 +168,7 @@ fn print_agreed_at<B: BookOf, W: Sink>(
 }
 
 /// Prints that a place is agreed, and what a `fix` or a `late` there has changed.
-pub fn print_agreed<B: BookOf, W: Sink>(
+pub(crate) fn print_agreed<B: BookOf, W: Sink>(
     out: &mut Watched<W>,
     sheet: &MatchSheet,
     place: u32,
@@ -194,7 +198,7 @@ fn print_pending<W: Sink>(
 }
 
 /// Prints that the two scorers differ at this place, with the entry of each where it is known.
-pub fn print_differs<W: Sink>(
+pub(crate) fn print_differs<W: Sink>(
     out: &mut Watched<W>,
     place: u32,
     both: Both,
@@ -245,7 +249,7 @@ fn print_settled<B: BookOf, W: Sink>(
 }
 
 /// Why no vote can be cast at a position, if none can.
-pub fn why_full(at: Position) -> Option<Refusal>
+pub(crate) fn why_full(at: Position) -> Option<Refusal>
     ensures { result ≡ texts.why_full at }
 {
     if at.place >= PLACES {

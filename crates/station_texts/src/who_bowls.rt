@@ -54,7 +54,7 @@ fn print_who_may<B: BookOf, W: Sink>(
 }
 
 /// Prints what isn't clear in a line, and behind it who may bowl, where that isn't and overs are limited.
-pub fn print_question<B: BookOf, W: Sink>(
+pub(crate) fn print_question<B: BookOf, W: Sink>(
     out: &mut Watched<W>,
     sheet: &MatchSheet,
     unclear: &Unclear,

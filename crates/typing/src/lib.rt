@@ -10,9 +10,8 @@ mod laws;
 mod reading;
 mod terminal;
 
-pub use editor::{LINE_ROOM, MOST_LINES};
 pub use heard::{Came, HeardLog, Inputs};
 pub use keeping::{Fault, Kept, keep_terminal};
 pub use key::Key;
 pub use laws::{rows_are_shown_whole, what_is_entered_is_handed};
-pub use terminal::{Drawing, ROWS_ROOM, Terminal};
+pub use terminal::Terminal;

@@ -6,9 +6,9 @@ use Rattle.http1.specs.Conn.{data_text}
 use Rattle.viewers.specs.Replies.{SameOpenly, answer_text, event_of, handed_text, json, nonce_text, number_for, page_text, plain, stream_text, told_text, whole_text}
 use Rattle.viewers.specs.declared.asks.Ask.{Ask}
 use Rattle.viewers.specs.declared.asks.Ask.TheVariants.{Page, Lines, State, Book, Events, Given, Typed, Signed, Handed, Unready, Full, Missing, Method, Foreign, Faulty}
-use Rattle.viewers.specs.declared.shown.Shown.{Shown}
+use Rattle.viewers.specs.declared.page_texts.PageTexts.{PageTexts}
 
-pub same_answer : (s : Server) (ask : Ask) (head : Bool) (one other : Shown)
+pub same_answer : (s : Server) (ask : Ask) (head : Bool) (one other : PageTexts)
     → SameOpenly one other → answer_text s ask head other ≡ answer_text s ask head one
 same_answer s Page head one other same = ap (λ t. page_text s t head) same.station
 same_answer s Lines head one other same =
@@ -32,10 +32,10 @@ same_answer s Method head one other same = ap (λ t. whole_text s t 405 (codes "
 same_answer s Foreign head one other same = ap (λ t. whole_text s t 403 (codes "Forbidden") plain (codes "another host\n") head) same.station
 same_answer s (Faulty status) head one other same = ap (λ t. whole_text s t status (codes "Refused") plain (codes "refused\n") head) same.station
 
-pub same_told : (s : Server) (one other : Shown) → SameOpenly one other → told_text s false other ≡ told_text s false one
+pub same_told : (s : Server) (one other : PageTexts) → SameOpenly one other → told_text s false other ≡ told_text s false one
 same_told s one other same =
     ap (λ n. data_text (writing s) (event_of n other.state.items)) same.number
     ∙ ap (λ t. data_text (writing s) (event_of one.number t)) same.state
 
-pub same_number : (one other : Shown) → SameOpenly one other → number_for false other ≡ number_for false one
+pub same_number : (one other : PageTexts) → SameOpenly one other → number_for false other ≡ number_for false one
 same_number one other same = same.number

@@ -9,9 +9,9 @@ use Rattle.http1.specs.Server.{after_response, planned_response, writing}
 use Rattle.http1.specs.Conn.{after_data, data_text, finish_text}
 use Rattle.viewers.specs.declared.asks.{Ask.Ask, Asked.Asked}
 use Rattle.viewers.specs.declared.asks.Ask.TheVariants.{Page, Lines, State, Book, Events, Given, Typed, Signed, Handed, Unready, Full, Missing, Method, Foreign, Faulty}
-use Rattle.viewers.specs.declared.{shown.Shown.Shown, station.Station.Station}
-use Rattle.viewers.specs.declared.page.TheConstants as board
-use Rattle.viewers.specs.declared.desk_page.TheConstants as desk
+use Rattle.served_pages.specs.declared.scoreboard.TheConstants as board
+use Rattle.served_pages.specs.declared.desk.TheConstants as desk
+use Rattle.viewers.specs.declared.{page_texts.PageTexts.PageTexts, station.Station.Station}
 use Rattle.viewers.specs.declared.station.Station.TheVariants.{Board, Desk}
 
 -- a station's page, and what may be run and loaded in it
@@ -86,7 +86,7 @@ abbrev pub handed_text : Server → Station → List ℕ → List ℕ
 handed_text s station hidden = whole_text s station 200 (codes "OK") plain (encode_lower hidden ++ codes "\n") false
 
 -- the answer to what is asked for, while this is shown
-abbrev pub answer_text : Server → Ask → Bool → Shown → List ℕ
+abbrev pub answer_text : Server → Ask → Bool → PageTexts → List ℕ
 answer_text s Page head shown = page_text s shown.station head
 answer_text s Lines head shown =
     whole_text s shown.station 200 (codes "OK") plain shown.lines.items head
@@ -104,7 +104,7 @@ answer_text s Method head shown = whole_text s shown.station 405 (codes "Not All
 answer_text s Foreign head shown = whole_text s shown.station 403 (codes "Forbidden") plain (codes "another host\n") head
 answer_text s (Faulty status) head shown = whole_text s shown.station status (codes "Refused") plain (codes "refused\n") head
 
-abbrev pub reply_text : Server → Asked → Shown → List ℕ
+abbrev pub reply_text : Server → Asked → PageTexts → List ℕ
 reply_text s asked shown = answer_text s asked.ask asked.is_head shown
 
 -- a text that ends its own line, as an event with its number
@@ -112,24 +112,24 @@ abbrev pub event_of : ℕ → List ℕ → List ℕ
 event_of number text = codes "id: " ++ decimal number ++ codes "\ndata: " ++ text ++ codes "\n"
 
 -- the number of what is shown to who is signed or isn't
-abbrev pub number_for : Bool → Shown → ℕ
+abbrev pub number_for : Bool → PageTexts → ℕ
 number_for true shown = shown.veiled.number
 number_for false shown = shown.number
 
 -- what is shown, as an event: to who is signed what is hidden by the secret of the desk's page, and to all others the state
-abbrev pub event : Bool → Shown → List ℕ
+abbrev pub event : Bool → PageTexts → List ℕ
 event true shown = event_of shown.veiled.number shown.veiled.text.items
 event false shown = event_of shown.number shown.state.items
 
 -- to who has asked for each new state, and is signed or isn't: the state, or that there is none but that the station is there
-abbrev pub told_text : Server → Bool → Shown → List ℕ
+abbrev pub told_text : Server → Bool → PageTexts → List ℕ
 told_text s is_signed shown = data_text (writing s) (event is_signed shown)
 
 abbrev pub beat_text : Server → List ℕ
 beat_text s = data_text (writing s) (codes "event: beat\ndata: -\n\n")
 
 -- of what is shown all that isn't hidden is the same
-pub record SameOpenly (one other : Shown) : Type 0 where
+pub record SameOpenly (one other : PageTexts) : Type 0 where
   pub station : other.station ≡ one.station
   pub lines : other.lines.items ≡ one.lines.items
   pub state : other.state.items ≡ one.state.items
@@ -141,7 +141,7 @@ abbrev pub next_number : ℕ → List ℕ → List ℕ → ℕ
 next_number number before state = if bytes_eq before state then number else min (number + 1) (2 ^ 64 - 1)
 
 -- of all that isn't hidden the state is this one from here on, and nothing else is another
-pub record ShowsOpenly (state : List ℕ) (before after : Shown) : Type 0 where
+pub record ShowsOpenly (state : List ℕ) (before after : PageTexts) : Type 0 where
   pub station : after.station ≡ before.station
   pub lines : after.lines.items ≡ before.lines.items
   pub book : after.book.items ≡ before.book.items
@@ -149,7 +149,7 @@ pub record ShowsOpenly (state : List ℕ) (before after : Shown) : Type 0 where
   pub number : after.number ≡ next_number before.number before.state.items state
 
 -- of all that isn't hidden the book is this one from here on, and nothing else is another
-pub record ShowsBook (book : List ℕ) (before after : Shown) : Type 0 where
+pub record ShowsBook (book : List ℕ) (before after : PageTexts) : Type 0 where
   pub station : after.station ≡ before.station
   pub lines : after.lines.items ≡ before.lines.items
   pub state : after.state.items ≡ before.state.items

@@ -4,7 +4,7 @@ use Rattle.http1.specs.declared.server.Server.{Server}
 use Rattle.viewers.specs.Replies.{reply_text, told_text, beat_text}
 use Rattle.viewers.specs.declared.logs.{SaidLog.SaidLog, SaidLog.Empty, SaidLog.Answered', SaidLog.Told', SaidLog.Beat', TakenLog.TakenLog}
 use Rattle.viewers.specs.declared.logs.TakenLog as taken
-use Rattle.viewers.specs.declared.shown.Shown.{Shown}
+use Rattle.viewers.specs.declared.page_texts.PageTexts.{PageTexts}
 use Rattle.viewers.specs.declared.stream.Wire.{Wire}
 
 -- the bytes of all that was said: answers, states and beats, and nothing between them
@@ -15,7 +15,7 @@ said_in (Told' marker before server is_signed shown) = said_in before ++ told_te
 said_in (Beat' marker before server) = said_in before ++ beat_text server.value
 
 -- what a viewer is told at once: nothing, what is shown as they may read it, or that the station is there
-abbrev pub Tells : Server → Bool → Shown → List ℕ → List ℕ → Type 0
+abbrev pub Tells : Server → Bool → PageTexts → List ℕ → List ℕ → Type 0
 Tells s is_signed shown before after =
     (after ≡ before) ⊎ (after ≡ before ++ told_text s is_signed shown) ⊎ (after ≡ before ++ beat_text s)
 

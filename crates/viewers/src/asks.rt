@@ -3,7 +3,7 @@
 ghost use Rattle.std.specs.Prelude.{◌≡◌, false};
 
 use crate::host::is_named;
-use crate::shown::Shown;
+use crate::page_texts::PageTexts;
 use crate::station::Station;
 use httparse::spans::{HeaderSpan, RequestSpans, Span};
 use posts::{Pass, Stamp, tag_in};
@@ -54,7 +54,7 @@ pub struct Asked {
 
 impl Asked {
     /// The same, where it can be had: nothing may have been handed over to be shown yet, or no place be free.
-    pub fn ready(self, shown: &Shown, is_behind: bool) -> Asked {
+    pub fn ready(self, shown: &PageTexts, is_behind: bool) -> Asked {
         let ask = match self.ask {
             Ask::Page | Ask::Lines | Ask::State | Ask::Book | Ask::Events if is_behind => Ask::Full,
             Ask::Lines | Ask::State | Ask::Book if shown.number == 0 => Ask::Unready,

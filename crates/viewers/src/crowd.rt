@@ -10,9 +10,10 @@ use crate::guest::Guest;
 use crate::inbox::Inbox;
 use crate::listening::listener_at;
 use crate::own::Own;
+use crate::page_texts::PageTexts;
 use crate::places::{Places, is_behind, network_of};
-use crate::shown::Shown;
 use crate::station::Station;
+use crate::times::VIEWER_BEAT;
 use crate::viewer::Viewer;
 use agree_core::Position;
 use mio::net::{TcpListener, TcpStream};
@@ -23,7 +24,6 @@ use std::io;
 use std::net::{Net, SocketAddr};
 use std::os::fd::{AsRawFd, RawFd};
 use std::time::Duration;
-use waits::VIEWER_BEAT;
 
 /// How many are let in at once at most.
 const MOST_GUESTS: usize = 256;
@@ -58,6 +58,8 @@ struct Crowd {
     has_guests: bool,
     /// When they last heard that the board is there.
     beat: u64,
+    /// When they were told last what is shown.
+    told: u64,
 }
 
 impl Crowd {
@@ -76,6 +78,7 @@ impl Crowd {
             places: Places::new(alloc, station),
             has_guests: true,
             beat: 0,
+            told: 0,
         })
     }
 
@@ -146,9 +149,11 @@ impl Crowd {
         }
     }
 
-    /// Does what can be done at once.
-    fn pump(&mut self, shown: &Shown, inbox: &mut Option<Inbox>, now: u64) {
-        self.look();
+    /// Does what can be done at once. Where nobody called, the machine isn't asked who did.
+    fn pump(&mut self, shown: &PageTexts, inbox: &mut Option<Inbox>, is_called: bool, now: u64) {
+        if is_called {
+            self.look();
+        }
         if self.has_guests {
             self.admit_all(now);
         }
@@ -167,9 +172,21 @@ impl Crowd {
     }
 
     /// Tells all what is shown, or that the board is there.
-    fn tell(&mut self, shown: &Shown, now: u64) {
+    fn tell(&mut self, shown: &PageTexts, now: u64) {
         let is_beat = self.take_beat(now);
         self.places.tell(self.alloc, shown, is_beat, now);
+        self.told = now;
+    }
+
+    /// For how many milliseconds they may be left alone since then.
+    fn longest_wait(&self) -> u64 {
+        if self.places.has_more() {
+            return 0;
+        }
+        if self.places.watching() == 0 {
+            return u64::MAX;
+        }
+        VIEWER_BEAT.saturating_sub(self.told.saturating_sub(self.beat))
     }
 }
 
@@ -179,7 +196,7 @@ impl Crowd {
 pub struct Viewers {
     alloc: Global,
     crowd: Crowd,
-    shown: Shown,
+    shown: PageTexts,
     /// Of a desk what it tells its scorer alone.
     own: Own,
     inbox: Option<Inbox>,
@@ -197,7 +214,7 @@ impl Viewers {
         Ok(Viewers {
             alloc,
             crowd: Crowd::new(net, alloc, at, station)?,
-            shown: Shown::new(alloc, station),
+            shown: PageTexts::new(alloc, station),
             own: Own::new(alloc),
             inbox,
         })
@@ -267,11 +284,19 @@ impl Viewers {
         self.crowd.poll.as_raw_fd()
     }
 
-    /// Lets in who waits, answers who asks, and lets go who has gone or had time enough, as far as that goes at once.
-    pub fn pump(&mut self, now: u64)
+    /// Lets in who waits, answers who asks, and lets go who has gone or had time enough, as far as that goes at once. Where a wait
+    /// for the descriptor didn't end for it, nobody has called.
+    pub fn pump(&mut self, is_called: bool, now: u64)
         ensures { self.new.shown ≡ self.old.shown }
     {
-        self.crowd.pump(&self.shown, &mut self.inbox, now);
+        self.crowd
+            .pump(&self.shown, &mut self.inbox, is_called, now);
+    }
+
+    /// For how many milliseconds they may be left alone since they were told what is shown: none where more can be done at once, and
+    /// otherwise until the next beat, where there is somebody who hears it.
+    pub fn longest_wait(&self) -> u64 {
+        self.crowd.longest_wait()
     }
 
     /// Tells all who asked for it what is shown, where they weren't told it, or each two seconds that the station is there.

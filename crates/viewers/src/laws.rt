@@ -4,12 +4,12 @@ ghost use Rattle.std.specs.Prelude.{◌≡◌, Bool, false};
 ghost use Rattle.http1.specs.declared.server.Server.{Server};
 ghost use Rattle.viewers.specs.Replies.{SameOpenly, answer_text, number_for, told_text};
 ghost use Rattle.viewers.specs.declared.asks.Ask.{Ask};
-ghost use Rattle.viewers.specs.declared.shown.Shown.{Shown};
+ghost use Rattle.viewers.specs.declared.page_texts.PageTexts.{PageTexts};
 
 /// Whatever is hidden, each answer is the same, and so is what is told to who isn't signed, and when it is news.
 pub fn what_others_are_served()
-    ensures answers { (s : Server) (ask : Ask) (head : Bool) (one other : Shown)
+    ensures answers { (s : Server) (ask : Ask) (head : Bool) (one other : PageTexts)
         → SameOpenly one other → answer_text s ask head other ≡ answer_text s ask head one }
-    ensures told { (s : Server) (one other : Shown) → SameOpenly one other → told_text s false other ≡ told_text s false one }
-    ensures news { (one other : Shown) → SameOpenly one other → number_for false other ≡ number_for false one }
+    ensures told { (s : Server) (one other : PageTexts) → SameOpenly one other → told_text s false other ≡ told_text s false one }
+    ensures news { (one other : PageTexts) → SameOpenly one other → number_for false other ≡ number_for false one }
 {}

@@ -4,7 +4,7 @@
 ghost use Rattle.std.specs.Prelude.{◌≡◌, ◌++◌, drop, take};
 
 use crate::asks::Asked;
-use crate::shown::Shown;
+use crate::page_texts::PageTexts;
 use http1::Server;
 use std::snapshot::Snapshot;
 
@@ -12,8 +12,8 @@ use std::snapshot::Snapshot;
 #[derive(Drop)]
 pub enum SaidLog {
     Empty,
-    Answered(Snapshot<SaidLog>, Snapshot<Server>, Snapshot<Asked>, Snapshot<Shown>),
-    Told(Snapshot<SaidLog>, Snapshot<Server>, Snapshot<bool>, Snapshot<Shown>),
+    Answered(Snapshot<SaidLog>, Snapshot<Server>, Snapshot<Asked>, Snapshot<PageTexts>),
+    Told(Snapshot<SaidLog>, Snapshot<Server>, Snapshot<bool>, Snapshot<PageTexts>),
     Beat(Snapshot<SaidLog>, Snapshot<Server>),
 }
 
@@ -22,7 +22,7 @@ impl SaidLog {
     ghost use Rattle.viewers.specs.Said.{said_in};
 
     /// This, and then the answer to what was asked for.
-    pub fn answered(&self, server: &Server, asked: &Asked, shown: &Shown) -> SaidLog
+    pub fn answered(&self, server: &Server, asked: &Asked, shown: &PageTexts) -> SaidLog
         ensures { said_in result ≡ said_in self.now ++ reply_text server.now asked.now shown.now }
     {
         SaidLog::Answered(
@@ -34,7 +34,7 @@ impl SaidLog {
     }
 
     /// This, and then a state, to who is signed or isn't.
-    pub fn told(&self, server: &Server, is_signed: bool, shown: &Shown) -> SaidLog
+    pub fn told(&self, server: &Server, is_signed: bool, shown: &PageTexts) -> SaidLog
         ensures { said_in result ≡ said_in self.now ++ told_text server.now is_signed shown.now }
     {
         SaidLog::Told(

@@ -5,7 +5,7 @@ ghost use Rattle.viewers.specs.Places.{HasNoSigned, KeepsAll, KeepsOthers, Keeps
 
 use crate::guest::Stay;
 use crate::inbox::Inbox;
-use crate::shown::Shown;
+use crate::page_texts::PageTexts;
 use crate::station::Station;
 use crate::stream::Stream;
 use crate::viewer::Viewer;
@@ -290,7 +290,7 @@ impl<S: Stream + Drop> Places<S> {
         &mut self,
         place: usize,
         alloc: Global,
-        shown: &Shown,
+        shown: &PageTexts,
         inbox: &mut Option<Inbox>,
         now: u64,
     )
@@ -343,7 +343,7 @@ impl<S: Stream + Drop> Places<S> {
         &mut self,
         place: usize,
         alloc: Global,
-        shown: &Shown,
+        shown: &PageTexts,
         inbox: &mut Option<Inbox>,
         now: u64,
     )
@@ -355,6 +355,11 @@ impl<S: Stream + Drop> Places<S> {
         if !was_signed && self.is_signed_at(place) {
             self.limit_signed(place);
         }
+    }
+
+    /// Whether more can be done at once for somebody.
+    pub fn has_more(&self) -> bool {
+        self.viewers.iter().any(|slot| slot.as_ref().is_some_and(|viewer| viewer.has_more()))
     }
 
     /// How many are told each new state.
@@ -369,7 +374,7 @@ impl<S: Stream + Drop> Places<S> {
     }
 
     /// Tells all what is shown, or that the station is there.
-    pub fn tell(&mut self, alloc: Global, shown: &Shown, is_beat: bool, now: u64) {
+    pub fn tell(&mut self, alloc: Global, shown: &PageTexts, is_beat: bool, now: u64) {
         for slot in self.viewers.iter_mut() {
             if let Some(viewer) = slot {
                 viewer.tell(alloc, shown, is_beat, now);

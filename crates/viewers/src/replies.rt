@@ -9,7 +9,7 @@ ghost use Rattle.viewers.specs.Responses.{IsResponse};
 ghost use Rattle.viewers.specs.Replies as texts;
 
 use crate::asks::Ask;
-use crate::shown::Shown;
+use crate::page_texts::PageTexts;
 use crate::station::{Station, page_of, policy_of};
 use hex::encode_to_slice;
 use http1::{BodySize, Header, Server, WriteError};
@@ -87,24 +87,31 @@ fn fields_of(station: Station, status: u16, kind: &[u8]) -> [Header<'_>; 7]
     ]
 }
 
-/// A head of this status, in front of a text of this kind and size.
+/// What a head says: its status, what that means, and what kind of text follows it.
+#[derive(Clone, Copy)]
+struct Head<'a> {
+    status: u16,
+    reason: &'a [u8],
+    kind: &'a [u8],
+}
+
+/// A head, in front of a text of this size.
 fn front(
     alloc: Global,
     server: &mut Server,
     station: Station,
-    status: u16,
-    reason: &[u8],
-    kind: &[u8],
+    head: Head<'_>,
     size: BodySize,
 ) -> Result<Vec<u8>, WriteError>
     ensures text { IfOk result (λ bytes.
-        bytes.items ≡ planned_response server.old status reason.now size (texts.fields_of station status kind.now)) }
-    ensures next { OnOk result (server.new ≡ after_response server.old status size (texts.fields_of station status kind.now)) }
-    ensures taken { OnOk result (response_refusal server.old status reason.now size (texts.fields_of station status kind.now) ≡ None) }
+        bytes.items ≡ planned_response server.old head.entry.status head.entry.reason.now size (texts.fields_of station head.entry.status head.entry.kind.now)) }
+    ensures next { OnOk result (server.new ≡ after_response server.old head.entry.status size (texts.fields_of station head.entry.status head.entry.kind.now)) }
+    ensures taken { OnOk result
+        (response_refusal server.old head.entry.status head.entry.reason.now size (texts.fields_of station head.entry.status head.entry.kind.now) ≡ None) }
 {
-    let fields = fields_of(station, status, kind);
+    let fields = fields_of(station, head.status, head.kind);
     let mut out = Vec::new(alloc);
-    server.write_response(&mut out, status, reason, &fields, size)?;
+    server.write_response(&mut out, head.status, head.reason, &fields, size)?;
     Ok(out)
 }
 
@@ -128,24 +135,22 @@ fn sent_of(text: &[u8], is_head: bool) -> &[u8]
     if is_head { &text[..0] } else { text }
 }
 
-/// A head of this status, and a whole text of this kind behind it, or the head alone.
+/// A head, and a whole text behind it, or the head alone.
 fn whole(
     alloc: Global,
     server: &mut Server,
     station: Station,
-    status: u16,
-    reason: &[u8],
-    kind: &[u8],
+    head: Head<'_>,
     text: &[u8],
     is_head: bool,
 ) -> Result<Vec<u8>, WriteError>
     ensures text { IfOk result (λ bytes.
-        bytes.items ≡ texts.whole_text server.old station status reason.now kind.now text.now is_head) }
-    ensures http { IfOk result (λ bytes.
-        IsResponse server.old status reason.now (texts.fields_of station status kind.now) (texts.sent_of text.now is_head) bytes.items) }
+        bytes.items ≡ texts.whole_text server.old station head.entry.status head.entry.reason.now head.entry.kind.now text.now is_head) }
+    ensures http { IfOk result (λ bytes. IsResponse server.old head.entry.status head.entry.reason.now
+        (texts.fields_of station head.entry.status head.entry.kind.now) (texts.sent_of text.now is_head) bytes.items) }
 {
     let size = BodySize::Known(text.len() as u64);
-    let mut out = front(alloc, server, station, status, reason, kind, size)?;
+    let mut out = front(alloc, server, station, head, size)?;
     put_text(server, &mut out, sent_of(text, is_head))?;
     Ok(out)
 }
@@ -215,16 +220,12 @@ fn short_answer(
     ensures { IfOk result (λ bytes. bytes.items ≡
         texts.whole_text server.old station short.status short.reason.now texts.plain short.line.now is_head) }
 {
-    whole(
-        alloc,
-        server,
-        station,
-        short.status,
-        short.reason,
-        TEXT,
-        short.line,
-        is_head,
-    )
+    let head = Head {
+        status: short.status,
+        reason: short.reason,
+        kind: TEXT,
+    };
+    whole(alloc, server, station, head, short.line, is_head)
 }
 
 /// What can't be read is refused with this status.
@@ -255,16 +256,12 @@ fn page(
 ) -> Result<Vec<u8>, WriteError>
     ensures { IfOk result (λ bytes. bytes.items ≡ texts.page_text server.old station is_head) }
 {
-    whole(
-        alloc,
-        server,
-        station,
-        200,
-        b"OK",
-        HTML,
-        page_of(station),
-        is_head,
-    )
+    let head = Head {
+        status: 200,
+        reason: b"OK",
+        kind: HTML,
+    };
+    whole(alloc, server, station, head, page_of(station), is_head)
 }
 
 /// One of the texts that are shown.
@@ -279,22 +276,24 @@ fn shown_text(
     ensures { IfOk result (λ bytes.
         bytes.items ≡ texts.whole_text server.old station 200 (codes "OK") kind.now text.now is_head) }
 {
-    whole(alloc, server, station, 200, b"OK", kind, text, is_head)
+    let head = Head {
+        status: 200,
+        reason: b"OK",
+        kind,
+    };
+    whole(alloc, server, station, head, text, is_head)
 }
 
 /// A head alone, behind which states follow for as long as the viewer stays.
 fn stream(alloc: Global, server: &mut Server, station: Station) -> Result<Vec<u8>, WriteError>
     ensures { IfOk result (λ bytes. bytes.items ≡ texts.stream_text server.old station) }
 {
-    front(
-        alloc,
-        server,
-        station,
-        200,
-        b"OK",
-        STREAM,
-        BodySize::Unknown,
-    )
+    let head = Head {
+        status: 200,
+        reason: b"OK",
+        kind: STREAM,
+    };
+    front(alloc, server, station, head, BodySize::Unknown)
 }
 
 fn nonce_line(alloc: Global, nonce: u64) -> Result<Vec<u8>, AllocError>
@@ -316,17 +315,13 @@ fn nonce_text(
 ) -> Result<Vec<u8>, WriteError>
     ensures { IfOk result (λ bytes. bytes.items ≡ texts.nonce_text server.old station nonce) }
 {
+    let head = Head {
+        status: 200,
+        reason: b"OK",
+        kind: TEXT,
+    };
     match nonce_line(alloc, nonce) {
-        Ok(line) => whole(
-            alloc,
-            server,
-            station,
-            200,
-            b"OK",
-            TEXT,
-            line.as_slice(),
-            false,
-        ),
+        Ok(line) => whole(alloc, server, station, head, line.as_slice(), false),
         Err(_) => Err(WriteError::OutOfMemory),
     }
 }
@@ -350,7 +345,12 @@ fn handed_text(
     ensures { IfOk result (λ bytes. bytes.items ≡ texts.handed_text server.old station hidden.now) }
 {
     let line = handed_line(hidden);
-    whole(alloc, server, station, 200, b"OK", TEXT, &line[..], false)
+    let head = Head {
+        status: 200,
+        reason: b"OK",
+        kind: TEXT,
+    };
+    whole(alloc, server, station, head, &line[..], false)
 }
 
 /// The answer to what was asked for, while this is shown.
@@ -359,7 +359,7 @@ pub fn reply(
     server: &mut Server,
     ask: Ask,
     head: bool,
-    shown: &Shown,
+    shown: &PageTexts,
 ) -> Result<Vec<u8>, WriteError>
     ensures { IfOk result (λ bytes. bytes.items ≡ texts.answer_text server.old ask head shown.now) }
 {
@@ -398,7 +398,7 @@ fn event_of(alloc: Global, number: u64, text: &[u8]) -> Result<Vec<u8>, AllocErr
 }
 
 /// What is shown, as an event: to who is signed what is hidden by the secret of the desk's page, and to all others the state.
-fn event(alloc: Global, is_signed: bool, shown: &Shown) -> Result<Vec<u8>, AllocError>
+fn event(alloc: Global, is_signed: bool, shown: &PageTexts) -> Result<Vec<u8>, AllocError>
     ensures { IfOk result (λ bytes. bytes.items ≡ texts.event is_signed shown.now) }
 {
     if is_signed {
@@ -422,7 +422,7 @@ pub fn told(
     alloc: Global,
     server: &mut Server,
     is_signed: bool,
-    shown: &Shown,
+    shown: &PageTexts,
 ) -> Result<Vec<u8>, WriteError>
     ensures { IfOk result (λ bytes. bytes.items ≡ texts.told_text server.old is_signed shown.now) }
 {

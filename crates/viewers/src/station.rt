@@ -3,7 +3,7 @@
 ghost use Rattle.std.specs.Prelude.{◌≡◌};
 ghost use Rattle.viewers.specs.Replies as texts;
 
-use crate::{desk_page, page};
+use served_pages::{desk, scoreboard};
 
 /// Whose page it is: a board's, at which anybody looks, or a desk's, in which its scorer types.
 #[derive(Clone, Copy)]
@@ -17,8 +17,8 @@ pub fn page_of(station: Station) -> &'static [u8]
     ensures { result.now ≡ texts.page_of station }
 {
     match station {
-        Station::Board => page::PAGE,
-        Station::Desk => desk_page::PAGE,
+        Station::Board => scoreboard::PAGE,
+        Station::Desk => desk::PAGE,
     }
 }
 
@@ -27,7 +27,7 @@ pub fn policy_of(station: Station) -> &'static [u8]
     ensures { result.now ≡ texts.policy_of station }
 {
     match station {
-        Station::Board => page::POLICY,
-        Station::Desk => desk_page::POLICY,
+        Station::Board => scoreboard::POLICY,
+        Station::Desk => desk::POLICY,
     }
 }

@@ -9,17 +9,17 @@ use crate::asks::{Ask, Asked, Heading, Wish, bytes_at, wish_in};
 use crate::guest::{Guest, Stay};
 use crate::inbox::{Inbox, give, hand_out, is_passed, take};
 use crate::logs::SaidLog;
+use crate::page_texts::PageTexts;
 use crate::replies::{beat, reply, told};
-use crate::shown::Shown;
 use crate::station::Station;
 use crate::stream::{Stream, Wire};
+use crate::times::VIEWER_PATIENCE;
 use arrayvec::ArrayVec;
 use bytes::{Buf, BytesMut};
 use http1::{Event, Limits, Server, WriteError};
 use httparse::spans::{EMPTY_HEADER_SPAN, HeaderSpan, Span};
 use std::alloc::Global;
 use std::io;
-use waits::VIEWER_PATIENCE;
 
 /// How many pieces are read or written at once.
 const MOST_PIECES: u32 = 8;
@@ -71,6 +71,8 @@ pub struct Viewer<S: Stream> {
     is_signed: bool,
     since: u64,
     may_read: bool,
+    /// Whether it took all pieces that it was handed last, so that it may take more.
+    takes_more: bool,
     /// Whether nothing more comes from it.
     is_left: bool,
     is_gone: bool,
@@ -97,6 +99,7 @@ impl<S: Stream> Viewer<S> {
             is_signed: false,
             since: now,
             may_read: true,
+            takes_more: false,
             is_left: false,
             is_gone: false,
         }
@@ -122,6 +125,11 @@ impl<S: Stream> Viewer<S> {
         ensures { result ≡ self.now.is_signed }
     {
         self.is_signed
+    }
+
+    /// Whether more can be read of it, or taken by it, at once.
+    pub fn has_more(&self) -> bool {
+        !self.is_gone && (self.may_read || self.takes_more)
     }
 
     /// What it is at.
@@ -169,7 +177,7 @@ impl<S: Stream> Viewer<S> {
     }
 
     /// Answers what was asked for, while this is shown.
-    fn answer(&mut self, alloc: Global, asked: Asked, shown: &Shown) {
+    fn answer(&mut self, alloc: Global, asked: Asked, shown: &PageTexts) {
         if self.is_sending() {
             return;
         }
@@ -216,7 +224,7 @@ impl<S: Stream> Viewer<S> {
         &mut self,
         alloc: Global,
         heading: Heading,
-        shown: &Shown,
+        shown: &PageTexts,
         inbox: &mut Option<Inbox>,
     ) {
         let mut fields: [HeaderSpan; 32] = [EMPTY_HEADER_SPAN; MOST_FIELDS];
@@ -240,7 +248,7 @@ impl<S: Stream> Viewer<S> {
     }
 
     /// Answers, not as to a request for a head alone.
-    fn reply_to(&mut self, alloc: Global, ask: Ask, shown: &Shown) {
+    fn reply_to(&mut self, alloc: Global, ask: Ask, shown: &PageTexts) {
         self.answer(
             alloc,
             Asked {
@@ -252,7 +260,7 @@ impl<S: Stream> Viewer<S> {
     }
 
     /// Is told each new state, by a good pass, or by none as others are.
-    fn watch(&mut self, alloc: Global, is_good: bool, shown: &Shown) {
+    fn watch(&mut self, alloc: Global, is_good: bool, shown: &PageTexts) {
         self.is_signed = is_good;
         let ask = if self.guest.is_behind && !is_good {
             Ask::Full
@@ -263,7 +271,7 @@ impl<S: Stream> Viewer<S> {
     }
 
     /// Learns whether a pass is good.
-    fn look(&mut self, alloc: Global, is_good: bool, shown: &Shown) {
+    fn look(&mut self, alloc: Global, is_good: bool, shown: &PageTexts) {
         let ask = if is_good {
             Ask::Signed
         } else {
@@ -273,7 +281,7 @@ impl<S: Stream> Viewer<S> {
     }
 
     /// Reads the head that came, once it is whole, and does what it wishes.
-    fn read_head(&mut self, alloc: Global, shown: &Shown, inbox: &mut Option<Inbox>, now: u64) {
+    fn read_head(&mut self, alloc: Global, shown: &PageTexts, inbox: &mut Option<Inbox>, now: u64) {
         match self.wish(shown.station) {
             Some(Wish::Answer(asked)) => {
                 let asked = asked.ready(shown, self.guest.is_behind);
@@ -295,7 +303,7 @@ impl<S: Stream> Viewer<S> {
     }
 
     /// Does what follows of what came, in so many steps: a head, a line's pieces, its end. What stands behind is passed over.
-    fn go_on(&mut self, alloc: Global, shown: &Shown, inbox: &mut Option<Inbox>, now: u64) {
+    fn go_on(&mut self, alloc: Global, shown: &PageTexts, inbox: &mut Option<Inbox>, now: u64) {
         for _ in 0..MOST_PIECES {
             match self.stage {
                 Stage::Head => self.read_head(alloc, shown, inbox, now),
@@ -310,7 +318,7 @@ impl<S: Stream> Viewer<S> {
         &mut self,
         alloc: Global,
         bytes: &[u8],
-        shown: &Shown,
+        shown: &PageTexts,
         inbox: &mut Option<Inbox>,
         now: u64,
     ) {
@@ -334,7 +342,7 @@ impl<S: Stream> Viewer<S> {
     }
 
     /// Reads once, and answers what was asked for.
-    fn read(&mut self, alloc: Global, shown: &Shown, inbox: &mut Option<Inbox>, now: u64) {
+    fn read(&mut self, alloc: Global, shown: &PageTexts, inbox: &mut Option<Inbox>, now: u64) {
         let mut buffer = [0u8; 2048];
         match self.wire.read(&mut buffer) {
             Ok(Some(0)) => self.leave(),
@@ -404,8 +412,10 @@ impl<S: Stream> Viewer<S> {
     fn send(&mut self, now: u64)
         ensures { self.new.said ≡ self.old.said }
     {
+        self.takes_more = true;
         for _ in 0..MOST_PIECES {
             if !self.hand_on(now) {
+                self.takes_more = false;
                 break;
             }
         }
@@ -413,7 +423,7 @@ impl<S: Stream> Viewer<S> {
     }
 
     /// Reads what came, as far as that goes at once, and answers it.
-    pub fn serve(&mut self, alloc: Global, shown: &Shown, inbox: &mut Option<Inbox>, now: u64) {
+    pub fn serve(&mut self, alloc: Global, shown: &PageTexts, inbox: &mut Option<Inbox>, now: u64) {
         for _ in 0..MOST_PIECES {
             if !self.may_read || self.is_gone {
                 break;
@@ -424,7 +434,7 @@ impl<S: Stream> Viewer<S> {
     }
 
     /// The number of what is shown, as it may read it.
-    fn number_of(&self, shown: &Shown) -> u64
+    fn number_of(&self, shown: &PageTexts) -> u64
         ensures { result ≡ number_for self.now.is_signed shown.now }
     {
         if self.is_signed {
@@ -435,7 +445,7 @@ impl<S: Stream> Viewer<S> {
     }
 
     /// Tells it what is shown, as it may read it.
-    fn tell_state(&mut self, alloc: Global, shown: &Shown)
+    fn tell_state(&mut self, alloc: Global, shown: &PageTexts)
         ensures { Tells self.old.server self.old.is_signed shown.now (said_in self.old.said) (said_in self.new.said) }
     {
         if self.is_sending() {
@@ -463,7 +473,7 @@ impl<S: Stream> Viewer<S> {
     /// Tells it what is shown, where it has asked for that and wasn't told it, and where there is nothing new, at a beat, that
     /// the station is there. What it hasn't taken yet comes first: so of several states it gets the newest alone. Who isn't signed is
     /// told of a desk nothing that its scorer wrote.
-    pub fn tell(&mut self, alloc: Global, shown: &Shown, is_beat: bool, now: u64)
+    pub fn tell(&mut self, alloc: Global, shown: &PageTexts, is_beat: bool, now: u64)
         ensures { Tells self.old.server self.old.is_signed shown.now (said_in self.old.said) (said_in self.new.said) }
     {
         let Stage::Watching(number) = self.stage else {

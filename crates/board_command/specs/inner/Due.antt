@@ -1,8 +1,11 @@
 -- What is made for a file that is due.
-use Rattle.std.specs.Prelude.{◌≡◌, ℕ, Bool, false, List, Option, Some, None, Result, Vec, IfOk, IfSome, is_some}
+use Rattle.std.specs.Prelude.{◌≡◌, ℕ, Bool, true, false, ◌||◌, List, Option, Some, None, Result, Vec, IfOk, IfSome, is_some}
 use Rattle.std.specs.declared.alloc.Global.{Global}
 use Rattle.board_command.specs.Files as files
-use Rattle.board_command.specs.declared.files.{Kept.Kept, Moment.Moment}
+use Rattle.board_command.specs.Files.{script_with}
+use Rattle.board_command.specs.declared.files.{Due.Due, Files.Files, Kept.Kept, Moment.Moment, Texts.Texts}
+use Rattle.board_command.specs.declared.files.TheConstants.{FOREVER}
+use Rattle.board_command.specs.declared.times.TheConstants.{LONGEST_STATE_AGE}
 
 module _ {T E : Type 0} (longest : ℕ) (m : Moment) where
   -- whether there is a file that is to be written
@@ -10,6 +13,33 @@ module _ {T E : Type 0} (longest : ℕ) (m : Moment) where
   is_due None = false
   is_due (Some kept) = files.is_due kept.tried m longest
 
-  -- something is made exactly where there is one: the text, or it couldn't be made
-  abbrev pub IsMade : {F : Type 0} → List ℕ → Option (Kept T E) → Option (Result (Vec ℕ Global) F) → Type 0
-  IsMade text file made = (is_some made ≡ is_due file) × IfSome made (λ result. IfOk result (λ bytes. bytes.items ≡ text))
+-- which files are to be written
+abbrev pub due_of : {T E B : Type 0} → Files T E B → Moment → Due
+due_of files m = record {
+  lines = is_due FOREVER m files.text;
+  state = is_due LONGEST_STATE_AGE m files.state;
+  script = is_due LONGEST_STATE_AGE m files.script;
+}
+
+-- those that are due here or there
+abbrev pub either : Due → Due → Due
+either one other = record {
+  lines = one.lines || other.lines;
+  state = one.state || other.state;
+  script = one.script || other.script;
+}
+
+module _ {F : Type 0} (text : List ℕ) where
+  -- what was made is the text, or it couldn't be made
+  abbrev pub IsText : Option (Result (Vec ℕ Global) F) → Type 0
+  IsText made = IfSome made (λ result. IfOk result (λ bytes. bytes.items ≡ text))
+
+-- it was made where it is due
+abbrev pub IsMadeWhere : {F : Type 0} → Bool → List ℕ → Option (Result (Vec ℕ Global) F) → Type 0
+IsMadeWhere due text made = (due ≡ true → is_some made ≡ true) × IsText text made
+
+-- so all three, of these lines and this value
+pub record AreMade (due : Due) (rows value : List ℕ) (made : Texts) : Type 0 where
+  pub lines : IsMadeWhere due.lines rows made.lines
+  pub state : IsMadeWhere due.state value made.state
+  pub script : IsMadeWhere due.script (script_with value) made.script

@@ -4,8 +4,8 @@ ghost use Rattle.std.specs.Prelude.{◌<◌};
 use super::*;
 use links::{Link, Receivers, Taken, Window};
 use seal::{
-    CarriedLog, Ring, Seal, Sealed, SealedBuffer, SealedBytes, SealedCarrier, TaggedMessage,
-    form_for,
+    CarriedLog, Receipts, Ring, Seal, Sealed, SealedBuffer, SealedBytes, SealedCarrier,
+    TaggedMessage, form_for,
 };
 use wire::MessageBytes;
 
@@ -42,6 +42,7 @@ impl World {
             back: Cell::new(0),
             last: Cell::new(TaggedMessage {
                 message: [0; 48],
+                receipt: None,
                 tags: [[0; 16]; 5],
             }),
             waited: Cell::new(0),
@@ -97,7 +98,15 @@ impl SealedCarrier for Post<'_> {
 
 type Windowed<'a> = Window<Sealed<Post<'a>>, Hand<'a>>;
 
-fn windowed(alloc: Global, world: &World) -> Windowed<'_> {
+fn windowed<'a>(rt: &impl Abort, alloc: Global, world: &'a World) -> Windowed<'a> {
+    let ring = Ring::new(
+        Asker::Board,
+        [seal(), seal(), seal(), seal(), seal()],
+        false,
+    );
+    let Ok(receipts) = Receipts::of(alloc, &ring) else {
+        panic!(rt; "no memory");
+    };
     let post = Post {
         world,
         log: CarriedLog::Empty,
@@ -106,15 +115,7 @@ fn windowed(alloc: Global, world: &World) -> Windowed<'_> {
         now: &world.now,
         log: ClockLog::Empty,
     };
-    Window::new(
-        alloc,
-        Sealed::new(
-            post,
-            Ring::new(Asker::Board, [seal(), seal(), seal(), seal(), seal()]),
-        ),
-        hand,
-        7,
-    )
+    Window::new(alloc, Sealed::new(post, ring, receipts), hand, 7)
 }
 
 /// The match's seal.
@@ -190,7 +191,7 @@ fn rests(rt: &impl Abort, window: &mut Windowed<'_>, world: &World, now: u64, wa
 
 /// The last datagram was this one.
 fn has_said(rt: &impl Abort, world: &World, message: &MessageBytes) {
-    assert!(rt; form_for(0, &world.last.get()) == seal().sealed(message));
+    assert!(rt; form_for(0, &world.last.get()).as_slice() == seal().sealed(message).as_slice());
 }
 
 /// A board's ask for a place is given, and desk A answers it.
@@ -214,7 +215,7 @@ fn goes_on(rt: &impl Abort, window: &mut Windowed<'_>, world: &World, place: u32
 #[test]
 fn an_ask_stands_for_those_behind_it(rt: HostRuntime) {
     let world = World::new();
-    let mut window = windowed(rt.alloc(), &world);
+    let mut window = windowed(&rt, rt.alloc(), &world);
     world.peer.set(2);
     is_answered(&rt, &mut window, &world, 0);
     for place in 1..64 {
@@ -240,7 +241,7 @@ fn an_ask_stands_for_those_behind_it(rt: HostRuntime) {
 #[test]
 fn a_block_may_be_asked_for_again_after_half_a_second(rt: HostRuntime) {
     let world = World::new();
-    let mut window = windowed(rt.alloc(), &world);
+    let mut window = windowed(&rt, rt.alloc(), &world);
     world.now.set(1_000);
     is_answered(&rt, &mut window, &world, 62);
     gives(&rt, &mut window, &ask_at(Asker::Board, 63, 0));
@@ -256,7 +257,7 @@ fn a_block_may_be_asked_for_again_after_half_a_second(rt: HostRuntime) {
 #[test]
 fn a_peer_has_so_many_windows(rt: HostRuntime) {
     let world = World::new();
-    let mut window = windowed(rt.alloc(), &world);
+    let mut window = windowed(&rt, rt.alloc(), &world);
     let mut opened: u32 = 0;
     for turn in 0..600_u32 {
         world.now.set(u64::from(turn) * 10);
@@ -270,7 +271,7 @@ fn a_peer_has_so_many_windows(rt: HostRuntime) {
 #[test]
 fn early_votes_come_again_when_the_board_is_there(rt: HostRuntime) {
     let world = World::new();
-    let mut window = windowed(rt.alloc(), &world);
+    let mut window = windowed(&rt, rt.alloc(), &world);
     window.send(&ask_at(Asker::Board, 0, 0));
     let one = over(&rt, DeskId::A, 1, 0);
     let other = over(&rt, DeskId::B, 1, 0);
@@ -296,7 +297,7 @@ fn early_votes_come_again_when_the_board_is_there(rt: HostRuntime) {
 #[test]
 fn a_second_round_comes_in_its_turn(rt: HostRuntime) {
     let world = World::new();
-    let mut window = windowed(rt.alloc(), &world);
+    let mut window = windowed(&rt, rt.alloc(), &world);
     window.send(&over(&rt, DeskId::A, 3, 0));
     let second = over(&rt, DeskId::B, 3, 1);
     let next = over(&rt, DeskId::B, 4, 0);
@@ -327,7 +328,7 @@ fn is_unopened(rt: &impl Abort, window: &mut Windowed<'_>, world: &World, place:
 #[test]
 fn what_is_far_ahead_or_forged_is_not_kept(rt: HostRuntime) {
     let world = World::new();
-    let mut window = windowed(rt.alloc(), &world);
+    let mut window = windowed(&rt, rt.alloc(), &world);
     window.send(&ask_at(Asker::B, 0, 0));
     hears(&rt, &mut window, &world, DeskId::A, 2_049);
     hears(&rt, &mut window, &world, DeskId::A, 2_048);
@@ -347,7 +348,7 @@ fn what_is_far_ahead_or_forged_is_not_kept(rt: HostRuntime) {
 #[test]
 fn an_ask_is_said_again_where_later_votes_are_here(rt: HostRuntime) {
     let world = World::new();
-    let mut window = windowed(rt.alloc(), &world);
+    let mut window = windowed(&rt, rt.alloc(), &world);
     let ask = ask_at(Asker::B, 0, 0);
     window.send(&ask);
     rests(&rt, &mut window, &world, 0, 250);
@@ -387,7 +388,7 @@ fn asks(
 #[test]
 fn an_answer_is_waited_for_a_round_trip_and_a_half(rt: HostRuntime) {
     let world = World::new();
-    let mut window = windowed(rt.alloc(), &world);
+    let mut window = windowed(&rt, rt.alloc(), &world);
     window.send(&ask_at(Asker::B, 0, 0));
     world.now.set(30);
     hears(&rt, &mut window, &world, DeskId::A, 0);
@@ -402,7 +403,7 @@ fn an_answer_is_waited_for_a_round_trip_and_a_half(rt: HostRuntime) {
 #[test]
 fn an_ask_waits_for_what_was_asked_before(rt: HostRuntime) {
     let world = World::new();
-    let mut window = windowed(rt.alloc(), &world);
+    let mut window = windowed(&rt, rt.alloc(), &world);
     window.send(&ask_at(Asker::B, 0, 0));
     world.now.set(30);
     hears(&rt, &mut window, &world, DeskId::A, 0);
@@ -441,7 +442,7 @@ fn is_heard(
 #[test]
 fn a_silent_station_asks(rt: HostRuntime) {
     let world = World::new();
-    let mut window = windowed(rt.alloc(), &world);
+    let mut window = windowed(&rt, rt.alloc(), &world);
     rests(&rt, &mut window, &world, 10_000, 250);
     has_sent(&rt, &world, 0);
     window.send(&over(&rt, DeskId::A, 0, 0));

@@ -50,6 +50,10 @@ impl Shows<Book> for States {
         self.log = self.log.handed(sheet, book, trouble);
         Ok(())
     }
+
+    fn longest_wait(&self) -> u64 {
+        u64::MAX
+    }
 }
 
 /// A board's turns.

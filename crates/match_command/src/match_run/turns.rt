@@ -33,7 +33,10 @@ use notation::{Entry, read_line};
 use setup::TURNS;
 use std::alloc::{AllocError, Global};
 use streams::{Sink, Watched, WriteFailed};
-use waits::MATCH_DATAGRAM_WAIT;
+
+/// How many milliseconds the stations of a `match` wait for a datagram.
+/// Over loopback it is there at once, or was dropped.
+const MATCH_DATAGRAM_WAIT: u64 = 10;
 
 /// Why no desk is made on an empty disk.
 fn creation_fault(why: OpenRefusal) -> MatchFault

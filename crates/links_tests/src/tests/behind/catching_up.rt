@@ -16,7 +16,7 @@ fn agrees(rt: &impl Abort, window: &mut Windowed<'_>, world: &World, place: u32)
 #[test]
 fn what_is_ahead_is_asked_for_as_votes_come(rt: HostRuntime) {
     let world = World::new();
-    let mut window = windowed(rt.alloc(), &world);
+    let mut window = windowed(&rt, rt.alloc(), &world);
     window.send(&ask_at(Asker::Board, 0, 0));
     for place in 0..33 {
         agrees(&rt, &mut window, &world, place);
@@ -40,7 +40,7 @@ fn what_is_ahead_is_asked_for_as_votes_come(rt: HostRuntime) {
 #[test]
 fn a_lost_block_is_asked_for_as_one(rt: HostRuntime) {
     let world = World::new();
-    let mut window = windowed(rt.alloc(), &world);
+    let mut window = windowed(&rt, rt.alloc(), &world);
     window.send(&ask_at(Asker::B, 0, 0));
     for place in 0..34 {
         hears(&rt, &mut window, &world, DeskId::A, place);

@@ -6,10 +6,12 @@ pub returns-clause-text : goal.returns-clause-text
 unfolding innings_row
 returns-clause-text g c =
     let stands = c.score-score.ensures.score in
-    let line = rw c.form_of-form.ensures at c.in_ok-print_line_in.ensures.text in
-    let above = rw c.form_of-form.ensures at (c.in_ok-print_above.ensures.text _ _ stands) in
+    let form = c.form_of-form.ensures in
+    let above = rw (c.above.ensures _ _ stands, form) at c.in_ok-print.ensures.text in
+    let line = rw (c.line_in.ensures, form) at c.in_ok-print-2.ensures.text in
     let row = appends_both _ _ _ _ _ (appends_both _ _ _ _ _ above line) c.in_ok-writeln.ensures.bytes in
-    let below = rw c.form_of-form.ensures at c.in_ok-print_limits_below.ensures.text in
-    let needs = rw (c.left_now.ensures _ _ stands) at (c.in_ok-print_needs_row.ensures.text _ _ stands) in
+    let below = rw (c.limits_below.ensures, form) at c.in_ok-print-3.ensures.text in
+    let needs = rw (c.needs_row.ensures _ _ stands, c.left_now.ensures _ _ stands) at c.in_ok-print-4.ensures.text in
     let three = appends_both _ _ _ _ _ (appends_both _ _ _ _ _ row below) needs in
-    appends_last c.print_result_row.result _ _ _ _ _ three (c.print_result_row.ensures.text _ _ stands)
+    let result = rw (c.result_row.ensures _ _ stands) at c.print-5.ensures.text in
+    appends_last c.print-5.result _ _ _ _ _ three result

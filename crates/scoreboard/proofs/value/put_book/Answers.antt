@@ -10,5 +10,5 @@ returns g c =
     (ends c.put_over_runs.result _ _
     (starts c.in_ok-put_head.ensures ▸ (rw c.limits.ensures at c.in_ok-put_limits.ensures)
     ▸ (c.in_ok-put_all_innings.ensures _ _ stands falls)
-    ▸ (c.in_ok-put_now.ensures _ _ stands c.overs_of-overs.ensures.overs (c.told_of-told.ensures c.overs_of-overs.ensures.overs) c.partnership_now.ensures))
+    ▸ (c.in_ok-put_now.ensures _ _ stands c.overs_of-overs.ensures.overs (c.situation_of-situation.ensures c.overs_of-overs.ensures.overs) c.partnership_now.ensures))
     c.put_over_runs.ensures)

@@ -1,8 +1,8 @@
-use Rattle.std.proofs.Common.{◌≡◌, ◌∙◌, ◌⊎◌, inl, inr, ℕ, List, length, take, refl, sym, ap, subst, arith}
+use Rattle.std.proofs.Common.{◌≡◌, ◌∙◌, ◌⊎◌, inl, inr, ℕ, List, length, take, refl, sym, subst, arith}
 use Rattle.std.specs.Prelude.{slice_index_or}
 use Rattle.std.proofs.lemmas.List.{length-take-le, take_all, take_more}
 use Rattle.seal.specs.Rings.{IsFormBy}
-use Rattle.seal.specs.Sealed.{sealed}
+use Rattle.seal.specs.Sealed.{IsSealed}
 use Rattle.seal.proofs.SealedForms.{front}
 use Rattle.seal.proofs.OpeningLemmas.{before_or_last, front_of}
 use Rattle.seal.proofs.ring.opened_by.Goals as goal
@@ -23,9 +23,12 @@ loop-seal-preserved c = (
 )
   where
     by : (message : List ℕ) → length message ≡ 48
-        → IsFormBy (take c.loop-seal.seal-index c.args.seals.now) message c.args.bytes.now ⊎ (c.args.bytes.now ≡ sealed (slice_index_or c.args.seals.now c.loop-seal.seal-index c.seal-item.result) message) → ⊥
+        → IsFormBy (take c.loop-seal.seal-index c.args.seals.now) message c.args.bytes.now
+        ⊎ IsSealed (slice_index_or c.args.seals.now c.loop-seal.seal-index c.seal-item.result) message c.args.bytes.now → ⊥
     by message long (inl is) = c.loop-seal.invariant.1 message long is
-    by message long (inr e) = let opened = (c.opened.ensures.each message long (e ∙ ap (λ (l : List ℕ). sealed l message) (sym c.seal-item.is))).0 in absurd (cc)
+    by message long (inr e) =
+        let opened = (c.opened.ensures.each message long (subst (λ (l : List ℕ). IsSealed l message c.args.bytes.now) (sym c.seal-item.is) e)).0 in
+        absurd (cc)
 
 pub returns-clause-each : goal.returns-clause-each
 returns-clause-each c = λ message long is.

@@ -1,5 +1,0 @@
-use Rattle.score_rows.proofs.Texts.{joins}
-use Rattle.score_rows.proofs.limited.print_bowled_of.Goals as goal
-
-pub returns-clause-text : goal.returns-clause-text
-returns-clause-text g c = grind joins

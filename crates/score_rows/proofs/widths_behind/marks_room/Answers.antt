@@ -1,8 +1,0 @@
-use Rattle.score_rows.proofs.Items.{item_by_item}
-use Rattle.score_rows.proofs.widths_behind.marks_room.Goals as goal
-
-pub loop-placed-preserved : goal.loop-placed-preserved
-loop-placed-preserved c = grind item_by_item
-
-pub returns : goal.returns
-returns c = grind item_by_item

@@ -1,5 +1,0 @@
-use Rattle.std.proofs.Common.{length}
-use Rattle.sheet_check.proofs.shown.+push_overs.Given as goal
-
-abbrev pub decreases-push_overs : goal.decreases-push_overs
-decreases-push_overs l = length l.overs.now
