@@ -9,10 +9,14 @@
 //   ["pass", milliseconds]  time goes on
 //   ["rest", isDown]        a finger comes down, and rests, or goes up
 //   ["cut"]                 the stream of events ends; the page asks for it anew in its time
+//   ["reach", isReached]    from now on the desk is reached, or isn't; the stream of events ends, if it is open
+//   ["silence"]             from now on it isn't reached, and nothing says so
+//   ["answers", isAnswered] from now on a line that is posted is answered, or it reaches the desk and nothing comes back
 //   ["load"]                the page is loaded again
 //   ["type", line]          a line is written in the field for any line
 //   ["run", code]           what this code of the page comes to
 //   ["posted"]              the lines that were posted, each with the place it was for
+//   ["shaken"]              how the telephone was shaken since
 //   ["fetched"]             how often the book was asked for
 "use strict";
 const crypto = require("crypto"), fs = require("fs"), vm = require("vm");
@@ -73,7 +77,8 @@ function documentOf() {
 // ---- A page in its time.
 const kept = new Map([["secret", SECRET.toString("hex")]]);
 let time = 1e6, timers = [], page = null, number = 0, fetched = 0, book = null, between = ["", ""];
-const posted = [], frames = [];
+let isReached = true, isAnswered = true;
+const posted = [], frames = [], shaken = [];
 // The digest of each book that the desk has in these steps, by how many entries it has.
 const sums = new Map(steps.filter(([name, value]) => name === "book" && value).map(([, value]) => [value.entries, crypto.createHash("sha256").update(JSON.stringify(value)).digest("hex")]));
 
@@ -96,6 +101,7 @@ async function pass(wait) {
 }
 
 function answer(path, { method, headers, body } = {}) {
+  if (!isReached) throw new Error("no network");
   const said = text => ({ ok: true, status: 200, text: async () => text, json: async () => JSON.parse(text) });
   if (path === "book.json") {
     fetched += 1;
@@ -103,12 +109,13 @@ function answer(path, { method, headers, body } = {}) {
     return said(JSON.stringify(book).replace(...between));
   }
   if (method === "POST") posted.push([headers["X-At"], turned(Buffer.concat([Buffer.from("desk "), Buffer.from(headers["X-Tag"], "hex")]), Buffer.from(body)).toString()]);
+  if (method === "POST" && !isAnswered) throw new Error("no answer");
   return said("7\n");
 }
 
 // The events, which begin at once.
 class Source {
-  constructor() { this.heard = {}; page.source = this; after(() => this.onopen()); }
+  constructor() { this.heard = {}; page.source = this; after(() => isReached ? this.onopen() : this.onerror()); }
   addEventListener(name, then) { this.heard[name] = then; }
   close() { this.isClosed = true; }
 }
@@ -121,11 +128,11 @@ async function load() {
     setTimeout: (then, wait) => after(then, wait), setInterval: (then, wait) => after(then, wait, wait), clearTimeout: it => { timers = timers.filter(one => one !== it); },
     fetch: async (path, options) => answer(path, options), location: { search: "", hash: "", pathname: "/" }, history: { replaceState() {} },
     sessionStorage: { getItem: key => kept.get(key), setItem: (key, value) => kept.set(key, value), removeItem: key => kept.delete(key) },
-    addEventListener: (name, then) => listeners.push([name, then]),
+    addEventListener: (name, then) => listeners.push([name, then]), navigator: { vibrate: times => shaken.push(times) },
   };
   page = { document, listeners, context: vm.createContext(window), source: null };
   vm.runInContext(script, page.context);
-  after(() => { if (!page.source.isClosed) page.source.heard.beat(); }, 2000, 2000);
+  after(() => { if (isReached && !page.source.isClosed) page.source.heard.beat(); }, 2000, 2000);
   await settled();
   await pass(1);
 }
@@ -170,6 +177,13 @@ const STEPS = {
   pass,
   async rest(isDown) { happen(isDown ? "pointerdown" : "pointerup", null); },
   async cut() { page.source.onerror(); await pass(2600); },
+  async reach(is) {
+    isReached = is;
+    if (!is && !page.source.isClosed) page.source.onerror();
+    await pass(is ? 2600 : 1);
+  },
+  async silence() { isReached = false; },
+  async answers(is) { isAnswered = is; },
   load,
   async type(line) {
     page.document.getElementById("line").value = line;
@@ -179,6 +193,7 @@ const STEPS = {
   async run(code) { return vm.runInContext(code, page.context); },
   async posted() { return posted.splice(0); },
   async fetched() { return fetched; },
+  async shaken() { return shaken.splice(0); },
 };
 
 (async () => {
@@ -186,7 +201,7 @@ const STEPS = {
   await load();
   for (const [name, ...words] of steps) {
     const what = await STEPS[name](...words);
-    if (["run", "posted", "fetched"].includes(name)) found.push(JSON.stringify(what === undefined ? null : what));
+    if (["run", "posted", "fetched", "shaken"].includes(name)) found.push(JSON.stringify(what === undefined ? null : what));
   }
   console.log("[" + found.join(",") + "]");
 })().catch(why => { console.error(why.stack); process.exitCode = 1; });
