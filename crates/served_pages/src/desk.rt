@@ -2,7 +2,7 @@
 
 /// What may be run and loaded in the page: its own style and script, and what it asks of its station.
 pub const POLICY: &[u8] =
-    b"default-src 'none'; script-src 'sha256-o+fGu424Q+ZLV95BNfC27pb+tWyRc2vJD4ghS0IwYxE='; style-src 'sha256-B84a2jJVt62bcn2KTCLvkTx9arKlmpNL4W/lapH/v/w='; connect-src 'self'; img-src data:; base-uri 'none'; form-action 'none'; frame-ancestors 'none'";
+    b"default-src 'none'; script-src 'sha256-VETGT04AtlaWmoW88z8IYZWHMj4KLuYFDQRr+bIg0Lg='; style-src 'sha256-fG+D0r1ggOak2xF6bZb012y2J1FY5fn76VrsA2XuLZs='; connect-src 'self'; img-src data:; base-uri 'none'; form-action 'none'; frame-ancestors 'none'";
 
 /// The page.
 pub const PAGE: &[u8] = b"<!DOCTYPE html>
@@ -11,13 +11,17 @@ pub const PAGE: &[u8] = b"<!DOCTYPE html>
 <meta charset=\"utf-8\">
 <meta name=\"viewport\" content=\"width=device-width, initial-scale=1, viewport-fit=cover\">
 <meta name=\"served\" content=\"events\">
-<link rel=\"icon\" href=\"data:,\">
+<meta name=\"mobile-web-app-capable\" content=\"yes\">
+<meta name=\"apple-mobile-web-app-capable\" content=\"yes\">
+<link rel=\"icon\" href=\"data:image/svg+xml,%3Csvg xmlns='http://www.w3.org/2000/svg' viewBox='0 0 96 96'%3E%3Crect width='96' height='96' rx='18' fill='%230f5a2c'/%3E%3Cpath d='M30 78V26m18 52V26m18 52V26M26 22h18m8 0h18' stroke='%23fff' stroke-width='7' stroke-linecap='round'/%3E%3C/svg%3E\">
+<link rel=\"manifest\" href='data:application/manifest+json,{\"name\":\"Desk\",\"display\":\"standalone\",\"background_color\":\"%23eef2ec\"}'>
 <title>Desk</title>
 <!-- A scorer's page, for a telephone in one hand, a tablet or a laptop. A desk serves it: it tells its state and its rows (GET /events), and takes
      what a scorer would type there (POST /line). The page writes only such lines, most of them short ones. What stands in the book it has from the
      desk (GET /book.json, and with each state what is new), and each figure is the desk's. A line that was tapped stands for three seconds, or as
      long as a finger rests, and may be taken back (?grace=1200 behind the address for another time), then it is sent once, with the place and the
-     round that the scorer saw, signed with the desk's secret, and hidden by it. It is never sent again by itself. The secret is given once for the
+     round that the scorer saw, signed with the desk's secret, and hidden by it. What is tapped while the desk isn't reached waits, and is sent in
+     its order when it is back. What was sent is never sent again by itself. The secret is given once for the
      ticket behind # in the link of the desk's square (POST /secret), stays in this tab, and stands in no address. What the desk tells its scorer
      alone comes hidden by it too. -->
 <style>
@@ -132,6 +136,14 @@ form input::placeholder { color: var(--quiet); opacity: 1; }
 #choices button { min-height: 60px; padding: .2em; font-weight: 600; font-size: .95em; }
 #choices .second { background: var(--soft); }
 /* Overs and balls. */
+#choices.cards { display: block; }
+#choices.cards h3 { padding: .6em .2em .2em; font-size: 1.1em; }
+#choices.cards p { padding: .2em; color: var(--quiet); overflow-wrap: anywhere; }
+#choices.cards table { width: 100%; border-collapse: collapse; background: var(--panel); margin: 4px 0; }
+#choices.cards th, #choices.cards td { padding: .25em .3em; border-bottom: 1px solid var(--line); font-weight: 400; text-align: right; vertical-align: top; }
+#choices.cards th:first-child { text-align: left; width: 99%; }
+#choices.cards thead th { color: var(--quiet); font-size: .85em; }
+#choices.cards small { display: block; font-size: .8em; color: var(--quiet); }
 #choices.list { grid-template-columns: repeat(2, minmax(0, 1fr)); }
 #choices.list button { min-height: 64px; padding: .4em .6em; text-align: left; font-size: 1em; }
 #choices.list small { font-size: .8em; white-space: pre-line; line-height: 1.25; }
@@ -270,6 +282,7 @@ const HELD = 3000;       // milliseconds for which nothing changes under a finge
 const LIFTED = 300;      // milliseconds behind a finger that is up in which its tap may still come
 const ANSWER = 4000;     // milliseconds in which the desk makes something of a line
 const ROWS = 200;        // rows that are kept
+const OLD = 600000;      // milliseconds for which a line that was tapped while the desk wasn't reached is worth sending
 const NUMBERS = [1, 2, 3, 4, 5, 6, 7, 8, 9, 10, 11];
 const SUBSTITUTE = 12;
 
@@ -556,12 +569,14 @@ function take(next) {
   isLive = isLive || !isFirst;
   isFirst = false;
   if (isAnother) {
+    if (isLive && !isFirst && differs()) shake(200, 100, 200);
     isAhead = false;
     settles = now() + SETTLE;
     if (state.wants !== \"bowler\") bowler = null;
   }
   if (sent && sent.before !== standing()) sent = null;
   hearAgain();
+  if (isLive) deliver();
 }
 
 // The words of corrections, and what is said of what they have changed.
@@ -579,7 +594,7 @@ function follow(row) {
   if (agreed) told.correction = CORRECTED[agreed[1]] || null;
   else if (two) { told.differs = { place: Number(two[1]), you: two[2], other: null }; told.other = null; }
   else if (theirs && told.differs && told.differs.other === null) told.differs.other = theirs[1];
-  else if (other) told.other = Number(other[1]);
+  else if (other) { told.other = Number(other[1]); if (isLive) shake(60); }
   else if (row === \"the other desk isn't heard\") told.isHeard = false;
   else if (row === \"the other desk is heard again\") told.isHeard = true;
   else if (row.startsWith(\"this file lacks lines that \")) told.doubts = row;
@@ -698,15 +713,40 @@ let note = null;         // what is to be read
 let bowler = null;       // who was chosen to bowl; the next ball is written with it
 let amend = null;        // the place that is put right, or behind which an entry was left out
 let isAhead = false;     // whether a line is written ahead of the other scorer
+let unwritten = [];      // what was tapped while the desk wasn't reached, in order: each with its place and round, and whether it was sent
 let settles = 0;         // until then nothing is taken
+let screenLock = null;   // by which the screen stays on
+
+// Shakes the telephone, where it can.
+function shake(...times) {
+  if (navigator.vibrate) navigator.vibrate(times);
+}
+
+// Keeps the screen on, where the browser has a word for it: not in a page without TLS.
+async function stayOn() {
+  if (screenLock || !navigator.wakeLock) return;
+  try {
+    screenLock = await navigator.wakeLock.request(\"screen\");
+    screenLock.addEventListener(\"release\", () => { screenLock = null; });
+  } catch (why) {
+    // It is asked for again at the next tap.
+  }
+}
 
 function tell(kind, head, detail) {
+  if (kind === \"bad\") shake(120, 60, 120);
   note = { kind, head, detail, since: now() };
   later();
 }
 
+// Whether what is tapped is kept for when the desk is back.
+const mayKeep = () => isKnown() && isLost() && secret !== null && !isAltered && told.doubts === null;
+
+// Whether a line is behind others that aren't agreed yet, or that the desk hasn't.
+const isBehind = () => isAhead || unwritten.length > 0 || isLost() && state.pending !== null;
+
 // Whether a line may be written now.
-const mayWrite = () => state !== null && !isLost() && secret !== null && !held && !sent && (state.pending === null || isAhead);
+const mayWrite = () => state !== null && secret !== null && !held && !sent && (isLost() ? mayKeep() : state.pending === null || isBehind());
 
 // A line that was tapped: it stands for a moment, and is then sent.
 function write(line, label) {
@@ -743,12 +783,53 @@ function flush() {
   }
   const label = drop();
   // A telephone that slept since then doesn't write what was tapped before.
-  if (isOld || isLost()) return tell(\"bad\", \"Not written: \" + label, UNREACHED);
-  if (state.pending !== null && !isAhead) return tell(\"bad\", \"Not written: \" + label, \"Another line of yours waits at this place already.\");
-  if (isAhead) bowler = null;
+  if (isOld || isLost() && !mayKeep()) return tell(\"bad\", \"Not written: \" + label, UNREACHED);
+  if (state.pending !== null && !isBehind()) return tell(\"bad\", \"Not written: \" + label, \"Another line of yours waits at this place already.\");
+  if (isBehind() || isLost()) bowler = null;
   amend = null;
   isAhead = false;
+  if (isLost() || unwritten.length > 0) return setAside(line, label);
   send(line, label, where);
+}
+
+// ---- What is tapped while the desk isn't reached: kept in order, and each line sent once when it is back, at the place that its scorer saw.
+const ASIDE = \"unwritten\";
+
+function keepAside(lines) {
+  unwritten = lines;
+  store(ASIDE, lines.length > 0 ? JSON.stringify(lines) : \"\");
+  later();
+}
+
+// The place behind all that the desk has of this scorer.
+const nextPlace = () => state.place + (state.pending === null ? 0 : 1) + state.held.length;
+
+function setAside(line, label) {
+  const round = unwritten.length === 0 && state.pending === null ? state.round : 0;
+  keepAside([...unwritten, { line, label, place: nextPlace() + unwritten.length, round, tapped: Date.now(), isSent: false }]);
+}
+
+function dropAside(why) {
+  const labels = unwritten.map(it => it.label).join(\", then \");
+  keepAside([]);
+  tell(\"bad\", \"Not written: \" + labels, (note && note.kind === \"bad\" ? note.detail + \"\\n\" : \"\") + why);
+}
+
+// Sends the first that was kept, once the desk has what was before it. What doesn't fit any more is shown, to be tapped again.
+function deliver() {
+  const first = unwritten[0];
+  if (!first || !isKnown() || isLost() || isFirst || secret === null || sent || held) return;
+  if (first.isSent && nextPlace() === first.place + 1) {
+    keepAside(unwritten.slice(1));
+    return deliver();
+  }
+  const isSame = nextPlace() === first.place && (state.pending !== null || state.round === first.round);
+  if (first.isSent || !isSame || Date.now() - first.tapped > OLD) return dropAside(\"See what stands at the desk, and tap what isn't there again.\");
+  send(first.line, first.label, position(), first);
+}
+
+function takeLastBack() {
+  keepAside(unwritten.slice(0, -1));
 }
 
 const ALTERED = \"Someone alters what passes between this page and the desk.\";
@@ -781,8 +862,15 @@ function fail(head, detail) {
   tell(\"bad\", head, detail);
 }
 
-// Sends a line, once. What was sent and not answered may stand at the desk.
-async function send(line, label, where) {
+// Where a line of which nothing was sent goes: it waits, or is told as not written.
+function putOff(line, label, kept) {
+  if (sent.isQuestion || !isKnown()) return fail(\"Not written: \" + label, UNREACHED);
+  sent = null;
+  return kept ? later() : setAside(line, label);
+}
+
+// Sends a line, once: one that was tapped now, or one that was kept. What was sent and not answered may stand at the desk.
+async function send(line, label, where, kept) {
   sent = { line, label, before: standing(), since: now(), isQuestion: QUESTION.test(line) };
   note = null;
   show();
@@ -790,8 +878,9 @@ async function send(line, label, where) {
   try {
     nonce = await nonceGiven();
   } catch (why) {
-    return fail(\"Not written: \" + label, UNREACHED);
+    return putOff(line, label, kept);
   }
+  if (kept) { kept.isSent = true; keepAside(unwritten); }
   const tag = tagged(secret, nonce + \" \" + where + \" \" + line), body = veiled(joined(lettersOf(\"desk \"), tag), lettersOf(line));
   try {
     answer = await request(\"line\", { method: \"POST\", headers: { \"X-At\": where, \"X-Nonce\": nonce, \"X-Tag\": hex(tag) }, body });
@@ -813,6 +902,43 @@ function question(line) {
   openTold();
   send(line, line, position());
 }
+
+// ---- The cards of each innings, of the figures that the desk tells.
+function cardRow(cells, name) {
+  const made = element(\"tr\");
+  made.append(...cells.map((cell, n) => {
+    const it = element(n === 0 ? \"th\" : name, cell[0]);
+    if (n === 0) it.scope = name === \"th\" ? \"col\" : \"row\";
+    if (cell[1]) it.append(element(\"small\", cell[1]));
+    return it;
+  }));
+  return made;
+}
+
+// A table with a row of heads; each cell is a text and what stands small below it.
+function cardTable(heads, rows) {
+  const made = element(\"table\"), head = element(\"thead\"), body = element(\"tbody\");
+  head.append(cardRow(heads.map(text => [text]), \"th\"));
+  body.append(...rows.map(cells => cardRow(cells.map(cell => Array.isArray(cell) ? cell : [String(cell)]), \"td\")));
+  made.append(head, body);
+  return made;
+}
+
+const extrasText = ({ byes, legbyes, wides, noballs, penalty }) => \"b \" + byes + \", lb \" + legbyes + \", w \" + wides + \", nb \" + noballs + \", p \" + penalty;
+const fallText = fall => fall.wicket + \"-\" + fall.runs + \" \" + fall.name + \", \" + fall.overs + \" overs\";
+
+function cardOf(it) {
+  const made = [element(\"h3\", it.team + \" \" + it.runs + \"/\" + it.wickets + (it.closed ? \"\" : \"*\") + \", \" + it.overs + \" overs\")];
+  made.push(cardTable([it.team, \"R\", \"B\", \"4s\", \"6s\"], it.batting.map(b => [[b.name, b.how], b.runs, b.balls, b.fours, b.sixes])));
+  made.push(element(\"p\", \"Extras \" + extrasText(it.extras)));
+  if (it === innings() && state.board.now.this_over.length > 0) made.push(element(\"p\", \"This over: \" + state.board.now.this_over.map(shownMark).join(\" \")));
+  if (it.falls.length > 0) made.push(element(\"p\", \"Fell: \" + it.falls.map(fallText).join(\"; \")));
+  if (it.bowling.length > 0) made.push(cardTable([\"Bowling\", \"O\", \"M\", \"R\", \"W\", \"wd\", \"nb\"], it.bowling.map(b => [b.name, b.overs, b.maidens, b.runs, b.wickets, b.wides, b.noballs])));
+  return made;
+}
+
+const cards = () => state.board.innings.length === 0 ? [element(\"p\", \"Nobody has batted yet.\")] : [...state.board.innings].reverse().flatMap(cardOf);
+const openCards = () => ask(\"Cards\", [], () => {}, \"cards\");
 
 // ---- What lines and numbers mean in words.
 const name = (side, number) => state.sides[side].players[number - 1];
@@ -908,7 +1034,7 @@ function entryWords(place) {
 }
 
 // ---- What comes next.
-const aheadLines = () => isAhead && state.pending !== null ? [state.pending, ...state.held] : [];
+const aheadLines = () => isBehind() ? [...(state.pending === null ? [] : [state.pending]), ...state.held, ...unwritten.map(it => it.line)] : [];
 const OUT = /\\b(out|bowled|caught|ct|c|lbw|stumped|st|runout|ro|hitwicket|hittwice|obstructing)\\b/;
 
 // What the desk wants, or will want behind the lines that are written ahead.
@@ -928,7 +1054,7 @@ function wants() {
 // Who may come in, in the sheet's order.
 function comers() {
   const gone = aheadLines().filter(line => line.startsWith(\"in \")).map(line => Number(line.slice(3)));
-  const all = state.may_come_in.length > 0 || !isAhead ? state.may_come_in : NUMBERS.filter(number => !innings() || !innings().batting.some(b => b.number === number));
+  const all = state.may_come_in.length > 0 || !isBehind() ? state.may_come_in : NUMBERS.filter(number => !innings() || !innings().batting.some(b => b.number === number));
   return all.filter(number => !gone.includes(number));
 }
 
@@ -995,9 +1121,9 @@ function drawSheet() {
   if (!top) return;
   put(\"question\", top.title);
   put(\"back\", questions.length > 1 ? \"Back\" : \"Cancel\");
-  at(\"ask\").hidden = top.options.length > 0;
+  at(\"ask\").hidden = top.options.length > 0 || top.kind === \"cards\";
   at(\"choices\").className = top.kind || \"\";
-  at(\"choices\").replaceChildren(...top.options.map(option => option.length === 1 ? element(\"h3\", option[0]) : choice(option, top.then)));
+  at(\"choices\").replaceChildren(...(top.kind === \"cards\" ? cards() : top.options.map(option => option.length === 1 ? element(\"h3\", option[0]) : choice(option, top.then))));
   at(\"card\").scrollTop = 0;
   at(\"question\").focus();
 }
@@ -1129,7 +1255,7 @@ const comeIn = number => write(\"in \" + number, batter(number) + \" comes in\")
 
 // The balls of the over that is open that count.
 const balls = () => Number(innings().overs.split(\".\")[1]);
-const over = () => write(\"/\", \"over\" + (isAhead || amend || balls() === 6 ? \"\" : \", \" + one(balls(), \"ball\")));
+const over = () => write(\"/\", \"over\" + (isBehind() || amend || balls() === 6 ? \"\" : \", \" + one(balls(), \"ball\")));
 const askComer = () => ask(\"Who comes in?\", people(batsThere(), amend ? NUMBERS : comers()), comeIn);
 const askInnings = () => ask(\"Whose innings?\", sides(), begin);
 
@@ -1231,12 +1357,13 @@ const MORE = {
   close: [\"Match\", \"is closed\", () => write(\"close\", \"the match is closed\")],
 };
 const QUESTIONS = [[\"Check\", \"score\", \"score\"], [\"Bowlers\", \"bowlers\", \"who may bowl\"],
-  [\"Last entries\", \"list 30\", \"list\"], [\"Cards\", \"card\", \"of both sides\"], [\"Rows\", \"\", \"and any line\"]];
+  [\"Last entries\", \"list 30\", \"list\"], [\"Rows\", \"\", \"and any line\"]];
 
 function more() {
-  const lines = mayWrite() ? Object.entries(MORE).filter(([key]) => !((isAhead || amend) && key === \"undo\")).map(([key, [text, small]]) => [text, key, small]) : [];
+  const lines = mayWrite() ? Object.entries(MORE).filter(([key]) => !((isBehind() || isLost() || amend) && key === \"undo\")).map(([key, [text, small]]) => [text, key, small]) : [];
   const asks = QUESTIONS.map(([text, value, small]) => [text, \"? \" + value, small, \"second\"]);
-  ask(\"More\", [...lines, ...asks], key => {
+  ask(\"More\", [...lines, [\"Cards\", \"cards\", \"of each innings\", \"second\"], ...asks], key => {
+    if (key === \"cards\") return openCards();
     if (key === \"? \") { closeSheet(); return openTold(); }
     if (key.startsWith(\"? \")) return question(key.slice(2));
     MORE[key][2]();
@@ -1270,7 +1397,7 @@ function otherBowler() {
 
 // ---- What the scorer is told and asked: the first of these that holds.
 function lostView() {
-  if (state && !isLost()) return null;
+  if (state && !isLost() || mayKeep()) return null;
   if (!state && isOpen) return { kind: \"\", head: \"Waiting for the desk\", detail: \"\" };
   const why = note && note.kind === \"bad\" ? note.head + \". \" + note.detail + \"\\n\" : \"\";
   if (isAltered) return { kind: \"bad\", head: \"What came wasn't the desk's\", detail: why + ALTERED + \" Nothing is written here until the desk is heard. Its own keyboard goes on.\" };
@@ -1355,7 +1482,7 @@ function notAhead() {
 const UNHEARD = \"The other desk isn't heard: look at its laptop and the network.\";
 
 function pendingView() {
-  if (state.pending === null || isAhead) return null;
+  if (state.pending === null || isBehind()) return null;
   const last = state.held[state.held.length - 1];
   const kept = [\"Kept: \" + inWords(state.pending) + \".\", told.isHeard ? \"\" : UNHEARD, last === undefined ? \"\" : \"Then: \" + state.held.join(\", \")];
   const back = last === undefined ? [] : [[\"Take back\", () => send(\"undo\", \"take back \" + last, position()), last]];
@@ -1392,12 +1519,11 @@ const battersRow = row => row.name + \" \" + row.runs + \" (\" + row.balls + \")
 function checkRows() {
   const it = innings(), { this_over: open, last_over: last, striker, other: far, bowler: who, overs_left: left } = state.board.now;
   if (open.length > 0 || last.length === 0) return [];
-  const { byes, legbyes, wides, noballs, penalty } = it.extras;
   const rows = [striker, far].map(number => it.batting.find(row => row.number === number));
   const both = rows.map((row, n) => row && battersRow(row) + (n === 0 ? \"*\" : \"\")).filter(text => text);
   const runs = state.board.overs_runs[state.board.overs_runs.length - 1].runs;
   return [
-    it.team + \" \" + it.runs + \" for \" + it.wickets + \", extras b \" + byes + \", lb \" + legbyes + \", w \" + wides + \", nb \" + noballs + \", p \" + penalty,
+    it.team + \" \" + it.runs + \" for \" + it.wickets + \", extras \" + extrasText(it.extras),
     both.join(\"  \"),
     name(other(batting()), who) + \" \" + bowlerFigures(who) + \"  \" + last.join(\" \") + \" = \" + runs,
     ...(typeof left === \"number\" ? [one(left, \"over\") + \" left\"] : []),
@@ -1405,7 +1531,7 @@ function checkRows() {
 }
 
 function bowlerAsked() {
-  const check = isAhead ? \"\" : checkRows().join(\"\\n\");
+  const check = isBehind() ? \"\" : checkRows().join(\"\\n\");
   if (isBowledOff() && bowler === null) {
     const end = [\"End innings\", () => endInnings(\"overs\"), \"overs bowled\", \"main\"];
     return { head: \"Its overs are bowled\", detail: check, answers: [end, [\"Another\", askEnding, \"cause\"], [\"Bowler\", anotherBowler, \"goes on\"]] };
@@ -1426,7 +1552,7 @@ function inningsAsked() {
 function nothingAsked() {
   const head = state.board.now.result || \"The match is decided\";
   if (isClosed()) return { head, detail: \"The match is closed.\" };
-  return { head, detail: \"Read the cards to each other, then close it.\", answers: [[\"Close the match\", MORE.close[2], \"\", \"main\"]] };
+  return { head, detail: \"Read the cards to each other, then close it.\", answers: [[\"Cards\", openCards, \"of each innings\"], [\"Close the match\", MORE.close[2], \"\", \"main\"]] };
 }
 
 const overAsked = () => ({ head: one(balls(), \"ball\") + \" are bowled\", detail: lastWords(), answers: [[\"Over\", over, \"\", \"main\"]] });
@@ -1446,20 +1572,28 @@ function askedView() {
 }
 
 function readyView() {
-  const isOther = !isAhead && told.other === state.place;
+  const isOther = !isBehind() && told.other === state.place;
   const who = bowler !== null ? name(other(batting()), bowler) + \" bowls on. \" : \"\";
   if (isOther) return withNews({ kind: \"wait\", head: \"The other has written\", detail: \"Write what you saw.\" }, true);
-  return withNews({ kind: told.isHeard ? \"\" : \"wait\", head: isAhead ? \"what came then?\" : who + \"What happened?\", detail: lastWords() });
+  return withNews({ kind: told.isHeard ? \"\" : \"wait\", head: isBehind() ? \"what came then?\" : who + \"What happened?\", detail: lastWords() });
 }
 
 // What is asked, with what is written ahead; or that the other has written, unless that is said, and that the other desk isn't heard.
 function withNews(view, isSaid) {
+  if (isLost() || unwritten.length > 0) return unreached(view);
   if (isAhead) {
     const lines = aheadLines().map((line, n) => n === 0 ? inWords(line) : line);
     return { ...view, kind: \"ask\", head: \"Ahead: \" + view.head, detail: \"After: \" + lines.join(\", \"), answers: [...(view.answers || []), [\"Not ahead\", notAhead]] };
   }
   const news = [told.other === state.place && !isSaid ? \"The other has written: write what you saw.\" : \"\", told.isHeard ? \"\" : UNHEARD, view.detail || \"\"];
   return { ...view, detail: news.filter(text => text).join(\"\\n\") };
+}
+
+// What is asked while the desk isn't reached, or hasn't all that was tapped then.
+function unreached(view) {
+  const lines = unwritten.map(it => it.label), back = lines.length > 0 && !unwritten[lines.length - 1].isSent ? [[\"Take back\", takeLastBack, lines[lines.length - 1]]] : [];
+  const detail = lines.length > 0 ? \"Not written yet: \" + lines.join(\", then \") + \".\" : \"Go on: what you tap is kept, and written once the desk is back.\";
+  return { ...view, kind: \"wait\", head: (isLost() ? \"The desk isn't reached. \" : \"\") + view.head, detail, answers: [...(view.answers || []), ...back] };
 }
 
 const VIEWS = [lostView, formatView, secretView, heldView, noteView, doubtView, pendingView, amendView, differsView, askedView, readyView];
@@ -1569,7 +1703,7 @@ function drawMarks() {
 
 // Which pads may be pressed.
 function padsOn() {
-  if (state === null || isLost() || now() < settles) return \"none\";
+  if (state === null || isLost() && !mayKeep() || now() < settles) return \"none\";
   if (!mayWrite()) return held || sent || secret === null ? \"none\" : \"more\";
   if (amend || differs()) return \"all\";
   return { innings: \"more\", nothing: \"more\", batter: \"between\" }[wants()] || \"all\";
@@ -1611,7 +1745,7 @@ function drawRows() {
 
 function show() {
   if (isDown && now() - downSince < HELD) return;
-  if (held && isLost()) tell(\"bad\", \"Not written: \" + drop(), UNREACHED);
+  if (held && isLost() && !mayKeep()) tell(\"bad\", \"Not written: \" + drop(), UNREACHED);
   drawState(VIEWS.reduce((found, make) => found || make(), null));
   if (isKnown()) {
     drawScore();
@@ -1712,7 +1846,7 @@ addEventListener(\"keydown\", event => {
   else if (at(\"told\").classList.contains(\"open\")) closeTold();
   else if (amend) endAmend();
 });
-addEventListener(\"pointerdown\", () => { isDown = true; downSince = now(); downAt = position(); }, true);
+addEventListener(\"pointerdown\", () => { stayOn(); isDown = true; downSince = now(); downAt = position(); }, true);
 addEventListener(\"pointerup\", () => { const since = downSince; setTimeout(() => { if (since === downSince) lift(); }, LIFTED); }, true);
 addEventListener(\"pointercancel\", lift, true);
 addEventListener(\"blur\", lift);
@@ -1734,12 +1868,14 @@ function tick() {
   if ((isLost() || ticket !== null) && Date.now() - asked > (isOpen ? LOST : AGAIN)) listen();
   if (sent && sent.isTaken && now() - sent.since > ANSWER) sent = null;
   if (isKnown() && !isLost() && !hasBook()) fetchBook();
+  deliver();
   show();
 }
 
 setInterval(tick, 500);
 secret = bytesIn(stored(KEPT));
 newest = secret ? Number(stored(REACHED)) : 0;
+unwritten = JSON.parse(stored(ASIDE) || \"[]\");
 readLink();
 listen();
 </script>

@@ -7,7 +7,7 @@ use Rattle.std.specs.declared.io.ErrorKind.TheVariants as hosts
 use Rattle.tasks.specs.declared.{task.BoardTask.BoardTask, task.Task.Task, words_fault.WordsFault.WordsFault}
 use Rattle.tasks.specs.declared.task.BoardTask.TheVariants.{OfSheet}
 use Rattle.tasks.specs.declared.task.Task.TheVariants.{Board, Check, Replay}
-use Rattle.tasks.specs.declared.words_fault.WordsFault.TheVariants.{NotUnderstood, NotText, WrongOption, NoMemory}
+use Rattle.tasks.specs.declared.words_fault.WordsFault.TheVariants.{NotUnderstood, NotText, Unknown, TooOften, NoValue, WrongValue, Misplaced, WrongStation, Lacks, LacksOption, NoMemory}
 
 -- what no words ask for: `check` in a match of two innings a side
 abbrev pub plain_task : Task
@@ -40,7 +40,14 @@ of_parse kind = NotUnderstood
 abbrev pub words_text : WordsFault → List ℕ
 words_text NotUnderstood = codes "words not understood"
 words_text NotText = codes "words not understood: one isn't UTF-8"
-words_text (WrongOption word) = codes "words not understood: " ++ word.now
+words_text (Unknown word) = codes "words not understood: " ++ word.now
+words_text (TooOften option) = codes "words not understood: --" ++ option.now ++ codes " is there too often"
+words_text (NoValue option) = codes "words not understood: --" ++ option.now ++ codes " has no value"
+words_text (WrongValue option value wanted) = codes "words not understood: --" ++ option.now ++ codes " " ++ value.now ++ codes ": " ++ wanted.now
+words_text (Misplaced option wanted) = codes "words not understood: --" ++ option.now ++ codes ": " ++ wanted.now
+words_text (WrongStation command word wanted) = codes "words not understood: " ++ command.now ++ codes " " ++ word.now ++ codes ": " ++ wanted.now
+words_text (Lacks command what) = codes "words not understood: " ++ command.now ++ codes " lacks " ++ what.now
+words_text (LacksOption command option) = codes "words not understood: " ++ command.now ++ codes " lacks --" ++ option.now
 words_text NoMemory = codes "no memory"
 
 abbrev pub words_line : WordsFault → List ℕ

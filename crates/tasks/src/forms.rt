@@ -3,6 +3,21 @@
 use clap::{Arg, ArgAction, Command, value_parser};
 use std::alloc::{AllocError, Global};
 
+/// What a desk has to be told that no sheet's table says.
+const DESK_OPTIONS: [&str; 5] = ["sheet", "desk", "file", "at", "other"];
+
+/// What a board has to be told, likewise.
+const BOARD_OPTIONS: [&str; 4] = ["sheet", "at", "desk-a", "desk-b"];
+
+/// Whether a station has to be told this unless the sheet's table stands for it.
+pub fn is_of_station(command: &str, name: &str) -> bool {
+    match command {
+        "desk" => DESK_OPTIONS.iter().any(|option| *option == name),
+        "board" => BOARD_OPTIONS.iter().any(|option| *option == name),
+        _ => false,
+    }
+}
+
 /// An option that has to be given, with any value.
 fn wanted<'a>(alloc: Global, name: &'a str) -> Arg<'a> {
     Arg::new(alloc, name).long(name).required(true)
@@ -110,11 +125,7 @@ fn station<'a>(alloc: Global, name: &'a str) -> Result<Command<'a>, AllocError> 
 
 /// The words of `desk`. Columns are those of a scorer's rows.
 fn desk_words<'a>(alloc: Global) -> Result<Command<'a>, AllocError> {
-    let words = with_options(
-        alloc,
-        station(alloc, "desk")?,
-        &["sheet", "desk", "file", "at", "other"],
-    )?;
+    let words = with_options(alloc, station(alloc, "desk")?, &DESK_OPTIONS)?;
     with_free(alloc, words, &["copy", "serve", "key"])?
         .arg(free(alloc, "board").action(ArgAction::Append))?
         .arg(free(alloc, "columns").value_parser(value_parser!(u16).range(60..=200)))
@@ -122,11 +133,7 @@ fn desk_words<'a>(alloc: Global) -> Result<Command<'a>, AllocError> {
 
 /// The words of `board`.
 fn board_words<'a>(alloc: Global) -> Result<Command<'a>, AllocError> {
-    let words = with_options(
-        alloc,
-        station(alloc, "board")?,
-        &["sheet", "at", "desk-a", "desk-b"],
-    )?;
+    let words = with_options(alloc, station(alloc, "board")?, &BOARD_OPTIONS)?;
     with_free(alloc, words, &["text", "json", "script", "serve", "key"])
 }
 

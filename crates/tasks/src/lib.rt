@@ -5,8 +5,10 @@ mod book_words;
 mod forms;
 mod station_words;
 mod task;
+mod values;
 mod words;
 mod words_fault;
+mod wrong_words;
 
 pub use task::{BoardTask, BookFiles, DeskTask, Printed, Task};
 pub use words::task_in;

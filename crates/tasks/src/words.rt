@@ -8,6 +8,7 @@ use crate::forms::program_words;
 use crate::station_words::{board_task, desk_task};
 use crate::task::{Printed, Task};
 use crate::words_fault::WordsFault;
+use crate::wrong_words::wrong_words;
 use agree_core::DeskId;
 use clap::{ArgMatches, Command};
 use help::own_word;
@@ -150,49 +151,14 @@ fn task_of<'a>(command: &str, words: &ArgMatches<'a>) -> Option<Task<'a>>
 }
 
 /// What the matches of the program's words ask for.
-fn understood<'a>(matches: &ArgMatches<'a>) -> Result<Task<'a>, WordsFault<'a>>
-    ensures { IfOk result IsTask }
+fn understood<'a>(matches: &ArgMatches<'a>) -> Option<Task<'a>>
+    ensures { IfSome result IsTask }
 {
-    let (command, words) = match matches.subcommand() {
-        Some(found) => found,
-        None => return Err(WordsFault::NotUnderstood),
-    };
-    match task_of(command, words) {
-        Some(task) => Ok(task),
-        None => Err(WordsFault::NotUnderstood),
-    }
+    let (command, words) = matches.subcommand()?;
+    task_of(command, words)
 }
 
-/// Whether a command has an option of this name.
-fn has_option(command: &Command<'_>, name: &str) -> bool {
-    command
-        .get_arguments()
-        .iter()
-        .any(|arg| arg.get_long() == Some(name))
-}
-
-/// Whether a word stands where an option does, and is none of the command's: one that begins with `-`.
-fn is_wrong_option(command: &Command<'_>, word: &str) -> bool {
-    match word.strip_prefix("--") {
-        Some(option) => match option.split_once('=') {
-            Some((name, _)) => !has_option(command, name),
-            None => !has_option(command, option),
-        },
-        None => word.len() > 1 && word.starts_with("-"),
-    }
-}
-
-/// The first of a command's words that is no option of it.
-fn wrong_option<'a>(command: &Command<'a>, words: &'a [String]) -> Option<&'a str> {
-    for word in words {
-        if is_wrong_option(command, word.as_str()) {
-            return Some(word.as_str());
-        }
-    }
-    None
-}
-
-/// Why words aren't understood: by an option that isn't one, which is told of the program's own words alone.
+/// Why words aren't understood: which of them and what would be is told of the program's own words alone.
 fn fault_of<'a>(program: &Command<'a>, words: &'a [String]) -> WordsFault<'a> {
     let [_, first, more @ ..] = words else {
         return WordsFault::NotUnderstood;
@@ -200,17 +166,15 @@ fn fault_of<'a>(program: &Command<'a>, words: &'a [String]) -> WordsFault<'a> {
     if own_word(first.as_str()).is_none() {
         return WordsFault::NotUnderstood;
     }
-    let Some(command) = program.find_subcommand(first.as_str()) else {
-        return WordsFault::NotUnderstood;
-    };
-    match wrong_option(command, more) {
-        Some(option) => WordsFault::WrongOption(option),
+    match program.find_subcommand(first.as_str()) {
+        Some(command) => wrong_words(first.as_str(), command, more),
         None => WordsFault::NotUnderstood,
     }
 }
 
 /// What the words on the command line ask to be done, the program's name first. With no word behind it that is `check` with
-/// two innings a side. Words that are none of the forms aren't understood; these are also `--help`, `--version`, an option
+/// two innings a side. Words that are none of the forms aren't understood: of the program's own
+/// words it is told which, and what would be. Such are also `--help`, `--version`, an option
 /// given twice, a number with a sign or a needless zero, and `help`, which `main` answers where it is `help::asked`. `clap`
 /// tells where memory was refused it.
 pub fn task_in<'a>(alloc: Global, words: &'a [String]) -> Result<Task<'a>, WordsFault<'a>>
@@ -222,7 +186,10 @@ pub fn task_in<'a>(alloc: Global, words: &'a [String]) -> Result<Task<'a>, Words
     }
     let mut program = program_words(alloc)?;
     match program.try_get_matches_from_mut(words) {
-        Ok(matches) => understood(&matches),
+        Ok(matches) => match understood(&matches) {
+            Some(task) => Ok(task),
+            None => Err(fault_of(&program, words)),
+        },
         Err(why) => match WordsFault::from(why) {
             WordsFault::NotUnderstood => Err(fault_of(&program, words)),
             fault => Err(fault),

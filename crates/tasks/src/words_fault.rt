@@ -16,8 +16,39 @@ pub enum WordsFault<'a> {
     NotUnderstood,
     /// One of them isn't UTF-8.
     NotText,
-    /// This is no option of theirs.
-    WrongOption(&'a str),
+    /// This is no option of theirs, and nothing that may stand there.
+    Unknown(&'a str),
+    /// This option is there more often than it may be.
+    TooOften(&'a str),
+    /// This option has no value.
+    NoValue(&'a str),
+    /// The value of this option isn't what is wanted.
+    WrongValue {
+        option: &'a str,
+        value: &'a str,
+        wanted: &'a str,
+    },
+    /// This option doesn't go with the others.
+    Misplaced {
+        option: &'a str,
+        wanted: &'a str,
+    },
+    /// The station of this command isn't what is wanted.
+    WrongStation {
+        command: &'a str,
+        word: &'a str,
+        wanted: &'a str,
+    },
+    /// This command lacks its station.
+    Lacks {
+        command: &'a str,
+        what: &'a str,
+    },
+    /// This command lacks this option.
+    LacksOption {
+        command: &'a str,
+        option: &'a str,
+    },
     /// Memory was refused.
     NoMemory,
 }
@@ -32,7 +63,32 @@ impl fmt::Display for WordsFault<'_> {
         match self {
             WordsFault::NotUnderstood => f.write_str("words not understood"),
             WordsFault::NotText => f.write_str("words not understood: one isn't UTF-8"),
-            WordsFault::WrongOption(word) => write!(f, "words not understood: {word}"),
+            WordsFault::Unknown(word) => write!(f, "words not understood: {word}"),
+            WordsFault::TooOften(option) => {
+                write!(f, "words not understood: --{option} is there too often")
+            }
+            WordsFault::NoValue(option) => {
+                write!(f, "words not understood: --{option} has no value")
+            }
+            WordsFault::WrongValue {
+                option,
+                value,
+                wanted,
+            } => write!(f, "words not understood: --{option} {value}: {wanted}"),
+            WordsFault::Misplaced { option, wanted } => {
+                write!(f, "words not understood: --{option}: {wanted}")
+            }
+            WordsFault::WrongStation {
+                command,
+                word,
+                wanted,
+            } => write!(f, "words not understood: {command} {word}: {wanted}"),
+            WordsFault::Lacks { command, what } => {
+                write!(f, "words not understood: {command} lacks {what}")
+            }
+            WordsFault::LacksOption { command, option } => {
+                write!(f, "words not understood: {command} lacks --{option}")
+            }
             WordsFault::NoMemory => f.write_str("no memory"),
         }
     }
