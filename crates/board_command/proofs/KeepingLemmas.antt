@@ -1,5 +1,5 @@
 -- A board's process that was kept.
-use Rattle.std.proofs.Common.{◌≡◌, ℕ, List, Option, Result}
+use Rattle.std.proofs.Common.{◌≡◌, ℕ, Bool, false, List, Option, Result, Ok, Err, IfOk, IsOk}
 use Rattle.cards.specs.Sheet.{Sheet}
 use Rattle.links.specs.Passed.{Passed}
 use Rattle.live.specs.Boards.{BoardLives}
@@ -16,3 +16,9 @@ pub lives_so : {sheet same : Sheet} {begun last : MatchBoard} {p q m n : List Pa
     → BoardLives entries_in innings_in sheet begun last (untyped p before s) (untyped m after u) turns a c e g ended
     → BoardLives entries_in innings_in same begun last (untyped q before t) (untyped n after v) turns b d f h ended
 lives_so i j k l m n o p q lives = rw (i, j, k, l, m, n, o, p, q) lives
+
+-- where an answer has no fault, its board ended without one
+pub answered : {E : Type 0} (answer : Result Bool E) {ended life : Result (Unit {0}) WriteFailed} → ended ≡ life
+    → IfOk answer (λ refused. (refused ≡ false) × IsOk ended) → IfOk answer (λ refused. (refused ≡ false) × IsOk life)
+answered (Ok refused) same holds = (holds.0, rw same at holds.1)
+answered (Err why) same holds = tt

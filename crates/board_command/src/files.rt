@@ -260,6 +260,47 @@ struct Texts {
     script: Made,
 }
 
+/// The lines of a board with this book, where they are due.
+fn lines_due<B: BookOf>(alloc: Global, sheet: &MatchSheet, book: &B, is_due: bool) -> Made
+    ensures { IsMadeWhere is_due (texts.board sheet.now (B.innings_a_side book.now) (history_of (B.content book.now))) result }
+{
+    if is_due {
+        Some(lines_of(alloc, sheet, book))
+    } else {
+        None
+    }
+}
+
+/// Its state, where that or the script is due.
+fn state_due<B: BookOf>(
+    alloc: Global,
+    sheet: &MatchSheet,
+    book: &B,
+    moment: Moment,
+    wanted: Due,
+) -> Made
+    ensures { IsMadeWhere wanted.state
+        (laws.board_text sheet.now (B.innings_a_side book.now) (B.content book.now) (last_heard moment.heard moment.now) moment.trouble)
+        result }
+{
+    if wanted.state || wanted.script {
+        Some(state_of(alloc, sheet, book, moment))
+    } else {
+        None
+    }
+}
+
+/// The script of a state that was made, where it is due.
+fn script_due(alloc: Global, state: &Made, is_due: bool) -> Made
+    ensures { (text : List ℕ) → IsText text state.now → IsMadeWhere is_due (given.script_with text) result }
+{
+    if is_due {
+        Some(script_of(alloc, state))
+    } else {
+        None
+    }
+}
+
 /// The texts of this book that are due.
 fn texts_due<B: BookOf>(
     alloc: Global,
@@ -273,9 +314,9 @@ fn texts_due<B: BookOf>(
         (laws.board_text sheet.now (B.innings_a_side book.now) (B.content book.now) (last_heard moment.heard moment.now) moment.trouble)
         result }
 {
-    let lines = wanted.lines.then(|| lines_of(alloc, sheet, book));
-    let state = (wanted.state || wanted.script).then(|| state_of(alloc, sheet, book, moment));
-    let script = wanted.script.then(|| script_of(alloc, &state));
+    let lines = lines_due(alloc, sheet, book, wanted.lines);
+    let state = state_due(alloc, sheet, book, moment, wanted);
+    let script = script_due(alloc, &state, wanted.script);
     Texts {
         lines,
         state,
