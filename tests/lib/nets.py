@@ -1,6 +1,6 @@
 """A network of a case's own, of which it alone is in, and which can be switched off and on."""
-import ctypes, errno, fcntl, os, socket, struct
-from .waiting import Wrong
+import ctypes, errno, fcntl, os, shutil, socket, struct, subprocess
+from .waiting import Wrong, wait_for
 
 NEW_USER, NEW_NET = 0x10000000, 0x40000000
 GET_FLAGS, SET_FLAGS, UP = 0x8913, 0x8914, 1
@@ -41,3 +41,51 @@ def own_net() -> Net | None:
         if why.errno in (errno.EPERM, errno.EACCES):
             return None
         raise
+
+
+class Machine:
+    """Another machine: its processes have a network of their own, in which it has an address. They are begun behind `words`."""
+
+    def __init__(self, number: int, switch: str):
+        self.holder = subprocess.Popen(["unshare", "-n", "sleep", "infinity"])
+        wait_for("a machine's network", lambda: self.network() not in (None, os.readlink("/proc/self/ns/net")))
+        self.words = [shutil.which("nsenter"), "-t", str(self.holder.pid), "-n"]
+        ip("link", "add", f"m{number}", "type", "veth", "peer", "name", "eth0", "netns", str(self.holder.pid))
+        ip("link", "set", f"m{number}", "master", switch, "up")
+        self.address = f"10.77.0.{number}"
+        for words in (["link", "set", "lo", "up"], ["addr", "add", f"{self.address}/24", "dev", "eth0"], ["link", "set", "eth0", "up"]):
+            self.ip(*words)
+
+    def network(self) -> str | None:
+        try:
+            return os.readlink(f"/proc/{self.holder.pid}/ns/net")
+        except OSError:
+            return None
+
+    def ip(self, *words: str):
+        ip(*words, before=self.words)
+
+    def move(self, address: str):
+        """Gives it another address."""
+        self.ip("addr", "del", f"{self.address}/24", "dev", "eth0")
+        self.address = address
+        self.ip("addr", "add", f"{self.address}/24", "dev", "eth0")
+
+
+def ip(*words: str, before=()):
+    found = subprocess.run([*before, "ip", *words], capture_output=True, text=True)
+    if found.returncode:
+        raise Denied(f"ip {' '.join(words)}: {found.stderr}")
+
+
+def machines(count: int) -> list[Machine] | None:
+    """So many machines and this process in one network, of which they alone are; nothing where this machine gives nobody one."""
+    if not own_net() or not all(map(shutil.which, ("ip", "unshare", "nsenter"))):
+        return None
+    try:
+        ip("link", "add", "switch", "type", "bridge")
+        ip("addr", "add", "10.77.0.99/24", "dev", "switch")
+        ip("link", "set", "switch", "up")
+        return [Machine(number + 1, "switch") for number in range(count)]
+    except Denied:
+        return None
