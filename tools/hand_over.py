@@ -120,8 +120,12 @@ class Offer:
         with self.lock:
             if self.is_over or time.monotonic() > self.end:
                 return False
-            write("other.txt.new", f"b {place}\n")
-            rename("other.txt")
+            try:
+                write("other.txt.new", f"b {place}\n")
+                rename("other.txt")
+            except OSError as why:
+                say(f"other.txt can't be written: {why.strerror}")
+                os._exit(0)
             self.is_over = True
             return True
 
@@ -227,12 +231,15 @@ def keep(match, own, program):
         raise Refused("the first laptop gave no addresses")
     if os.path.exists("match.key") and content("match.key") != match["key"]:
         raise Refused("this folder has another match: make a new one (mkdir cup2 && cd cup2), and start b there")
-    write("sheet.toml.new", match["sheet"])
+    try:
+        write("sheet.toml.new", match["sheet"])
+        write("match.key.new", match["key"], 0o600)
+        write("other.txt.new", f"own {own}\na {match['a']}\nboard {match['board']}\n")
+    except OSError as why:
+        raise Refused(f"nothing can be written here ({why.strerror}): make room, and start b again; the code is still good") from None
     found = subprocess.run([program, "sheet", "--sheet", "sheet.toml.new"], capture_output=True, text=True)
     if found.returncode:
         raise Refused(found.stdout + found.stderr)
-    write("match.key.new", match["key"], 0o600)
-    write("other.txt.new", f"own {own}\na {match['a']}\nboard {match['board']}\n")
 
 
 def take(program, port):
@@ -247,7 +254,7 @@ def take(program, port):
 if __name__ == "__main__":
     try:
         {"give": give, "take": take}[sys.argv[1]](*sys.argv[2:])
-    except Refused as why:
+    except (Refused, OSError) as why:
         for name in ("sheet.toml", "match.key", "other.txt"):
             if os.path.exists(f"{name}.new"):
                 os.remove(f"{name}.new")

@@ -261,6 +261,7 @@ class Server(http.server.ThreadingHTTPServer):
 
 
 def main(program, host, port, state=None):
+    sys.stdout.reconfigure(encoding="utf-8")
     Handler.lobby = Lobby(program, os.environ["LOBBY_CODE"], state)
     with Server((host, int(port)), Handler) as server:
         link = f"http://{host}:{port}/#{os.environ['LOBBY_CODE']}"

@@ -2,7 +2,7 @@
 import ctypes, errno, fcntl, os, shutil, socket, struct, subprocess
 from .waiting import Wrong, wait_for
 
-NEW_USER, NEW_NET = 0x10000000, 0x40000000
+NEW_USER, NEW_NET, NEW_MOUNTS = 0x10000000, 0x40000000, 0x20000
 GET_FLAGS, SET_FLAGS, UP = 0x8913, 0x8914, 1
 
 
@@ -50,8 +50,9 @@ class Machine:
         self.holder = subprocess.Popen(["unshare", "-n", "sleep", "infinity"])
         wait_for("a machine's network", lambda: self.network() not in (None, os.readlink("/proc/self/ns/net")))
         self.words = [shutil.which("nsenter"), "-t", str(self.holder.pid), "-n"]
-        ip("link", "add", f"m{number}", "type", "veth", "peer", "name", "eth0", "netns", str(self.holder.pid))
-        ip("link", "set", f"m{number}", "master", switch, "up")
+        self.port = f"m{number}"
+        ip("link", "add", self.port, "type", "veth", "peer", "name", "eth0", "netns", str(self.holder.pid))
+        ip("link", "set", self.port, "master", switch, "up")
         self.address = f"10.77.0.{number}"
         for words in (["link", "set", "lo", "up"], ["addr", "add", f"{self.address}/24", "dev", "eth0"], ["link", "set", "eth0", "up"]):
             self.ip(*words)
@@ -64,6 +65,10 @@ class Machine:
 
     def ip(self, *words: str):
         ip(*words, before=self.words)
+
+    def loses_for(self, other):
+        """Has nothing that is sent from here arrive at the other, unseen, as where a firewall drops it."""
+        self.ip("neigh", "replace", other.address, "lladdr", "02:00:00:00:00:01", "dev", "eth0", "nud", "permanent")
 
     def move(self, address: str):
         """Gives it another address."""
@@ -89,3 +94,19 @@ def machines(count: int) -> list[Machine] | None:
         return [Machine(number + 1, "switch") for number in range(count)]
     except Denied:
         return None
+
+
+def keep_apart(*machines: Machine):
+    """Has the network keep these from each other, as one for guests does."""
+    for it in machines:
+        ip("link", "set", it.port, "type", "bridge_slave", "isolated", "on")
+
+
+def stick(folder: str, size: int) -> bool:
+    """Has a folder be a disk of so many bytes, which this process and those that it begins see: whether this machine gives one."""
+    libc = ctypes.CDLL(None, use_errno=True)
+    if libc.unshare(NEW_MOUNTS | (NEW_USER if os.getuid() else 0)):
+        return False
+    os.makedirs(folder, exist_ok=True)
+    words = (["--make-rprivate", "/"], ["-t", "tmpfs", "-o", f"size={size}", "tmpfs", folder])
+    return all(subprocess.run(["mount", *it], capture_output=True).returncode == 0 for it in words)
