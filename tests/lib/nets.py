@@ -110,3 +110,13 @@ def stick(folder: str, size: int) -> bool:
     os.makedirs(folder, exist_ok=True)
     words = (["--make-rprivate", "/"], ["-t", "tmpfs", "-o", f"size={size}", "tmpfs", folder])
     return all(subprocess.run(["mount", *it], capture_output=True).returncode == 0 for it in words)
+
+
+def fill(folder: str):
+    """Leaves no room on the disk of a folder: its file `full` has all."""
+    with open(f"{folder}/full", "wb", 0) as it:
+        try:
+            while it.write(4096 * b"x"):
+                pass
+        except OSError:
+            pass
