@@ -1,0 +1,261 @@
+"""Hands a match over to a second laptop, for its desk B: sheet, key, and where desk A and the board are, sealed under a code (sealed.py).
+
+usage: python3 tools/hand_over.py give HOST PORT DESK-A BOARD
+       python3 tools/hand_over.py take PROGRAM PORT
+
+`give` makes a code, which is good for one laptop and ten minutes, and tells what becomes of it, a line each. `take`, at the other laptop, asks
+its user for address and code. Both write other.txt, which says where the other laptop's stations are. Until both have all, neither
+has changed anything. A wrong try costs its own address one of ten. Who sends too much, or too slowly, isn't heard.
+"""
+import json, os, re, secrets, socket, subprocess, sys, threading, time
+
+sys.dont_write_bytecode = True
+import sealed
+
+PATIENCE = float(os.environ.get("INVITE_SECONDS", 600))  # for which a code is good
+TURN = 20  # seconds, for one exchange
+TRIES, ADDRESSES, AT_ONCE = 10, 256, 2  # an address's wrong tries and exchanges at once; addresses that try
+SMALL, LARGE, STEP = 1024, 1 << 20, 4096
+HELLO = b"yermudosh invite 1\n"
+PLACE = re.compile(r"\d{1,3}(?:\.\d{1,3}){3}:\d{1,5}")
+
+
+class Refused(Exception):
+    """Why nothing is taken."""
+
+
+# Bytes between two machines
+
+
+def received(it, size, end):
+    """So many bytes, before that moment."""
+    found = b""
+    while len(found) < size:
+        it.settimeout(max(0.001, end - time.monotonic()))
+        more = it.recv(size - len(found))
+        if not more:
+            raise EOFError
+        found += more
+    return found
+
+
+def received_frame(it, limit, end):
+    size = int.from_bytes(received(it, 4, end), "big")
+    if size > limit:
+        raise ValueError("too long")
+    return received(it, size, end)
+
+
+def send_frame(it, frame):
+    it.sendall(len(frame).to_bytes(4, "big") + frame)
+
+
+def is_place(text):
+    return isinstance(text, str) and PLACE.fullmatch(text) is not None
+
+
+def content(name):
+    with open(name, encoding="utf-8") as file:
+        return file.read(LARGE // 8)
+
+
+def write(name, text, mode=0o644):
+    """Writes a file that no power loss takes away again."""
+    with open(os.open(name, os.O_WRONLY | os.O_CREAT | os.O_TRUNC, mode), "w", encoding="utf-8") as file:
+        file.write(text)
+        file.flush()
+        os.fsync(file.fileno())
+
+
+def rename(name):
+    os.replace(f"{name}.new", name)
+    folder = os.open(".", os.O_RDONLY)
+    os.fsync(folder)
+    os.close(folder)
+
+
+def say(text):
+    print(text, flush=True)
+
+
+# The first laptop
+
+
+class Offer:
+    """A code, and who tried it."""
+
+    def __init__(self, desk_a, board):
+        self.code = sealed.new_code()
+        self.secret, self.end = sealed.secret_of(self.code), time.monotonic() + PATIENCE
+        told = json.dumps({"sheet": content("sheet.toml"), "key": content("match.key"), "a": desk_a, "board": board}).encode()
+        self.told = told.ljust((len(told) // STEP + 1) * STEP)
+        self.lock, self.wrong, self.going, self.is_over = threading.Lock(), {}, {}, False
+
+    def enters(self, host):
+        """Whether this address may try now."""
+        with self.lock:
+            is_free = self.going.get(host, 0) < AT_ONCE and self.wrong.get(host, 0) < TRIES
+            self.going[host] = self.going.get(host, 0) + is_free
+            return is_free
+
+    def leaves(self, host, is_wrong):
+        with self.lock:
+            self.going[host] -= 1
+            if is_wrong:
+                self.wrong[host] = self.wrong.get(host, 0) + 1
+            is_much = len(self.wrong) > ADDRESSES
+        if is_much:
+            self.close("tries")
+
+    def close(self, why):
+        """Ends it, once."""
+        with self.lock:
+            is_first, self.is_over = not self.is_over, True
+        if is_first:
+            say(why)
+            os._exit(0)
+
+    def claim(self, place):
+        """Gives the match to that laptop, unless it is another's by now."""
+        with self.lock:
+            if self.is_over or time.monotonic() > self.end:
+                return False
+            try:
+                write("other.txt.new", f"b {place}\n")
+                rename("other.txt")
+            except OSError as why:
+                say(f"other.txt can't be written: {why.strerror}")
+                os._exit(0)
+            self.is_over = True
+            return True
+
+    def serve(self, it, host):
+        is_wrong = False
+        try:
+            is_wrong = self.answer(it, min(time.monotonic() + TURN, self.end))
+        except (OSError, EOFError, ValueError):
+            pass
+        finally:
+            it.close()
+            self.leaves(host, is_wrong)
+
+    def answer(self, it, end):
+        """Answers whether it was a wrong try. Who hasn't the code gets a nonce alone."""
+        mine = secrets.token_bytes(sealed.NONCE)
+        it.sendall(HELLO + mine)
+        ours, theirs = sealed.both(self.secret, mine + received(it, sealed.NONCE, end))
+        asked = theirs.open(0, received_frame(it, SMALL, end))
+        if asked is None:
+            return True
+        place = json.loads(asked)
+        if not is_place(place):
+            return True
+        send_frame(it, ours.seal(0, self.told))
+        if theirs.open(1, received_frame(it, SMALL, end)) != b"have":
+            return True
+        if self.claim(place):
+            try:
+                send_frame(it, ours.seal(1, b"go"))
+            finally:
+                say(f"given {place}")
+                os._exit(0)
+        return False
+
+
+def give(host, port, desk_a, board):
+    offer = Offer(desk_a, board)
+    with socket.create_server((host, int(port)), backlog=64) as door:
+        say(f"code {host}{'' if port == '8003' else ':' + port} {offer.code}")
+        door.settimeout(0.2)
+        while time.monotonic() < offer.end:
+            try:
+                it, (guest, _) = door.accept()
+            except TimeoutError:
+                continue
+            if offer.enters(guest):
+                threading.Thread(target=offer.serve, args=(it, guest), daemon=True).start()
+            else:
+                it.close()
+    offer.close("late")
+
+
+# The second laptop
+
+
+def asked_for():
+    """Address, port and code, as they are typed."""
+    while True:
+        print("Address and code, as the first laptop shows them for the word invite: ", end="", flush=True)
+        line = sys.stdin.readline()
+        if not line:
+            raise Refused("nothing was begun")
+        found = re.fullmatch(r"(\d{1,3}(?:\.\d{1,3}){3})(?::(\d{1,5}))?\s+(.*)", line.strip())
+        code = found and sealed.code_in(found[3])
+        if code:
+            return found[1], int(found[2] or 8003), code
+        print("  not an address and a code of 16 letters and digits, as: 192.168.1.20 k7qm-3f4t-9xwn-p2rd")
+
+
+def connected(host, port):
+    try:
+        return socket.create_connection((host, port), timeout=5)
+    except OSError as why:
+        raise Refused(f"{host}:{port} isn't reached ({why.strerror or why}): are both laptops in one network, and is invite's code at most ten minutes "
+                      f"old? A firewall there: sudo ufw allow {port}/tcp. A network for guests may keep them apart: use a hotspot") from None
+
+
+def taken(it, code, port, program):
+    """Takes what the first laptop gives. It is put in its place once both have all."""
+    end = time.monotonic() + TURN
+    mine, hello = secrets.token_bytes(sealed.NONCE), received(it, len(HELLO) + sealed.NONCE, end)
+    if not hello.startswith(HELLO):
+        raise EOFError
+    theirs, ours = sealed.both(sealed.secret_of(code), hello[len(HELLO) :] + mine)
+    own = it.getsockname()[0]
+    it.sendall(mine)
+    send_frame(it, ours.seal(0, json.dumps(f"{own}:{port}").encode()))
+    told = theirs.open(0, received_frame(it, LARGE, end))
+    if told is None:
+        raise EOFError
+    keep(json.loads(told), own, program)
+    send_frame(it, ours.seal(1, b"have"))
+    if theirs.open(1, received_frame(it, SMALL, end)) != b"go":
+        raise EOFError
+    for name in ("match.key", "other.txt", "sheet.toml"):
+        rename(name)
+
+
+def keep(match, own, program):
+    """Writes what was given beside what is there: the program must take the sheet, and a match that is here must be the same."""
+    if not (is_place(match["a"]) and is_place(match["board"]) and match["key"].isascii()):
+        raise Refused("the first laptop gave no addresses")
+    if os.path.exists("match.key") and content("match.key") != match["key"]:
+        raise Refused("this folder has another match: make a new one (mkdir cup2 && cd cup2), and start b there")
+    try:
+        write("sheet.toml.new", match["sheet"])
+        write("match.key.new", match["key"], 0o600)
+        write("other.txt.new", f"own {own}\na {match['a']}\nboard {match['board']}\n")
+    except OSError as why:
+        raise Refused(f"nothing can be written here ({why.strerror}): make room, and start b again; the code is still good") from None
+    found = subprocess.run([program, "sheet", "--sheet", "sheet.toml.new"], capture_output=True, text=True)
+    if found.returncode:
+        raise Refused(found.stdout + found.stderr)
+
+
+def take(program, port):
+    try:
+        host, there, code = asked_for()
+        with connected(host, there) as it:
+            taken(it, code, port, program)
+    except (EOFError, OSError, ValueError, KeyError):
+        raise Refused("not taken: the code is wrong, used or old, or something on the way altered it; type invite at the first laptop for a new one") from None
+
+
+if __name__ == "__main__":
+    try:
+        {"give": give, "take": take}[sys.argv[1]](*sys.argv[2:])
+    except (Refused, OSError) as why:
+        for name in ("sheet.toml", "match.key", "other.txt"):
+            if os.path.exists(f"{name}.new"):
+                os.remove(f"{name}.new")
+        sys.exit(f"start: {why}")
