@@ -155,6 +155,8 @@ class Lobby:
     def start(self, text):
         """Writes the sheet, where none is there."""
         with self.lock:
+            if self.begins:
+                return {"faults": ["the match is begun already: nothing was changed"]}
             try:
                 with open("sheet.toml.new", "w", encoding="utf-8") as file:
                     file.write(text)
@@ -168,8 +170,8 @@ class Lobby:
             finally:
                 if os.path.exists("sheet.toml.new"):
                     os.remove("sheet.toml.new")
-        self.begins = True
-        return {"begun": True}
+            self.begins = True
+            return {"begun": True}
 
     def shown(self):
         """What is known of the stations, with a square for each link."""
