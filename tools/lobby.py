@@ -122,7 +122,7 @@ class Lobby:
     def __init__(self, program, code, state):
         self.program, self.state, self.number = program, state, time.strftime("%Y%m%d%H%M")
         self.code, self.nonce, self.lock, self.newest = bytes.fromhex(code), secrets.token_bytes(16), threading.Lock(), {}
-        self.begins, self.is_begun = False, threading.Event()
+        self.starter, self.is_begun = None, threading.Event()  # the thread that began the match, and whether its page was told
         self.page = content(f"{HERE}/lobby.html").replace("// TAGS\n", scripts()).encode()
 
     def said(self, body):
@@ -155,7 +155,7 @@ class Lobby:
     def start(self, text):
         """Writes the sheet, where none is there."""
         with self.lock:
-            if self.begins:
+            if self.starter:
                 return {"faults": ["the match is begun already: nothing was changed"]}
             try:
                 with open("sheet.toml.new", "w", encoding="utf-8") as file:
@@ -170,7 +170,7 @@ class Lobby:
             finally:
                 if os.path.exists("sheet.toml.new"):
                     os.remove("sheet.toml.new")
-            self.begins = True
+            self.starter = threading.get_ident()
             return {"begun": True}
 
     def shown(self):
@@ -217,7 +217,7 @@ class Handler(http.server.BaseHTTPRequestHandler):
         try:
             self.give(200, found.hex().encode()) if found else self.give(403, b"the link is another's, or old")
         finally:
-            if self.lobby.begins:
+            if self.lobby.starter == threading.get_ident():
                 self.lobby.is_begun.set()
 
 
