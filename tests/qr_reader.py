@@ -1,7 +1,10 @@
 """Reads a printed QR code of version 4, level L and mask 0 (ISO/IEC 18004), and refuses one with any module wrong."""
 
-SIDE, MARGIN = 33, 4
-FORMAT = "111011111000100"  # of level L and mask 0, from the standard's table
+import os, sys
+
+sys.path.insert(0, f"{os.path.dirname(os.path.dirname(os.path.realpath(__file__)))}/tools")
+from squares import MARGIN, POWERS, SIDE, data_places, patterns, product
+
 MODULES = {" ": (0, 0), "▀": (1, 0), "▄": (0, 1), "█": (1, 1)}
 BLACK_ON_WHITE, BOTH_BLACK, PLAIN = "\x1b[38;5;16;48;5;231m", "\x1b[48;5;16m \x1b[48;5;231m", "\x1b[0m"
 ROWS_LEFT_OUT = 2  # of the margin, above and below
@@ -14,23 +17,6 @@ class Unreadable(Exception):
 def expect(holds, what):
     if not holds:
         raise Unreadable(what)
-
-
-def powers():
-    """2^0, 2^1 and so on in the field of 256 elements, where 2^8 is 2^4 + 2^3 + 2^2 + 1."""
-    found = [1]
-    while len(found) < 255:
-        twice = found[-1] << 1
-        found.append(twice ^ 0x11D if twice > 255 else twice)
-    return found
-
-
-POWERS = powers()
-LOGARITHMS = {it: at for at, it in enumerate(POWERS)}
-
-
-def product(one, other):
-    return POWERS[(LOGARITHMS[one] + LOGARITHMS[other]) % 255] if one and other else 0
 
 
 def value_at(codewords, x):
@@ -61,37 +47,6 @@ def modules_of(printed):
         for c, dark in enumerate(row):
             expect(not dark or r in inner and c in inner, f"margin at {r}, {c}")
     return [row[MARGIN : MARGIN + SIDE] for row in rows[MARGIN : MARGIN + SIDE]]
-
-
-def patterns():
-    """What is no data, by row and column: three finders with their borders, an alignment, timing, format, one dark."""
-    fixed = {}
-    for at in range(8, SIDE - 8):
-        fixed[6, at] = fixed[at, 6] = 1 - at % 2
-    for top, left in (0, 0), (0, SIDE - 7), (SIDE - 7, 0):
-        for r in range(-1, 8):
-            for c in range(-1, 8):
-                if 0 <= top + r < SIDE and 0 <= left + c < SIDE:
-                    fixed[top + r, left + c] = int(max(abs(r - 3), abs(c - 3)) in (0, 1, 3))
-    for r in range(-2, 3):
-        for c in range(-2, 3):
-            fixed[26 + r, 26 + c] = int(max(abs(r), abs(c)) != 1)
-    bits = [int(it) for it in FORMAT]
-    around = [(8, c) for c in (0, 1, 2, 3, 4, 5, 7, 8)] + [(r, 8) for r in (7, 5, 4, 3, 2, 1, 0)]
-    apart = [(SIDE - 1 - k, 8) for k in range(7)] + [(8, SIDE - 8 + k) for k in range(8)]
-    fixed |= dict(zip(around, bits)) | dict(zip(apart, bits)) | {(SIDE - 8, 8): 1}
-    return fixed
-
-
-def data_places(fixed):
-    """The places of data in their order: two columns at a time from the right, by turns up and down."""
-    upward = True
-    for right in [*range(SIDE - 1, 6, -2), 5, 3, 1]:
-        for r in range(SIDE - 1, -1, -1) if upward else range(SIDE):
-            for c in right, right - 1:
-                if (r, c) not in fixed:
-                    yield r, c
-        upward = not upward
 
 
 def codewords_of(modules):

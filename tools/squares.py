@@ -15,10 +15,11 @@ def powers():
 
 
 POWERS = powers()
+LOGARITHMS = {it: at for at, it in enumerate(POWERS)}
 
 
 def product(one, other):
-    return POWERS[(POWERS.index(one) + POWERS.index(other)) % 255] if one and other else 0
+    return POWERS[(LOGARITHMS[one] + LOGARITHMS[other]) % 255] if one and other else 0
 
 
 def check_codewords(data):
