@@ -2,7 +2,7 @@
 
 /// What may be run and loaded in the page: its own style and script, and what it asks of its station.
 pub const POLICY: &[u8] =
-    b"default-src 'none'; script-src 'sha256-VETGT04AtlaWmoW88z8IYZWHMj4KLuYFDQRr+bIg0Lg='; style-src 'sha256-fG+D0r1ggOak2xF6bZb012y2J1FY5fn76VrsA2XuLZs='; connect-src 'self'; img-src data:; base-uri 'none'; form-action 'none'; frame-ancestors 'none'";
+    b"default-src 'none'; script-src 'sha256-0SXccSgwubo6Jg6riOtrK2q1UhEqrxLEEm0gk5BIsT8='; style-src 'sha256-fG+D0r1ggOak2xF6bZb012y2J1FY5fn76VrsA2XuLZs='; connect-src 'self'; img-src data:; base-uri 'none'; form-action 'none'; frame-ancestors 'none'";
 
 /// The page.
 pub const PAGE: &[u8] = b"<!DOCTYPE html>
@@ -14,7 +14,6 @@ pub const PAGE: &[u8] = b"<!DOCTYPE html>
 <meta name=\"mobile-web-app-capable\" content=\"yes\">
 <meta name=\"apple-mobile-web-app-capable\" content=\"yes\">
 <link rel=\"icon\" href=\"data:image/svg+xml,%3Csvg xmlns='http://www.w3.org/2000/svg' viewBox='0 0 96 96'%3E%3Crect width='96' height='96' rx='18' fill='%230f5a2c'/%3E%3Cpath d='M30 78V26m18 52V26m18 52V26M26 22h18m8 0h18' stroke='%23fff' stroke-width='7' stroke-linecap='round'/%3E%3C/svg%3E\">
-<link rel=\"manifest\" href='data:application/manifest+json,{\"name\":\"Desk\",\"display\":\"standalone\",\"background_color\":\"%23eef2ec\"}'>
 <title>Desk</title>
 <!-- A scorer's page, for a telephone in one hand, a tablet or a laptop. A desk serves it: it tells its state and its rows (GET /events), and takes
      what a scorer would type there (POST /line). The page writes only such lines, most of them short ones. What stands in the book it has from the
@@ -1593,7 +1592,7 @@ function withNews(view, isSaid) {
 function unreached(view) {
   const lines = unwritten.map(it => it.label), back = lines.length > 0 && !unwritten[lines.length - 1].isSent ? [[\"Take back\", takeLastBack, lines[lines.length - 1]]] : [];
   const detail = lines.length > 0 ? \"Not written yet: \" + lines.join(\", then \") + \".\" : \"Go on: what you tap is kept, and written once the desk is back.\";
-  return { ...view, kind: \"wait\", head: (isLost() ? \"The desk isn't reached. \" : \"\") + view.head, detail, answers: [...(view.answers || []), ...back] };
+  return { ...view, kind: \"wait\", head: (isLost() ? \"The desk isn't reached. \" : \"\") + capital(view.head), detail, answers: [...(view.answers || []), ...back] };
 }
 
 const VIEWS = [lostView, formatView, secretView, heldView, noteView, doubtView, pendingView, amendView, differsView, askedView, readyView];

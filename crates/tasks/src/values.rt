@@ -2,7 +2,7 @@
 
 use crate::words::desk_in;
 use machine::addresses_in;
-use std::net::SocketAddr;
+use std::net::{IpAddr, SocketAddr};
 
 /// What a value of an option, or behind a command's name, has to be.
 #[derive(Clone, Copy)]
@@ -37,12 +37,16 @@ fn is_within(text: &str, least: u16, most: u16) -> bool {
     }
 }
 
-/// Whether a text is an address, with a port of its own.
+/// Whether a text is an address, with a port of its own, and not everybody's.
 fn is_address(text: &str) -> bool {
-    match text.parse::<SocketAddr>() {
-        Ok(socket) => socket.port() != 0,
-        Err(_) => false,
-    }
+    let Ok(socket) = text.parse::<SocketAddr>() else {
+        return false;
+    };
+    let is_everybodys = match socket.ip() {
+        IpAddr::V4(address) => address.is_broadcast(),
+        IpAddr::V6(_) => false,
+    };
+    socket.port() != 0 && !is_everybodys
 }
 
 impl Form {
