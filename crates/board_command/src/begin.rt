@@ -4,7 +4,7 @@ ghost use Rattle.std.specs.Prelude.{◌≡◌, [], IfOk, IsOk, false};
 ghost use Rattle.board_command.specs.Keeping.{IsFresh};
 ghost use Rattle.board_command.specs.Lives.{sheet_path_of, traces_in};
 
-use crate::files::{Files, Kept, Shown};
+use crate::files::{Displays, Files, Kept};
 use crate::hearing::{Listening, Silence};
 use crate::life::{BoardLife, keep_on};
 use crate::page::Page;
@@ -12,6 +12,7 @@ use agree_core::Asker;
 use board::{Board, Witness};
 use cards::MatchSheet;
 use corrections::CheckedBook;
+use live::Scoreboard;
 use machine::{MonotonicClock, Pieces, StandardStream};
 use machine_files::{Cause, Name, TextFile, WholeText, WriteFault};
 use setup::{Sealing, StopFault, Stopped, sheet_file_at};
@@ -19,7 +20,7 @@ use station_screens::{Errors, Shared, errors_at, output_at};
 use station_table::BoardSetting;
 use std::cell::RefCell;
 use std::rt::Stderr;
-use streams::WriteFailed;
+use streams::{Watched, WriteFailed};
 
 /// Where a board tells what it can't take, and which file it can't write.
 pub type Told<'s, 'a> = Shared<'s, Pieces<StandardStream<'a, Stderr>>>;
@@ -185,7 +186,7 @@ pub fn start_board<'a>(
     let link = Listening::over(link, MonotonicClock::new(rt), page.hearing());
     let _ = sealing.tell_fingerprints(&mut Shared::of(&errors));
     page.tell(rt, &mut Shared::of(&errors));
-    let shown = Shown {
+    let state = Displays {
         files,
         page: page.panes(rt.alloc(), &errors),
         errors: &errors,
@@ -193,11 +194,11 @@ pub fn start_board<'a>(
         heard: page.hearing().get(),
         silence: Silence::NOTHING,
     };
+    let lines = Watched::new(output);
+    let scoreboard = Scoreboard { lines, state };
     let told = Shared::of(&errors);
     let mut clock = MonotonicClock::new(rt);
-    let life = keep_on(
-        source, board, witness, link, &mut clock, output, told, shown,
-    );
+    let life = keep_on(source, board, witness, link, &mut clock, scoreboard, told);
     let answer = answer_of(life.ended());
     Ok(Ended { life, answer })
 }

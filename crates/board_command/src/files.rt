@@ -428,7 +428,7 @@ impl<T: Replaces, E: Sink, B: BookOf + Drop> Files<'_, T, E, B> {
 /// other from being written, and at standard error that its desks are silent. What waits for that and for who looks at its page
 /// is handed on, as far as it is taken.
 #[derive(Drop)]
-pub struct Shown<'e, 'v, 'a, F, P> {
+pub struct Displays<'e, 'v, 'a, F, P> {
     pub files: F,
     pub page: P,
     pub errors: &'e RefCell<Errors<'a>>,
@@ -449,11 +449,11 @@ fn attend(audience: Audience<'_>, now: u64) {
 }
 
 impl<'a, T: Replaces, P: Replaces, E: Sink, B: BookOf + Drop> Shows<B>
-    for Shown<'_, '_, 'a, Files<'a, T, E, B>, Files<'a, P, E, B>> {
+    for Displays<'_, '_, 'a, Files<'a, T, E, B>, Files<'a, P, E, B>> {
     ghost use Rattle.live.specs.SightLogs.{sights_of};
     ghost use Rattle.board_command.specs.Files.{FilesGoOn};
 
-    ghost seen = { λ shown. sights_of B.content B.innings_a_side shown.files.log };
+    ghost seen = { λ displays. sights_of B.content B.innings_a_side displays.files.log };
 
     ghost goes_on = { λ old sight now new.
         FilesGoOn T.given new.heard old.files sight now new.files

@@ -3,6 +3,7 @@
 ghost use Rattle.std.specs.Prelude.{◌≡◌, []};
 ghost use Rattle.setup.specs.SheetText.{IsSheetOf};
 ghost use Rattle.machine.specs.Screens.{written_of};
+ghost use Rattle.streams.specs.Watched.{stream_of};
 ghost use Rattle.board_command.specs.Keeping.{IsFresh, WasKept, entries_in, innings_in, traces_of};
 ghost use Rattle.live.specs.SightLogs.{sights_of};
 
@@ -12,14 +13,14 @@ use board::{Board, Trouble, Witness};
 use cards::MatchSheet;
 use corrections::CheckedBook;
 use links::{Clock, Log};
-use live::{Shows, SightLog, keep_board};
+use live::{Scoreboard, Shows, SightLog, keep_board};
 use machine::{Outlet, Screen, Written};
 use seal::CarriedLog;
 use setup::{SheetFile, StationLink};
 use station_texts::NoticeLog;
 use std::io::Write;
 use std::snapshot::Snapshot;
-use streams::{Sink, Watched, WriteFailed};
+use streams::{Sink, WriteFailed};
 
 /// The life of a board: the path of its sheet, and how it ended. Of what it had to do with clauses alone read: the bytes of its
 /// sheet, what was read of them, what it said and heard, what passed for that at its socket, what was written to its screen, the
@@ -95,15 +96,14 @@ pub fn keep_on<
     witness: Witness,
     link: Listening<'_, StationLink<'_, '_, M>, N>,
     clock: &mut C,
-    screen: Screen<O>,
+    scoreboard: Scoreboard<Screen<O>, S>,
     errors: E,
-    shows: S,
 ) -> BoardLife<'a>
     requires fresh { IsFresh source.sheet board }
     requires read { IsSheetOf (source.text).value.items source.sheet }
     requires witness { witness ≡ [] }
     requires unsaid { (link.link).above ≡ [] }
-    requires untold { written_of screen ≡ [] }
+    requires untold { written_of (stream_of scoreboard.lines) ≡ [] }
     ensures sheet { result.sheet_path.now ≡ source.entry.path.now }
 {
     let SheetFile {
@@ -113,22 +113,28 @@ pub fn keep_on<
     } = source;
     let mut board = board;
     let mut link = link;
-    let mut shown = Noted {
-        shows,
-        log: SightLog::Empty,
+    let Scoreboard {
+        lines,
+        state: shows,
+    } = scoreboard;
+    let mut noted = Scoreboard {
+        lines,
+        state: Noted {
+            shows,
+            log: SightLog::Empty,
+        },
     };
     let mut watch = Notes::watching(witness, errors);
-    let mut out = Watched::new(screen);
     let ended = keep_board(
         &mut board,
         &sheet,
         &mut link,
         clock,
         &mut watch,
-        &mut out,
-        &mut shown,
+        &mut noted,
         u64::MAX,
     );
+    let Scoreboard { lines, state } = noted;
     BoardLife {
         sheet_path,
         ended,
@@ -136,8 +142,8 @@ pub fn keep_on<
         sheet: Snapshot::of(&sheet),
         passed: Snapshot::of(link.link().passed()),
         carried: Snapshot::of(link.link().link().carrier().passed()),
-        told: out.into_inner().written(),
+        told: lines.into_inner().written(),
         notices: Snapshot::of(watch.notices.log()),
-        shown: Snapshot::of(&shown.log),
+        shown: Snapshot::of(&state.log),
     }
 }

@@ -15,7 +15,7 @@ use crate::page::{Page, PageSquares};
 use ahead::Ahead;
 use cards::Columns;
 use links::{Clock, Keys};
-use live::{DeskEnd, LifeEnd};
+use live::{Beginning, DeskEnd, LifeEnd, Outside};
 use machine::{Keyboard, MonotonicClock};
 use machine_files::{LastFault, WriteFault};
 use setup::{
@@ -232,24 +232,23 @@ pub fn start_desk<'a>(
     let link = sealing.link_over(rt.alloc(), MonotonicClock::new(rt), sealed);
     let _ = sealing.tell_fingerprints(&mut Shared::of(&errors));
     page.tell(rt, PageWord::Square, &mut Shared::of(&errors));
+    let beginning = Beginning {
+        desk: setting.desk,
+        disk,
+        book,
+    };
+    let outside = Outside {
+        link,
+        keys,
+        clock: MonotonicClock::new(rt),
+        out: Watched::new(screen),
+    };
     let Kept {
         life,
         mut keys,
         mut out,
         has_failed,
-    } = keep_on(
-        rt,
-        disk,
-        setting.desk,
-        book,
-        source,
-        link,
-        keys,
-        screen,
-        page.audience(),
-        file,
-        copy,
-    );
+    } = keep_on(rt, beginning, source, outside, page.audience(), file, copy);
     let ended = life.ended();
     let _ = tell_dropped(&mut out, width, ended, &mut keys);
     let is_seen = is_seen(out, has_failed);

@@ -16,7 +16,7 @@ use cards::MatchSheet;
 use corrections::CheckedBook;
 use entry_log::Slots;
 use links::{Clock, InputLog, Keys, Link, Log, Window};
-use live::{LifeEnd, Outside, keep_desk};
+use live::{Beginning, LifeEnd, Outside, keep_desk};
 use machine::{Keyboard, MonotonicClock, Written};
 use posts::PostedLog;
 use seal::CarriedLog;
@@ -64,27 +64,23 @@ impl Life<'_> {
 #[inline(never)]
 fn keep<L: Link, K: Keys, C: Clock, W: Sink>(
     rt: &HostRuntime,
-    disk: DeskDisk<'_>,
-    desk: DeskId,
-    book: CheckedBook,
+    beginning: Beginning<DeskDisk<'_>, CheckedBook>,
     sheet: &MatchSheet,
     outside: &mut Outside<L, K, C, W>,
     audience: Audience<'_>,
 ) -> Result<(), LifeEnd>
-    requires empty { book.entries ≡ [] }
-    requires innings { book.innings_a_side ≡ sheet.now.innings }
+    requires empty { (beginning.book).entries ≡ [] }
+    requires innings { (beginning.book).innings_a_side ≡ sheet.now.innings }
     requires unsaid { L.log outside.old.link ≡ [] }
     requires untyped { K.inputs outside.old.keys ≡ [] }
     requires untold { W.contents (stream_of outside.old.out) ≡ Some [] }
-    ensures { LivesOn sheet.now desk disk.entry
+    ensures { LivesOn sheet.now beginning.entry.desk beginning.entry.disk
         (L.log outside.new.link) (K.inputs outside.new.keys) (W.contents (stream_of outside.new.out)) result }
 {
-    let mut sight = PageSight::new(rt.alloc(), desk, audience.page, audience.called);
+    let mut sight = PageSight::new(rt.alloc(), beginning.desk, audience.page, audience.called);
     keep_desk::<Slots<DeskDisk<'_>>, CheckedBook, _, _, _, _, _>(
         rt.alloc(),
-        disk,
-        desk,
-        book,
+        beginning,
         sheet,
         outside,
         &mut sight,
@@ -158,25 +154,21 @@ pub struct Kept<'a, K: Keys, W> {
 /// Keeps the process of a desk whose scorer types at a keyboard and in a page, and nothing yet: with the life that the desk had.
 pub fn keep_on<'a, L: Carries + Drop, K: Enters, S: Squares, C: Clock, W: Recorded>(
     rt: &HostRuntime,
-    disk: DeskDisk<'_>,
-    desk: DeskId,
-    book: CheckedBook,
+    beginning: Beginning<DeskDisk<'_>, CheckedBook>,
     source: SheetFile<'a>,
-    link: L,
-    keys: Ahead<PageWords<K, S>, C>,
-    screen: W,
+    outside: Outside<L, Ahead<PageWords<K, S>, C>, MonotonicClock<'_, HostRuntime>, W>,
     audience: Audience<'_>,
     file: &'a str,
     copy: Option<&'a str>,
 ) -> Kept<'a, Ahead<PageWords<K, S>, C>, W>
-    requires empty { book.entries ≡ [] }
-    requires innings { book.innings_a_side ≡ (source.sheet).innings }
+    requires empty { (beginning.book).entries ≡ [] }
+    requires innings { (beginning.book).innings_a_side ≡ (source.sheet).innings }
     requires read { IsWideSheetOf (source.text).value.items source.sheet }
-    requires unsaid { L.log link ≡ [] }
-    requires untyped { given_of (keys.queue).log ≡ [] }
-    requires untold { W.contents screen ≡ Some [] }
-    requires on { IsOnFiles file.now (option_copied copy) disk }
-    ensures desk { (result.life).desk ≡ desk }
+    requires unsaid { L.log outside.link ≡ [] }
+    requires untyped { given_of ((outside.keys).queue).log ≡ [] }
+    requires untold { W.contents (stream_of outside.out) ≡ Some [] }
+    requires on { IsOnFiles file.now (option_copied copy) beginning.disk }
+    ensures desk { (result.life).desk ≡ beginning.entry.desk }
     ensures file { (result.life).file.now ≡ file.now }
     ensures copy { option_copied (result.life).copy ≡ option_copied copy.entry }
     ensures sheet { (result.life).sheet_path.now ≡ source.entry.path.now }
@@ -188,13 +180,9 @@ pub fn keep_on<'a, L: Carries + Drop, K: Enters, S: Squares, C: Clock, W: Record
         text,
         sheet,
     } = source;
-    let mut outside = Outside {
-        link,
-        keys,
-        clock: MonotonicClock::new(rt),
-        out: Watched::new(screen),
-    };
-    let ended = keep(rt, disk, desk, book, &sheet, &mut outside, audience);
+    let desk = beginning.desk;
+    let mut outside = outside;
+    let ended = keep(rt, beginning, &sheet, &mut outside, audience);
     let Outside {
         link,
         keys,

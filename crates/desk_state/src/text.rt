@@ -5,7 +5,7 @@ ghost use Rattle.notation.specs.Written.{IsEntry};
 ghost use Rattle.desk_state.specs.Book as book_laws;
 ghost use Rattle.desk_state.specs.Value as laws;
 
-use crate::value::{put_all, put_open, put_state};
+use crate::value::{DeskStand, put_all, put_open, put_state};
 use agree_core::{DeskId, Position};
 use cards::MatchSheet;
 use corrections::BookOf;
@@ -32,7 +32,8 @@ pub fn state_text<B: BookOf>(
         (B.innings_a_side book.now) (B.content book.now) desk at own held.now) }
 {
     let mut out = Compact::new(alloc);
-    put_state(&mut out, alloc, sheet, book, desk, at, own, held)?;
+    let stand = DeskStand { desk, at, own };
+    put_state(&mut out, alloc, sheet, book, stand, held)?;
     let mut text = out.into_inner();
     text.push(b'\n')?;
     Ok(text)

@@ -40,23 +40,29 @@ fn put_book<B: BookOf>(
     put_board_field(out, alloc, sheet, book)
 }
 
-/// Puts the state of a desk with this book, that votes at this position, voted so there, and holds these lines.
+/// Where a desk stands: its letter, the position at which it votes, and its vote there, where that is cast.
+#[derive(Clone, Copy)]
+pub struct DeskStand {
+    pub desk: DeskId,
+    pub at: Position,
+    pub own: Option<Entry>,
+}
+
+/// Puts the state of a desk with this book, that stands there and holds these lines.
 pub fn put_state<B: BookOf>(
     out: &mut Compact,
     alloc: Global,
     sheet: &MatchSheet,
     book: &B,
-    desk: DeskId,
-    at: Position,
-    own: Option<Entry>,
+    stand: DeskStand,
     held: &[HeldLine],
 ) -> Result<(), AllocError>
-    requires { IfSome own IsEntry }
+    requires { IfSome stand.own IsEntry }
     ensures { PutsValues result out.old out.new (laws.state_value sheet.now
-        (B.innings_a_side book.now) (B.content book.now) desk at own held.now ∷ []) }
+        (B.innings_a_side book.now) (B.content book.now) stand.desk stand.at stand.own held.now ∷ []) }
 {
     begin_object(out)?;
-    put_head(out, sheet, desk, at, own, held)?;
+    put_head(out, sheet, stand.desk, stand.at, stand.own, held)?;
     put_book(out, alloc, sheet, book)?;
     end_object(out)
 }

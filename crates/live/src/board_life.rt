@@ -9,6 +9,7 @@ ghost use Rattle.live.specs.Boards.{BoardLives, sight_at};
 ghost use Rattle.live.specs.Runs.{untyped};
 
 use crate::board_loop::run_board;
+use crate::scoreboard::Scoreboard;
 use crate::shows::Shows;
 use crate::watch::Watch;
 use board::Board;
@@ -16,24 +17,24 @@ use cards::{MatchSheet, board_lines};
 use corrections::BookOf;
 use links::{Clock, Link};
 use station_texts::notices::Notices;
-use streams::{Sink, Watched, WriteFailed};
+use streams::{Sink, WriteFailed};
 
 /// Prints a board's six lines and hands its book over to be shown, as it begins at this time.
 fn begin<B: BookOf, W: Sink, S: Shows<B>>(
     board: &Board<B>,
     sheet: &MatchSheet,
     now: u64,
-    out: &mut Watched<W>,
-    state: &mut S,
+    scoreboard: &mut Scoreboard<W, S>,
 ) -> Result<(), WriteFailed>
-    ensures text { OnOk result (Prints W.contents out.old out.new
+    ensures text { OnOk result (Prints W.contents scoreboard.old.lines scoreboard.new.lines
         (board_text sheet.now (B.innings_a_side (book_of board.now)) (history_of (B.content (book_of board.now))))) }
-    ensures seen { (S.seen state.new ≡ S.seen state.old ++ sight_at B.content B.innings_a_side sheet.now board.now None ∷ [])
-        ⊎ ((S.seen state.new ≡ S.seen state.old) × IsErr result) }
-    ensures failed { OnErr result (has_failed out.new ≡ true ⊎ S.failed state.new ≡ true) }
+    ensures seen { (S.seen scoreboard.new.state ≡ S.seen scoreboard.old.state ++ sight_at B.content B.innings_a_side sheet.now board.now None ∷ [])
+        ⊎ ((S.seen scoreboard.new.state ≡ S.seen scoreboard.old.state) × IsErr result) }
+    ensures failed { OnErr result (has_failed scoreboard.new.lines ≡ true ⊎ S.failed scoreboard.new.state ≡ true) }
 {
-    board_lines(sheet, board.shown(), out)?;
-    out.flush()?;
+    let Scoreboard { lines, state } = scoreboard;
+    board_lines(sheet, board.shown(), lines)?;
+    lines.flush()?;
     state.show(sheet, board.book(), None, now)
 }
 
@@ -45,17 +46,16 @@ pub fn keep_board<B: BookOf, L: Link, C: Clock, N: Notices, W: Sink, S: Shows<B>
     link: &mut L,
     clock: &mut C,
     watch: &mut Watch<N>,
-    out: &mut Watched<W>,
-    state: &mut S,
+    scoreboard: &mut Scoreboard<W, S>,
     turns: u64,
 ) -> Result<(), WriteFailed>
     requires fresh { watch.old.witness ≡ [] }
     ensures lives { BoardLives B.content B.innings_a_side sheet.now board.old board.new
-        (untyped (L.log link.old) (C.readings clock.old) (W.contents (stream_of out.old)))
-        (untyped (L.log link.new) (C.readings clock.new) (W.contents (stream_of out.new))) turns
-        (N.told watch.old.notices) (N.told watch.new.notices) (S.seen state.old) (S.seen state.new) result }
-    ensures failed { OnErr result (has_failed out.new ≡ true ⊎ S.failed state.new ≡ true) }
+        (untyped (L.log link.old) (C.readings clock.old) (W.contents (stream_of scoreboard.old.lines)))
+        (untyped (L.log link.new) (C.readings clock.new) (W.contents (stream_of scoreboard.new.lines))) turns
+        (N.told watch.old.notices) (N.told watch.new.notices) (S.seen scoreboard.old.state) (S.seen scoreboard.new.state) result }
+    ensures failed { OnErr result (has_failed scoreboard.new.lines ≡ true ⊎ S.failed scoreboard.new.state ≡ true) }
 {
-    begin(board, sheet, clock.millis(), out, state)?;
-    run_board(board, sheet, link, clock, watch, out, state, turns)
+    begin(board, sheet, clock.millis(), scoreboard)?;
+    run_board(board, sheet, link, clock, watch, scoreboard, turns)
 }

@@ -30,6 +30,7 @@ use crate::board_calls::tick;
 use crate::hearing::promises_more;
 use crate::later::{Later, desk_later};
 use crate::pace::Pace;
+use crate::scoreboard::Scoreboard;
 use crate::shows::Shows;
 use crate::watch::Watch;
 use agree_core::{Heard, Message, Vote};
@@ -407,26 +408,26 @@ fn turn<B: BookOf, L: Link, C: Clock, N: Notices, W: Sink, S: Shows<B>>(
     link: &mut L,
     clock: &mut C,
     watch: &mut Watch<N>,
-    out: &mut Watched<W>,
-    state: &mut S,
+    scoreboard: &mut Scoreboard<W, S>,
     between: &mut Between,
 ) -> Result<(), WriteFailed>
     ensures runs { (turns : ℕ) → (runs : BoardRuns B.content B.innings_a_side sheet.now board.old board.new
-        (untyped (L.log link.old) (C.readings clock.old) (W.contents (stream_of out.old)))
-        (untyped (L.log link.new) (C.readings clock.new) (W.contents (stream_of out.new))) turns (turns + 1)
+        (untyped (L.log link.old) (C.readings clock.old) (W.contents (stream_of scoreboard.old.lines)))
+        (untyped (L.log link.new) (C.readings clock.new) (W.contents (stream_of scoreboard.new.lines))) turns (turns + 1)
         (memory_of between.old.telling watch.old.witness between.old.later) (ticking_of between.old.pace) (N.told watch.old.notices) (N.told watch.new.notices)
-        (S.seen state.old) (S.seen state.new) result)
+        (S.seen scoreboard.old.state) (S.seen scoreboard.new.state) result)
         × OnOk result (runs.last ≡ at_turn B.content board.new (turns + 1)
-        (memory_of between.new.telling watch.new.witness between.new.later) (ticking_of between.new.pace) (N.told watch.new.notices) (S.seen state.new)) }
-    ensures failed { OnErr result (has_failed out.new ≡ true ⊎ S.failed state.new ≡ true) }
+        (memory_of between.new.telling watch.new.witness between.new.later) (ticking_of between.new.pace) (N.told watch.new.notices) (S.seen scoreboard.new.state)) }
+    ensures failed { OnErr result (has_failed scoreboard.new.lines ≡ true ⊎ S.failed scoreboard.new.state ≡ true) }
 {
+    let Scoreboard { lines, state } = scoreboard;
     let before = board.book().len();
     let longest_wait = state.longest_wait();
     take_all(board, link, clock, watch, between, longest_wait);
     let now = clock.millis();
     look_apart(board, watch, between, now);
     between.pace.end_turn();
-    print_news(board, sheet, out, before)?;
+    print_news(board, sheet, lines, before)?;
     state.show(sheet, board.book(), between.telling.trouble, now)
 }
 
@@ -442,16 +443,15 @@ pub fn run_board<B: BookOf, L: Link, C: Clock, N: Notices, W: Sink, S: Shows<B>>
     link: &mut L,
     clock: &mut C,
     watch: &mut Watch<N>,
-    out: &mut Watched<W>,
-    state: &mut S,
+    scoreboard: &mut Scoreboard<W, S>,
     turns: u64,
 ) -> Result<(), WriteFailed>
     requires fresh { watch.old.witness ≡ [] }
     ensures runs { BoardRuns B.content B.innings_a_side sheet.now board.old board.new
-        (untyped (L.log link.old) (C.readings clock.old) (W.contents (stream_of out.old)))
-        (untyped (L.log link.new) (C.readings clock.new) (W.contents (stream_of out.new))) 0 turns
-        unheard unticked (N.told watch.old.notices) (N.told watch.new.notices) (S.seen state.old) (S.seen state.new) result }
-    ensures failed { OnErr result (has_failed out.new ≡ true ⊎ S.failed state.new ≡ true) }
+        (untyped (L.log link.old) (C.readings clock.old) (W.contents (stream_of scoreboard.old.lines)))
+        (untyped (L.log link.new) (C.readings clock.new) (W.contents (stream_of scoreboard.new.lines))) 0 turns
+        unheard unticked (N.told watch.old.notices) (N.told watch.new.notices) (S.seen scoreboard.old.state) (S.seen scoreboard.new.state) result }
+    ensures failed { OnErr result (has_failed scoreboard.new.lines ≡ true ⊎ S.failed scoreboard.new.state ≡ true) }
 {
     let mut between = Between {
         pace: Pace::new(),
@@ -460,7 +460,7 @@ pub fn run_board<B: BookOf, L: Link, C: Clock, N: Notices, W: Sink, S: Shows<B>>
         awaited: Awaited::new(),
     };
     for number in 0..turns {
-        turn(board, sheet, link, clock, watch, out, state, &mut between)?;
+        turn(board, sheet, link, clock, watch, scoreboard, &mut between)?;
     }
     Ok(())
 }

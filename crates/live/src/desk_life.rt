@@ -15,7 +15,7 @@ ghost use Rattle.live.specs.Ends.{end_told};
 ghost use Rattle.live.specs.Outside.{logs_of};
 ghost use Rattle.station_texts.specs.Texts.{greeting};
 
-use crate::begin::begin_desk;
+use crate::begin::{Beginning, begin_desk};
 use crate::between::Between;
 use crate::desk_loop::turn;
 use crate::ends::{DeskEnd, told};
@@ -147,7 +147,7 @@ pub fn run_desk<S: SlotsOf, B: BookOf + Drop, L: Link, K: Keys, C: Clock, W: Sin
     end_told(end, told(outside.out.flush()))
 }
 
-/// A desk's process: it begins on this disk, on a new file where that has no byte, and runs for so many turns, with an
+/// A desk's process: it begins on its disk, on a new file where that has no byte, and runs for so many turns, with an
 /// empty book of the sheet's match to begin with. However it ends, it is a process of the definitions: it began as
 /// `begin_desk` says, and ran as `run_desk` says, on just that desk; and where it didn't begin, nothing passed at the
 /// link, nothing was typed, the clock wasn't read and nothing was told or shown.
@@ -161,9 +161,7 @@ pub fn keep_desk<
     P: ShowsDesk<B>,
 >(
     alloc: Global,
-    disk: S::Disk,
-    desk: DeskId,
-    book: B,
+    beginning: Beginning<S::Disk, B>,
     sheet: &MatchSheet,
     outside: &mut Outside<L, K, C, W>,
     page: &mut P,
@@ -171,20 +169,21 @@ pub fn keep_desk<
 ) -> Result<(), LifeEnd>
 where
     S::Disk: Drop,
-    requires empty { B.content book ≡ [] }
-    ensures lives { DeskLives (file_view S.contents S.Disk.seen S.Disk.images desk sheet.now.game) S.Disk.seen
-        (record { faults = S.Disk.faults; FitsLongest = FitsLongest S.room (S.Disk.cap disk) })
-        sheet.now (B.innings_a_side book) desk disk
+    requires empty { B.content beginning.book ≡ [] }
+    ensures lives { DeskLives (file_view S.contents S.Disk.seen S.Disk.images beginning.desk sheet.now.game) S.Disk.seen
+        (record { faults = S.Disk.faults; FitsLongest = FitsLongest S.room (S.Disk.cap beginning.disk) })
+        sheet.now (B.innings_a_side beginning.book) beginning.desk beginning.disk
         (logs_of L.log K.inputs C.readings W.contents outside.old)
         (logs_of L.log K.inputs C.readings W.contents outside.new) turns result }
     ensures shown { (opening : Opening S.Disk)
-        × BeginsOn (file_view S.contents S.Disk.seen S.Disk.images desk sheet.now.game) S.Disk.seen (B.innings_a_side book)
-        desk disk opening
-        × IsShownFrom (desk_kind sheet.now (file_view S.contents S.Disk.seen S.Disk.images desk sheet.now.game)
-        (record { faults = S.Disk.faults; FitsLongest = FitsLongest S.room (S.Disk.cap disk) }) sheet.now.game
-        (B.innings_a_side book)) sheet.now (B.innings_a_side book) P.goes_on opening page.old page.new }
+        × BeginsOn (file_view S.contents S.Disk.seen S.Disk.images beginning.desk sheet.now.game) S.Disk.seen
+        (B.innings_a_side beginning.book) beginning.desk beginning.disk opening
+        × IsShownFrom (desk_kind sheet.now (file_view S.contents S.Disk.seen S.Disk.images beginning.desk sheet.now.game)
+        (record { faults = S.Disk.faults; FitsLongest = FitsLongest S.room (S.Disk.cap beginning.disk) }) sheet.now.game
+        (B.innings_a_side beginning.book)) sheet.now (B.innings_a_side beginning.book) P.goes_on opening page.old page.new }
     ensures failed { result ≡ Err (Ended DeskEnd.Write) → has_failed outside.new.out ≡ true }
 {
+    let Beginning { desk, disk, book } = beginning;
     match begin_desk::<S, B>(alloc, disk, desk, sheet.game(), book) {
         Ok(mut begun) => match run_desk(alloc, &mut begun, desk, sheet, outside, page, turns) {
             Ok(()) => Ok(()),

@@ -124,6 +124,7 @@ fn take_line<S: SlotsOf, B: BookOf + Drop, L: Link, K: Keys, C: Clock, W: Sink>(
     let stand = stand_of(desk);
     let at = desk.position();
     let both = Both {
+        at,
         own: own_line(desk),
         other: desk.noted(),
     };
@@ -141,7 +142,7 @@ fn take_line<S: SlotsOf, B: BookOf + Drop, L: Link, K: Keys, C: Clock, W: Sink>(
         return Err(end);
     }
     let out = &mut outside.out;
-    told(print_said(out, sheet, at, both, warned, &said, desk.book()))
+    told(print_said(out, sheet, both, warned, &said, desk.book()))
 }
 
 /// Takes what came in a turn, and tells the scorer what is due of the other desk.

@@ -129,6 +129,7 @@ fn hear<S: SlotsOf, B: BookOf + Drop, L: Link, W: Sink>(
 {
     let at = desk.position();
     let both = Both {
+        at,
         own: own_line(desk),
         other: entry_in(*read),
     };
@@ -146,8 +147,7 @@ fn hear<S: SlotsOf, B: BookOf + Drop, L: Link, W: Sink>(
     if let Err(end) = end_at(what) {
         return Err(end);
     }
-    let place = at.place;
-    told(print_came(out, sheet, place, warned, both, evidence, what, desk.book()))
+    told(print_came(out, sheet, warned, both, evidence, what, desk.book()))
 }
 
 /// Tells the scorer that bytes came that don't open, unless it was told since a vote that is news came. Nothing else changes:

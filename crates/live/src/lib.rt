@@ -19,12 +19,13 @@ mod outside;
 mod pace;
 mod peer;
 mod reminding;
+mod scoreboard;
 mod shows;
 mod sight_log;
 mod times;
 mod watch;
 
-pub use begin::begin_desk;
+pub use begin::{Beginning, begin_desk};
 pub use board_life::keep_board;
 pub use board_loop::run_board;
 pub use desk_life::{LifeEnd, keep_desk, run_desk};
@@ -34,6 +35,7 @@ pub use laws::{
     stations_are_never_silent, the_other_is_hidden,
 };
 pub use outside::Outside;
+pub use scoreboard::Scoreboard;
 pub use shows::Shows;
 pub use sight_log::SightLog;
 pub use watch::Watch;

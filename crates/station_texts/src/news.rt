@@ -67,11 +67,10 @@ fn print_shown<W: Sink>(
     }
 }
 
-/// Prints what a vote that came at this place came to, where it is news: of both votes, the desk's own was there before.
+/// Prints what a vote that came came to, where it is news: of both votes, the desk's own was there before.
 fn print_heard<B: BookOf, W: Sink>(
     out: &mut Watched<W>,
     sheet: &MatchSheet,
-    place: u32,
     warned: Warned,
     both: Both,
     evidence: Evidence,
@@ -81,23 +80,22 @@ fn print_heard<B: BookOf, W: Sink>(
     requires own { IfSome both.own IsEntry }
     requires other { IfSome both.other IsEntry }
     ensures text { OnOk result (Prints W.contents out.old out.new
-        (texts.heard_text sheet.now (B.innings_a_side book.now) place both.own both.other (B.content book.now) warned evidence heard)) }
+        (texts.heard_text sheet.now (B.innings_a_side book.now) both.at.place both.own both.other (B.content book.now) warned evidence heard)) }
     ensures failed { TellsFailure result out.old out.new }
 {
     match heard {
-        Heard::Agreed => print_agreed(out, sheet, place, book),
-        Heard::Differ => print_differs(out, place, both),
+        Heard::Agreed => print_agreed(out, sheet, both.at.place, book),
+        Heard::Differ => print_differs(out, both),
         Heard::TwoVotes => print_warning(out, warned.of_votes, "peer: two votes\n"),
         Heard::Mine | Heard::Old | Heard::Ahead => print_shown(out, warned, evidence),
         Heard::Noted | Heard::Again => Ok(()),
     }
 }
 
-/// Prints what came of bytes at this place, where it is news.
+/// Prints what came of bytes at the position of both votes, where it is news.
 fn print_news<B: BookOf, W: Sink>(
     out: &mut Watched<W>,
     sheet: &MatchSheet,
-    place: u32,
     warned: Warned,
     both: Both,
     evidence: Evidence,
@@ -107,22 +105,21 @@ fn print_news<B: BookOf, W: Sink>(
     requires own { IfSome both.own IsEntry }
     requires other { IfSome both.other IsEntry }
     ensures text { OnOk result (Prints W.contents out.old out.new
-        (texts.came_text sheet.now (B.innings_a_side book.now) place both.own both.other (B.content book.now) warned evidence what)) }
+        (texts.came_text sheet.now (B.innings_a_side book.now) both.at.place both.own both.other (B.content book.now) warned evidence what)) }
     ensures failed { TellsFailure result out.old out.new }
 {
     match what {
         What::Bad(fault) => print_bad(out, warned.of_bytes, fault),
-        What::Heard(heard) => print_heard(out, sheet, place, warned, both, evidence, heard, book),
+        What::Heard(heard) => print_heard(out, sheet, warned, both, evidence, heard, book),
         What::Asked => print_shown(out, warned, evidence),
         What::Device | What::Failed => Ok(()),
     }
 }
 
-/// Tells the scorer at once what came of bytes at this place, where it is news.
+/// Tells the scorer at once what came of bytes at the position of both votes, where it is news.
 pub fn print_came<B: BookOf, W: Sink>(
     out: &mut Watched<W>,
     sheet: &MatchSheet,
-    place: u32,
     warned: Warned,
     both: Both,
     evidence: Evidence,
@@ -132,10 +129,10 @@ pub fn print_came<B: BookOf, W: Sink>(
     requires own { IfSome both.own IsEntry }
     requires other { IfSome both.other IsEntry }
     ensures text { OnOk result (Prints W.contents out.old out.new
-        (texts.came_text sheet.now (B.innings_a_side book.now) place both.own both.other (B.content book.now) warned evidence what)) }
+        (texts.came_text sheet.now (B.innings_a_side book.now) both.at.place both.own both.other (B.content book.now) warned evidence what)) }
     ensures failed { TellsFailure result out.old out.new }
 {
-    print_news(out, sheet, place, warned, both, evidence, what, book)?;
+    print_news(out, sheet, warned, both, evidence, what, book)?;
     out.flush()
 }
 

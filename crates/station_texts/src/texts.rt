@@ -197,18 +197,15 @@ fn print_pending<W: Sink>(
     writeln!(out, "{place} pending: {words}")
 }
 
-/// Prints that the two scorers differ at this place, with the entry of each where it is known.
-pub(crate) fn print_differs<W: Sink>(
-    out: &mut Watched<W>,
-    place: u32,
-    both: Both,
-) -> Result<(), WriteFailed>
+/// Prints that the two scorers differ at a place, with the entry of each where it is known.
+pub(crate) fn print_differs<W: Sink>(out: &mut Watched<W>, both: Both) -> Result<(), WriteFailed>
     requires own { IfSome both.own IsEntry }
     requires other { IfSome both.other IsEntry }
     ensures text { OnOk result (Prints W.contents out.old out.new
-        (texts.differs_text place both.own both.other)) }
+        (texts.differs_text both.at.place both.own both.other)) }
     ensures failed { TellsFailure result out.old out.new }
 {
+    let place = both.at.place;
     match (both.own, both.other) {
         (Some(own), Some(other)) => {
             let own_line = line_of(&own);
@@ -221,12 +218,12 @@ pub(crate) fn print_differs<W: Sink>(
     }
 }
 
-/// Prints what became of a vote for the entry that was cast at this place, where this is the other scorer's that was
+/// Prints what became of a vote for the entry that was cast at this position, where this is the other scorer's that was
 /// noted before.
 fn print_settled<B: BookOf, W: Sink>(
     out: &mut Watched<W>,
     sheet: &MatchSheet,
-    place: u32,
+    at: Position,
     other: Option<Entry>,
     entry: &Entry,
     settled: Settled,
@@ -235,15 +232,15 @@ fn print_settled<B: BookOf, W: Sink>(
     requires entry { IsEntry entry.now }
     requires other { IfSome other IsEntry }
     ensures text { OnOk result (Prints W.contents out.old out.new
-        (texts.settled_text sheet.now (B.innings_a_side book.now) place other (B.content book.now) entry.now settled)) }
+        (texts.settled_text sheet.now (B.innings_a_side book.now) at.place other (B.content book.now) entry.now settled)) }
     ensures failed { TellsFailure result out.old out.new }
 {
     match settled {
-        Settled::Pending => print_pending(out, place, entry),
-        Settled::Agreed => print_agreed(out, sheet, place, book),
+        Settled::Pending => print_pending(out, at.place, entry),
+        Settled::Agreed => print_agreed(out, sheet, at.place, book),
         Settled::Differ => {
             let own = Some(*entry);
-            print_differs(out, place, Both { own, other })
+            print_differs(out, Both { at, own, other })
         }
     }
 }
@@ -377,20 +374,26 @@ fn print_standing<B: BookOf, W: Sink>(
 fn print_asked<B: BookOf, W: Sink>(
     out: &mut Watched<W>,
     sheet: &MatchSheet,
-    at: Position,
-    own: Option<Entry>,
-    is_waited_for: bool,
+    both: Both,
     warned: Warned,
     book: &B,
     word: Word,
 ) -> Result<(), WriteFailed>
-    requires { IfSome own IsEntry }
+    requires { IfSome both.own IsEntry }
     ensures text { OnOk result (Prints W.contents out.old out.new
-        (texts.word_text sheet.now (B.innings_a_side book.now) at own is_waited_for warned (B.content book.now) word)) }
+        (texts.word_text sheet.now (B.innings_a_side book.now) both.at both.own
+        (texts.is_waited_for both.own both.other) warned (B.content book.now) word)) }
     ensures failed { TellsFailure result out.old out.new }
 {
     match word {
-        Word::Where => print_standing(out, sheet, at, own, is_waited_for, warned, book),
+        Word::Where => {
+            let is_waited_for = if both.own.is_some() {
+                false
+            } else {
+                both.other.is_some()
+            };
+            print_standing(out, sheet, both.at, both.own, is_waited_for, warned, book)
+        }
         Word::Entries(most) => print_listing(out, book, most),
         Word::Range(first, last) => print_range(out, book, first, last),
         Word::Over(number) => print_over_last(out, sheet, book, number),
@@ -413,12 +416,10 @@ fn print_asked<B: BookOf, W: Sink>(
     }
 }
 
-/// Prints what a line came to, at this position, where the desk had these votes before, and the scorer was told this of a
-/// peer.
+/// Prints what a line came to, where the desk had both votes of its position before, and the scorer was told this of a peer.
 fn print_answer<B: BookOf, W: Sink>(
     out: &mut Watched<W>,
     sheet: &MatchSheet,
-    at: Position,
     both: Both,
     warned: Warned,
     said: &Said,
@@ -428,38 +429,30 @@ fn print_answer<B: BookOf, W: Sink>(
     requires own { IfSome both.own IsEntry }
     requires other { IfSome both.other IsEntry }
     ensures text { OnOk result (Prints W.contents out.old out.new
-        (texts.said_text sheet.now (B.innings_a_side book.now) at both.own both.other warned (B.content book.now) said.now)) }
+        (texts.said_text sheet.now (B.innings_a_side book.now) both.at both.own both.other warned (B.content book.now) said.now)) }
     ensures failed { TellsFailure result out.old out.new }
 {
     match said {
         Said::Quit => Ok(()),
-        Said::Asks(word) => {
-            let is_waited_for = if both.own.is_some() {
-                false
-            } else {
-                both.other.is_some()
-            };
-            print_asked(out, sheet, at, both.own, is_waited_for, warned, book, *word)
-        }
+        Said::Asks(word) => print_asked(out, sheet, both, warned, book, *word),
         Said::Plan(planned) => print_planned(out, sheet, planned, book),
         Said::Unclear(unclear) => print_question(out, sheet, unclear, book),
-        Said::SayAgain(line) => print_again(out, at, line),
-        Said::NoneDiffers => print_at(out, at.place, "doesn't differ: leave out again"),
+        Said::SayAgain(line) => print_again(out, both.at, line),
+        Said::NoneDiffers => print_at(out, both.at.place, "doesn't differ: leave out again"),
         Said::Waiting => print_refused(out, Refusal::Waiting),
-        Said::Withheld => print_withheld(out, at.place),
+        Said::Withheld => print_withheld(out, both.at.place),
         Said::Refused(entry, why) => print_refused_entry(out, book, entry, *why),
         Said::Penned(entry, settled) => {
-            print_settled(out, sheet, at.place, both.other, entry, *settled, book)
+            print_settled(out, sheet, both.at, both.other, entry, *settled, book)
         }
     }
 }
 
-/// Tells the scorer at once what a line came to, at this position, where the desk had these votes before, and the scorer was
-/// told this of a peer.
+/// Tells the scorer at once what a line came to, where the desk had both votes of its position before, and the scorer was told
+/// this of a peer.
 pub fn print_said<B: BookOf, W: Sink>(
     out: &mut Watched<W>,
     sheet: &MatchSheet,
-    at: Position,
     both: Both,
     warned: Warned,
     said: &Said,
@@ -469,9 +462,9 @@ pub fn print_said<B: BookOf, W: Sink>(
     requires own { IfSome both.own IsEntry }
     requires other { IfSome both.other IsEntry }
     ensures text { OnOk result (Prints W.contents out.old out.new
-        (texts.said_text sheet.now (B.innings_a_side book.now) at both.own both.other warned (B.content book.now) said.now)) }
+        (texts.said_text sheet.now (B.innings_a_side book.now) both.at both.own both.other warned (B.content book.now) said.now)) }
     ensures failed { TellsFailure result out.old out.new }
 {
-    print_answer(out, sheet, at, both, warned, said, book)?;
+    print_answer(out, sheet, both, warned, said, book)?;
     out.flush()
 }

@@ -3,7 +3,7 @@
 use super::*;
 use board::{Board, Trouble, Witness};
 use corrections::BookOf;
-use live::{Shows, SightLog, Watch, run_board};
+use live::{Scoreboard, Shows, SightLog, Watch, run_board};
 use station_texts::{Notice, NoticeLog, Notices};
 use streams::WriteFailed;
 use wire::SIZE;
@@ -60,7 +60,6 @@ impl Shows<Book> for States {
 fn show(rt: &impl Abort, alloc: Global, world: &World, link: &mut Timed<'_>, turns: u64) {
     let sheet = sheet(rt, alloc);
     let mut board = Board::new(7, empty_book(rt, alloc));
-    let mut out = Watched::new(Screen::new(alloc, world));
     let mut clock = Hand::new(world);
     let mut watch = Watch {
         notices: Notes {
@@ -68,8 +67,11 @@ fn show(rt: &impl Abort, alloc: Global, world: &World, link: &mut Timed<'_>, tur
         },
         witness: Witness::new(alloc).expect(rt, "room for a witness"),
     };
-    let mut states = States {
-        log: SightLog::Empty,
+    let mut scoreboard = Scoreboard {
+        lines: Watched::new(Screen::new(alloc, world)),
+        state: States {
+            log: SightLog::Empty,
+        },
     };
     let answer = run_board(
         &mut board,
@@ -77,8 +79,7 @@ fn show(rt: &impl Abort, alloc: Global, world: &World, link: &mut Timed<'_>, tur
         link,
         &mut clock,
         &mut watch,
-        &mut out,
-        &mut states,
+        &mut scoreboard,
         turns,
     );
     assert!(rt; answer.is_ok());

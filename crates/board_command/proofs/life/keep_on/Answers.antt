@@ -33,7 +33,7 @@ invariant_of-result-clause-kept g c =
       carried = was_carried _ ring (said ∙ ap (λ (w : Windowed). w.above) (c.link.ensures ∙ sym c.link-2.ensures))
           (below ∙ rw c.carrier.ensures c.link-3.ensures.log) c.link-3.ensures.faithful;
       lives = lives_so c.of.ensures (sym c.requires.unsaid) (said ∙ ap (λ (w : Windowed). w.above) c.link.ensures)
-          (ap Some (sym (ap written_of c.new-out.ensures.stream ∙ c.requires.untold))) (ap Some (c.written.ensures ∙ ap written_of c.into_inner.ensures))
+          (ap Some (sym c.requires.untold)) (ap Some (c.written.ensures ∙ ap written_of c.into_inner.ensures))
           (sym c.watching-watch.ensures.untold) (ap notices_of (c.of-4.ensures ∙ c.log.ensures))
           refl (ap (sights_of entries_in innings_in) c.of-5.ensures)
           c.keep_board-ended.ensures.lives;

@@ -19,7 +19,7 @@ invariant_of-life-clause-kept g c =
     let said = ap passed_of c.of-5.ensures ∙ c.passed.ensures in
     let told = sym c.written.ensures ∙ ap g.W.Write.contents c.into_inner-screen.ensures in
     ∣ record {
-      disk = c.args.disk;
+      disk = c.args.beginning.disk;
       log = (ahead.queue).log;
       on = c.requires.on;
       of_typed = rw (c.of-2.ensures, c.given.ensures, c.keys-3.ensures) ahead.typed;

@@ -6,8 +6,8 @@ use Rattle.live.proofs.board_life.keep_board.Goals as goal
 
 pub returns-in_err-begin-clause-lives : goal.returns-in_err-begin-clause-lives
 returns-in_err-begin-clause-lives g c =
-    not_begun (untyped (g.L.Link.log c.args.link.now) (g.C.Clock.readings c.args.clock.now) (g.W.Sink.contents (stream_of c.args.out.now))) c.from_residual.result c.in_err-begin.field-0.0 c.millis.result c.from_residual.ensures.1 c.millis.ensures c.in_err-begin.ensures.seen
+    not_begun (untyped (g.L.Link.log c.args.link.now) (g.C.Clock.readings c.args.clock.now) (g.W.Sink.contents (stream_of c.args.scoreboard.now.lines))) c.from_residual.result c.in_err-begin.field-0.0 c.millis.result c.from_residual.ensures.1 c.millis.ensures c.in_err-begin.ensures.seen
 
 pub returns-clause-lives : goal.returns-clause-lives
 returns-clause-lives g c =
-    lives_on (untyped (g.L.Link.log c.args.link.now) (g.C.Clock.readings c.args.clock.now) (g.W.Sink.contents (stream_of c.args.out.now))) c.run_board.result c.millis.result c.millis.ensures c.in_ok-begin.ensures.text (grind arith) c.run_board.ensures.runs
+    lives_on (untyped (g.L.Link.log c.args.link.now) (g.C.Clock.readings c.args.clock.now) (g.W.Sink.contents (stream_of c.args.scoreboard.now.lines))) c.run_board.result c.millis.result c.millis.ensures c.in_ok-begin.ensures.text (grind arith) c.run_board.ensures.runs

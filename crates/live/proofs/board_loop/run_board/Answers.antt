@@ -19,7 +19,7 @@ loop-number-preserved g c =
 pub returns-in_err-turn-clause-runs : goal.returns-in_err-turn-clause-runs
 returns-in_err-turn-clause-runs g c =
     let last = (c.in_err-turn.ensures.runs c.loop-number.number).0 in
-    (stopped _ (untyped (g.L.Link.log c.turn.new.link) (g.C.Clock.readings c.turn.new.clock) (g.W.Sink.contents (stream_of c.turn.new.out))) last.last c.from_residual.result c.in_err-turn.field-0.0 c.from_residual.ensures.1 last.is last.noticed last.sighted
+    (stopped _ (untyped (g.L.Link.log c.turn.new.link) (g.C.Clock.readings c.turn.new.clock) (g.W.Sink.contents (stream_of c.turn.new.scoreboard.lines))) last.last c.from_residual.result c.in_err-turn.field-0.0 c.from_residual.ensures.1 last.is last.noticed last.sighted
     (then (silent c.loop-number.invariant) last.goes)).0
 
 pub returns-clause-runs : goal.returns-clause-runs
@@ -27,7 +27,7 @@ returns-clause-runs g c =
     let over : c.loop-number.number ≡ c.args.turns = omega (arith, c.loop-number.auto.number-end, c.loop-number-test.false) in
     let done : Result (Unit {0}) WriteFailed = Ok tt in
     subst (λ (turns : ℕ). BoardRuns g.B.BookOf.content g.B.BookOf.innings_a_side c.args.sheet.now c.args.board.now c.loop-number.board
-    (untyped (g.L.Link.log c.args.link.now) (g.C.Clock.readings c.args.clock.now) (g.W.Sink.contents (stream_of c.args.out.now)))
-    (untyped (g.L.Link.log c.loop-number.link) (g.C.Clock.readings c.loop-number.clock) (g.W.Sink.contents (stream_of c.loop-number.out))) 0 turns
+    (untyped (g.L.Link.log c.args.link.now) (g.C.Clock.readings c.args.clock.now) (g.W.Sink.contents (stream_of c.args.scoreboard.now.lines)))
+    (untyped (g.L.Link.log c.loop-number.link) (g.C.Clock.readings c.loop-number.clock) (g.W.Sink.contents (stream_of c.loop-number.scoreboard.lines))) 0 turns
     unheard unticked (g.N.Notices.told c.args.watch.now.notices) (g.N.Notices.told c.loop-number.watch.notices)
-    (g.S.Shows.seen c.args.state.now) (g.S.Shows.seen c.loop-number.state) done) over (finished done c.loop-number.invariant).0
+    (g.S.Shows.seen c.args.scoreboard.now.state) (g.S.Shows.seen c.loop-number.scoreboard.state) done) over (finished done c.loop-number.invariant).0

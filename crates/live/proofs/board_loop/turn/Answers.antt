@@ -11,8 +11,8 @@ use Rattle.live.proofs.board_loop.turn.Goals as goal
 
 pub returns-in_err-print_news-clause-runs : goal.returns-in_err-print_news-clause-runs
 returns-in_err-print_news-clause-runs g c = λ turns.
-    let told = g.W.Sink.contents (stream_of c.args.out.now) in
-    let seen = g.S.Shows.seen c.args.state.now in
+    let told = g.W.Sink.contents (stream_of c.args.scoreboard.now.lines) in
+    let seen = g.S.Shows.seen c.args.scoreboard.now.state in
     let sheet = c.args.sheet.now in
     let had = length (g.B.BookOf.content (book_of c.args.board.now)) in
     let pace = c.take_all.new.between.pace in
@@ -26,8 +26,8 @@ pub returns-clause-runs : goal.returns-clause-runs
 returns-clause-runs g c = λ turns.
     let content = g.B.BookOf.content in
     let innings = g.B.BookOf.innings_a_side in
-    let told = g.W.Sink.contents (stream_of c.args.out.now) in
-    let seen = g.S.Shows.seen c.args.state.now in
+    let told = g.W.Sink.contents (stream_of c.args.scoreboard.now.lines) in
+    let seen = g.S.Shows.seen c.args.scoreboard.now.state in
     let sheet = c.args.sheet.now in
     let had = length (content (book_of c.args.board.now)) in
     let pace = c.take_all.new.between.pace in

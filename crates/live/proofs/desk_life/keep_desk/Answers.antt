@@ -26,11 +26,11 @@ returns-in-Ok-clause-shown g c =
 pub returns-clause-lives : goal.returns-clause-lives
 returns-clause-lives g c =
     let disks = g.S.Disk.Disk in
-    not_begun (file_view g.S.SlotsOf.contents disks.seen disks.images c.args.desk) disks.seen _ c.in-Err.why c.in-Err._disk c.args.sheet.now c.args.desk _ c.args.disk c.game.ensures c.in-Err.ensures.opens
+    not_begun (file_view g.S.SlotsOf.contents disks.seen disks.images c.args.beginning.desk) disks.seen _ c.in-Err.why c.in-Err._disk c.args.sheet.now c.args.beginning.desk _ c.args.beginning.disk c.game.ensures c.in-Err.ensures.opens
 
 pub returns-clause-shown : goal.returns-clause-shown
 returns-clause-shown g c =
     let disks = g.S.Disk.Disk in
-    none_begun (file_view g.S.SlotsOf.contents disks.seen disks.images c.args.desk) disks.seen
-    (record { faults = disks.faults; FitsLongest = FitsLongest g.S.SlotsOf.room (disks.cap c.args.disk) }) c.in-Err.why c.in-Err._disk c.args.sheet.now c.args.desk _ c.args.disk c.game.ensures
+    none_begun (file_view g.S.SlotsOf.contents disks.seen disks.images c.args.beginning.desk) disks.seen
+    (record { faults = disks.faults; FitsLongest = FitsLongest g.S.SlotsOf.room (disks.cap c.args.beginning.disk) }) c.in-Err.why c.in-Err._disk c.args.sheet.now c.args.beginning.desk _ c.args.beginning.disk c.game.ensures
     c.in-Err.ensures.opens {goes_on = g.P.ShowsDesk.goes_on}
