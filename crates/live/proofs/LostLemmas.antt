@@ -1,9 +1,9 @@
 -- What bytes show of lines that one of both desks' files lacks.
 use Rattle.std.proofs.Common.{arith, ◌≡◌, ℕ, Bool, true, false, List, [], ◌∷◌, Option, Some, None, Result, Ok, refl, sym, ap, ◌∙◌, subst, inr, map, not, ◌&&◌, IsTrue, ◌↔◌}
-use Rattle.std.specs.Prelude.{is_some, if◌then◌else◌}
+use Rattle.std.specs.Prelude.{◌==◌, nat_lt, is_some, if◌then◌else◌}
 use Rattle.std.specs.Result.{ForOk}
 use Rattle.std.specs.Str.{bytes_eq}
-use Rattle.std.proofs.lemmas.Bool.Decides.{Decides-like, nat_tests, same_from_decides}
+use Rattle.std.proofs.lemmas.Bool.Decides.{Decides-and, Decides-eqb, Decides-like, Decides-ltb, Decides-or, nat_tests, same_from_decides}
 use Rattle.std.proofs.lemmas.Slice.Eq.{bytes_eq-Decides}
 use Rattle.notation.specs.declared.entry.Entry.{Entry}
 use Rattle.notation.specs.Code.{code}
@@ -11,7 +11,7 @@ use Rattle.notation.specs.Written.{IsEntry}
 use Rattle.notation.proofs.Decoded.{code_once}
 use Rattle.agree_core.specs.declared.messages.{Ask.Ask, DeskId.DeskId, Vote.Vote}
 use Rattle.agree_core.specs.Ballots.{Ballot, In}
-use Rattle.agree_core.specs.Positions.{next_place, next_round, position_of}
+use Rattle.agree_core.specs.Positions.{Before, next_place, next_round, position_of}
 use Rattle.vote_store.specs.VoteList.{last_vote}
 use Rattle.agree_core.specs.declared.{messages.Message.Message, position.Position.Position, seat.Heard.Heard}
 use Rattle.agree_core.specs.Desks.{Asked, DeskState, Receives, Replies, Told}
@@ -66,13 +66,24 @@ is_coded r e f h k same =
     same_from_decides r (bytes_eq (code e) (code f)) same
     (Decides-like (bytes_eq (code e) (code f)) (λ x. code_once e f h k x) (λ x. ap code x) (bytes_eq-Decides (code e) (code f)))
 
--- one of a desk's votes is for a position exactly where its replies to an ask for that have one
+-- tests of two positions are those of their numbers
 at_self : (p : Position) → is_at p p ≡ true
 at_self p = grind (arith, nat_tests)
 
 at_once : (p q : Position) → is_at p q ≡ true → p ≡ q
 at_once p q e = grind (arith, nat_tests)
 
+pub is_there : (r : Bool) (p q : Position) → IsTrue r ↔ (p ≡ q) → r ≡ is_at p q
+is_there r p q same =
+    same_from_decides r (is_at p q) same (at_once p q, λ e. subst (λ (x : Position). is_at p x ≡ true) e (at_self p))
+
+pub comes_before : (r : Bool) (p q : Position) → IsTrue r ↔ Before p q → r ≡ is_before p q
+comes_before r p q same =
+    same_from_decides r (is_before p q) same
+    (Decides-or (nat_lt p.place q.place) ((p.place == q.place) && nat_lt p.round q.round) (Decides-ltb p.place q.place)
+    (Decides-and (p.place == q.place) (nat_lt p.round q.round) (Decides-eqb p.place q.place) (Decides-ltb p.round q.round)))
+
+-- one of a desk's votes is for a position exactly where its replies to an ask for that have one
 voted_in : (votes : List Ballot) (at : Position) (e : Entry) → In (record { at = at; entry = e }) votes → is_voted votes at ≡ true
 voted_in [] at e i = absurd i
 voted_in (b ∷ bs) at e i = grind (arith, at_self, voted_in bs at e)

@@ -35,14 +35,14 @@ fn position_in(read: Result<Message, WireFault>) -> Position
 fn is_at(at: Position, other: Position) -> bool
     ensures { result ≡ votes.is_at at other }
 {
-    at.place == other.place && at.round == other.round
+    at == other
 }
 
 /// Whether a position comes before another one.
 fn is_before(at: Position, other: Position) -> bool
     ensures { result ≡ votes.is_before at other }
 {
-    at.place < other.place || (at.place == other.place && at.round < other.round)
+    at.is_before(other)
 }
 
 /// The position that comes next after votes at this one that are alike, or not.
