@@ -18,8 +18,15 @@ use export::runs_before;
 use match_laws::Match;
 use std::alloc::{AllocError, Global};
 
-/// Puts the row of a delivery with what it carries, the items from an index on up to the next one, and gives how the innings
-/// stands after it.
+/// The items of an innings behind one of them, from this index on.
+#[derive(Clone, Copy)]
+struct ItemsBehind<'m> {
+    items: &'m [Noted],
+    next: usize,
+}
+
+/// Puts the row of a delivery with what it carries, the items behind it up to the next one, and gives how the innings stands
+/// after it.
 fn put_carrier(
     alloc: Global,
     out: &mut Vec<u8>,
@@ -27,15 +34,14 @@ fn put_carrier(
     before: Standing,
     early: &[Noted],
     noted: &Noted,
-    items: &[Noted],
-    next: usize,
+    behind: ItemsBehind<'_>,
 ) -> Result<Standing, AllocError>
     ensures next { IfOk result (λ now. now ≡ of innings.entry (λ s day side. rows.next)
-        before early.now noted.now (notes.carried (drop next items.now))) }
+        before early.now noted.now (notes.carried (drop behind.entry.next behind.entry.items.now))) }
     ensures rows { IfOk result (λ now. out.new.items ≡ out.old.items ++ rows_text
-        (of innings.entry rows.item_rows now early.now noted.now (notes.carried (drop next items.now)))) }
+        (of innings.entry rows.item_rows now early.now noted.now (notes.carried (drop behind.entry.next behind.entry.items.now)))) }
 {
-    let late = carried(alloc, items, next)?;
+    let late = carried(alloc, behind.items, behind.next)?;
     let carrier = Carrier {
         early,
         noted,
@@ -60,16 +66,11 @@ fn put_rows(
     for index in 0..items.len() {
         let noted = noted_at(items, index);
         if is_ball(&noted.item) {
-            standing = put_carrier(
-                alloc,
-                out,
-                innings,
-                standing,
-                early,
-                &noted,
+            let behind = ItemsBehind {
                 items,
-                index + 1,
-            )?;
+                next: index + 1,
+            };
+            standing = put_carrier(alloc, out, innings, standing, early, &noted, behind)?;
             early = &[];
         }
     }

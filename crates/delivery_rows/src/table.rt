@@ -43,20 +43,27 @@ fn columns_of(table: Table) -> &'static str
     }
 }
 
+/// A match's sheet, and its day.
+#[derive(Clone, Copy)]
+struct DatedSheet<'m> {
+    sheet: &'m NamedSheet<'m>,
+    day: &'m str,
+}
+
 /// Puts the rows of a table.
 fn put_rows<'m>(
     alloc: Global,
     out: &mut Vec<u8>,
     table: Table,
-    sheet: &'m NamedSheet<'m>,
-    day: &'m str,
+    dated: DatedSheet<'m>,
     score: &Match,
     begun: &'m Begun,
     notes: &[Noted],
 ) -> Result<(), AllocError>
     ensures { ForEachHistory score.now (λ n h. begun.now ≡ begun_of h
-        → PutsRows result out.old.items out.new.items (tables.rows_of table sheet.now day.now h notes.now)) }
+        → PutsRows result out.old.items out.new.items (tables.rows_of table dated.entry.sheet.now dated.entry.day.now h notes.now)) }
 {
+    let DatedSheet { sheet, day } = dated;
     match table {
         Table::Deliveries => innings::put_all(alloc, out, sheet, day, score, begun, notes),
         Table::Penalties => penalties::put_all(alloc, out, sheet, day, score, begun, notes),
@@ -82,12 +89,15 @@ fn bytes_of<B: BookOf>(
     let day = day_of(alloc, document)?;
     let mut out = Vec::new(alloc);
     out.extend_from_slice(columns_of(table).as_bytes())?;
+    let dated = DatedSheet {
+        sheet: &named,
+        day: day.as_str(),
+    };
     put_rows(
         alloc,
         &mut out,
         table,
-        &named,
-        day.as_str(),
+        dated,
         score,
         &begun,
         notes.as_slice(),

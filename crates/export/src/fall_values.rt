@@ -41,27 +41,34 @@ fn put_player(out: &mut Pretty, player: Player) -> Result<(), AllocError>
     put_figure(out, "player", u32::from(player.number()))
 }
 
-/// Puts a fall of an innings, behind so many others; its wickets fell there.
+/// An innings whose falls are put: the match's sheet, the side that bats, its number, from 0, and where its wickets fell.
+#[derive(Clone, Copy)]
+struct InningsFalls<'m> {
+    sheet: &'m NamedSheet<'m>,
+    side: Side,
+    index: usize,
+    there: &'m [FallAt],
+}
+
+/// Puts a fall of an innings, behind so many others.
 fn put_fall(
     alloc: Global,
     out: &mut Pretty,
-    sheet: &NamedSheet<'_>,
-    side: Side,
-    innings: usize,
+    innings: InningsFalls<'_>,
     index: usize,
     fall: &Fall,
-    there: &[FallAt],
 ) -> Result<(), AllocError>
-    requires innings { innings < 4 }
+    requires innings { innings.index < 4 }
     requires index { index < 10 }
     ensures { PutsValues result out.old out.new
-        (laws.fall_value sheet.now side innings there.now index fall.now ∷ []) }
+        (laws.fall_value innings.entry.sheet.now innings.entry.side innings.entry.index innings.entry.there.now index fall.now ∷ []) }
 {
+    let InningsFalls { sheet, side, .. } = innings;
     begin_object(out)?;
-    put_figure(out, "innings", innings as u32 + 1)?;
+    put_figure(out, "innings", innings.index as u32 + 1)?;
     put_figure(out, "wicket", index as u32 + 1)?;
     put_figure(out, "runs", fall.total)?;
-    put_overs(alloc, out, fall_there(there, index))?;
+    put_overs(alloc, out, fall_there(innings.there, index))?;
     put_player(out, fall.player)?;
     put_text(out, "player_out", sheet.player(side, fall.player))?;
     end_object(out)
@@ -82,10 +89,16 @@ fn put_each(
         (laws.falls_from (laws.fall_value sheet.now (side_of h innings) innings there.now) 0 (figures.falls h innings))) }
 {
     let side = score.side(innings);
+    let own = InningsFalls {
+        sheet,
+        side,
+        index: innings,
+        there,
+    };
     let falls = score.falls(innings);
     for (index, place) in falls.iter().enumerate() {
         if let Some(fall) = place {
-            put_fall(alloc, out, sheet, side, innings, index, fall, there)?;
+            put_fall(alloc, out, own, index, fall)?;
         }
     }
     Ok(())

@@ -173,23 +173,33 @@ fn put_target(
     put_target_field(out, sheet, score, innings)
 }
 
-/// Puts how an innings ended, and what it has beside its overs. items are those of the innings, and notes those of all
-/// innings.
+/// The items of an innings, and those of all innings.
+#[derive(Clone, Copy)]
+struct InningsItems<'m> {
+    innings: usize,
+    items: &'m [Noted],
+    notes: &'m [Noted],
+}
+
+/// Puts how an innings ended, and what it has beside its overs.
 fn put_rest(
     alloc: Global,
     out: &mut Pretty,
     sheet: &NamedSheet<'_>,
     score: &Match,
     begun: &Begun,
-    items: &[Noted],
-    notes: &[Noted],
-    innings: usize,
+    own: InningsItems<'_>,
 ) -> Result<(), AllocError>
-    requires innings { innings < begun_in score.now }
-    requires items { items.now ≡ items_in innings notes.now }
+    requires innings { own.innings < begun_in score.now }
+    requires items { own.items.now ≡ items_in own.innings own.notes.now }
     ensures { ForEachHistory score.now (λ n h. begun.now ≡ begun_of h
-        → PutsFields result out.old out.new (laws.rest_fields sheet.now h notes.now innings)) }
+        → PutsFields result out.old out.new (laws.rest_fields sheet.now h own.entry.notes.now own.entry.innings)) }
 {
+    let InningsItems {
+        innings,
+        items,
+        notes,
+    } = own;
     let before = runs_before(alloc, begun, innings, items, notes)?;
     let after = runs_after(alloc, begun, innings, notes)?;
     put_penalties(out, before, after)?;
@@ -215,33 +225,31 @@ fn put_overs_field(
     end_array(out)
 }
 
-/// Puts an innings. items are its own, and notes those of all innings.
+/// Puts an innings, with these items.
 fn put_innings(
     alloc: Global,
     out: &mut Pretty,
     sheet: &NamedSheet<'_>,
     score: &Match,
     begun: &Begun,
-    items: &[Noted],
-    notes: &[Noted],
-    innings: usize,
+    own: InningsItems<'_>,
 ) -> Result<(), AllocError>
-    requires innings { innings < begun_in score.now }
-    requires items { items.now ≡ items_in innings notes.now }
+    requires innings { own.innings < begun_in score.now }
+    requires items { own.items.now ≡ items_in own.innings own.notes.now }
     ensures { ForEachHistory score.now (λ n h. begun.now ≡ begun_of h
-        → PutsValues result out.old out.new (laws.innings_of sheet.now h notes.now innings ∷ [])) }
+        → PutsValues result out.old out.new (laws.innings_of sheet.now h own.entry.notes.now own.entry.innings ∷ [])) }
 {
-    let side = score.side(innings);
+    let side = score.side(own.innings);
     let named = NamedInnings {
         sheet,
         side,
         begun,
-        index: innings,
+        index: own.innings,
     };
     begin_object(out)?;
     put_text(out, "team", sheet.name(side))?;
-    put_overs_field(alloc, out, named, items)?;
-    put_rest(alloc, out, sheet, score, begun, items, notes, innings)?;
+    put_overs_field(alloc, out, named, own.items)?;
+    put_rest(alloc, out, sheet, score, begun, own)?;
     end_object(out)
 }
 
@@ -259,16 +267,12 @@ fn put_each(
 {
     for innings in 0..score.begun() {
         let items = items_in(alloc, innings, notes)?;
-        put_innings(
-            alloc,
-            out,
-            sheet,
-            score,
-            begun,
-            items.as_slice(),
-            notes,
+        let own = InningsItems {
             innings,
-        )?;
+            items: items.as_slice(),
+            notes,
+        };
+        put_innings(alloc, out, sheet, score, begun, own)?;
     }
     Ok(())
 }

@@ -25,7 +25,6 @@ fn laid_out<B: BookOf>(
     ensures { IfOk result (λ text.
         IsLaidOut (told_apart sheet.now) (table_view document.now) (B.content book.now) (string_bytes text)) }
 {
-    let score = book.score();
     let (notes, begun) = notes_of(alloc, sheet.innings(), book)?;
     let named = NamedSheet::new(alloc, sheet)?;
     let mut out = Pretty::new(alloc);
@@ -34,7 +33,6 @@ fn laid_out<B: BookOf>(
         &mut out,
         &named,
         document,
-        score,
         book,
         notes.as_slice(),
         &begun,

@@ -105,23 +105,23 @@ fn put_own<B: BookOf>(
     end_object(out)
 }
 
-/// Puts the book of a match as one JSON value, by what the sheet's document hands on, the book's score, and its clean list
-/// with where each item stands.
+/// Puts the book of a match as one JSON value, by what the sheet's document hands on, and the book's clean list with where
+/// each item stands.
 pub fn put_export<B: BookOf>(
     alloc: Global,
     out: &mut Pretty,
     sheet: &NamedSheet<'_>,
     document: &Table,
-    score: &Match,
     book: &B,
     noted: &[Noted],
     begun: &Begun,
 ) -> Result<(), AllocError>
     requires noted { noted.now ≡ notes [] (clean (B.content book.now)) }
     requires begun { begun.now ≡ begun_of (history_of (B.content book.now)) }
-    requires stands { StandsFor score.now sheet.now.innings (history_of (B.content book.now)) }
+    requires innings { B.innings_a_side book.now ≡ sheet.now.innings }
     ensures { OnOk result (PutsExport sheet.now (B.content book.now) (table_view document.now) out.old out.new) }
 {
+    let score = book.score();
     begin_object(out)?;
     put_meta(alloc, out, document)?;
     let empty = Table::new(alloc);

@@ -6,7 +6,7 @@ use Rattle.export.proofs.value.put_export.Goals as goal
 
 pub returns : goal.returns
 returns g c =
-    let s = c.requires.stands in
+    let s = rw c.requires.innings at c.score-score.ensures.score in
     let put = c.in_ok-put_info.ensures _ s in
     let hands_on = subst (λ ms. AreFieldsOf (others ms) put.0) c.info_or-info.ensures put.1 in
     let meta = begins c.in_ok-begin_object.ensures ▸ c.in_ok-put_meta.ensures in
