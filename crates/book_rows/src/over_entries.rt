@@ -103,29 +103,35 @@ fn print_item<W: Sink>(
     }
 }
 
-/// The same in a line, where it is of this over of an innings.
-fn print_if<W: Sink>(
-    out: &mut Watched<W>,
-    sheet: &MatchSheet,
+/// An over of an innings, in which this side bats.
+#[derive(Clone, Copy)]
+struct InningsOver {
     side: Side,
     innings: usize,
     number: u32,
+}
+
+/// The same in a line, where it is of this over.
+fn print_if<W: Sink>(
+    out: &mut Watched<W>,
+    sheet: &MatchSheet,
+    wanted: InningsOver,
     count: Count,
     striker: Option<Player>,
     placed: Placed,
 ) -> Result<(), WriteFailed>
-    requires innings { innings ≤ PLACES }
+    requires innings { wanted.innings ≤ PLACES }
     requires overs { count.overs ≤ PLACES }
     requires balls { count.balls ≤ PLACES }
     requires item { IsPlain placed.item }
     ensures text { OnOk result (Prints W.contents out.old out.new
-        (over.line_if sheet.now side innings number count striker placed)) }
+        (over.line_if sheet.now wanted.side wanted.innings wanted.number count striker placed)) }
     ensures failed { TellsFailure result out.old out.new }
 {
-    if !count.is_in_over(innings, number) {
+    if !count.is_in_over(wanted.innings, wanted.number) {
         return Ok(());
     }
-    print_item(out, sheet, side, count, striker, placed)?;
+    print_item(out, sheet, wanted.side, count, striker, placed)?;
     writeln!(out)
 }
 
@@ -180,13 +186,18 @@ fn print_lines<W: Sink, B: BookOf>(
     ensures failed { TellsFailure result out.old out.new }
 {
     let side = book.score().side(innings);
+    let wanted = InningsOver {
+        side,
+        innings,
+        number,
+    };
     let items = book.clean_items();
     let mut crease = Crease::empty();
     let mut count = Count::none();
     for index in 0..items.len() {
         let placed = placed_at(items, index);
         let striker = crease.ends().striker;
-        print_if(out, sheet, side, innings, number, count, striker, placed)?;
+        print_if(out, sheet, wanted, count, striker, placed)?;
         count = count.after(&placed.item);
         crease = crease_after(&crease, &placed.item);
     }
