@@ -1,5 +1,5 @@
 -- The process of a desk on this machine.
-use Rattle.std.specs.Prelude.{◌≡◌, ℕ, List, [], Option, Some, Result}
+use Rattle.std.specs.Prelude.{◌≡◌, ◌++◌, ℕ, List, [], Option, Some, Result, OnOk}
 use Rattle.entry_log.specs.Format.{contents, room}
 use Rattle.entry_log.specs.Version2.{version_2}
 use Rattle.vote_store.specs.View.{file_view}
@@ -17,6 +17,7 @@ use Rattle.live.specs.Runs.{Logs}
 use Rattle.setup.specs.Carried.{WasCarried}
 use Rattle.desk_command.specs.declared.desk_disk.DeskDisk.{DeskDisk}
 use Rattle.desk_command.specs.Disks.{cap_of, faults_of, file_of, images_of}
+use Rattle.desk_command.specs.Ends.{last_told}
 use Rattle.desk_command.specs.OnFiles.{IsOnFiles}
 use Rattle.desk_command.specs.Traces.{Traces}
 
@@ -36,7 +37,8 @@ pub record LivesOn
 
 -- This desk was kept on the file of this path, and on a copy of it where its path is named, and all that it had to do with are
 -- these traces. By the log of what became of all that was typed, it was given that, and what may be cast of it in order; what it
--- said and heard is what passed at its socket, what it told is what was written to its screen, and it ended as they say.
+-- said and heard is what passed at its socket, and it ended as they say. What it told is what was written to its screen, and behind
+-- that nothing but which lines it drops, where it ended by itself; unless a write of these failed.
 pub record WasKept (desk : DeskId) (path : List ℕ) (copy : Option (List ℕ)) (traces : Traces) : Type 0 where
   pub disk : DeskDisk
   pub log : AheadLog
@@ -45,3 +47,4 @@ pub record WasKept (desk : DeskId) (path : List ℕ) (copy : Option (List ℕ)) 
   pub in_order : CastsInOrder log
   pub carried : WasCarried traces.passed traces.carried
   pub lives : LivesOn traces.sheet desk disk traces.passed (given_of log) (Some traces.told) traces.ended
+  pub dropped : OnOk traces.last (traces.written ≡ traces.told ++ last_told traces.ended (traces.sheet).columns log)

@@ -23,14 +23,16 @@ copy_of life = option_copied life.copy
 
 -- what its process left to be seen
 abbrev pub traces_in : Life → Traces
-traces_in life = traces_of (life.sheet).value (life.typed).value (life.passed).value (life.carried).value life.told life.ended
+traces_in life =
+    traces_of (life.sheet).value (life.typed).value (life.passed).value (life.carried).value life.told life.written life.ended life.last
 
 -- the lines of its page
 abbrev pub posted_in : Life → PostedLog
 posted_in life = (life.posted).value
 
 -- this is its process
-pub record IsOf (life : Life) (process : Process (desk_of life)) : Type 0 where
+pub record IsOf {desk : DeskId} (life : Life) (process : Process desk) : Type 0 where
+  pub letter : desk ≡ desk_of life
   pub path : process.path ≡ path_of life
   pub copy : process.copy ≡ copy_of life
   pub traces : process.traces ≡ traces_in life

@@ -14,6 +14,7 @@ use Rattle.seal.specs.declared.carrier.CarriedLog.{CarriedLog}
 use Rattle.seal.specs.Carried.{carried_of}
 use Rattle.setup.specs.SheetText.{IsSheetOf}
 use Rattle.station_pages.specs.PageWords.{for_desk}
+use Rattle.streams.specs.declared.watched.WriteFailed.{WriteFailed}
 
 -- the sheet is what these bytes are read as, for rows of some width
 pub record IsWideSheetOf (text : List ℕ) (sheet : Sheet) : Type 0 where
@@ -28,23 +29,28 @@ pub record WasEntered (typed entered : InputLog) (posted : PostedLog) : Type 0 w
   pub words : inputs_of typed ≡ for_desk (inputs_of entered)
   pub page : elsewhere_of entered ≡ lines_of posted
 
--- the sheet of its match, what was typed, what it said and heard, what passed for that at its socket, what was written to its
--- screen, and how it ended
+-- the sheet of its match, what was typed, what it said and heard, what passed for that at its socket, what it told until it ended,
+-- all that was written to its screen, how it ended, and whether its last rows could be written
 pub record Traces : Type 0 where
   pub sheet : Sheet
   pub typed : List Input
   pub passed : List Passed
   pub carried : List Passed
   pub told : List ℕ
+  pub written : List ℕ
   pub ended : Result (Unit {0}) LifeEnd
+  pub last : Result (Unit {0}) WriteFailed
 
 -- the same by the logs of each
-abbrev pub traces_of : Sheet → InputLog → Log → CarriedLog → Written → Result (Unit {0}) LifeEnd → Traces
-traces_of sheet typed passed carried told ended = record {
+abbrev pub traces_of :
+    Sheet → InputLog → Log → CarriedLog → Written → Written → Result (Unit {0}) LifeEnd → Result (Unit {0}) WriteFailed → Traces
+traces_of sheet typed passed carried told written ended last = record {
   sheet = sheet;
   typed = inputs_of typed;
   passed = passed_of passed;
   carried = carried_of carried;
   told = text_of told;
+  written = text_of written;
   ended = ended;
+  last = last;
 }

@@ -1,8 +1,6 @@
 //! `ground desk`: a scorer's desk.
 
-ghost use Rattle.std.specs.Prelude.{◌≡◌, ◌≤◌, false, option_copied, IfErr, IfOk, None, OnOk, Some};
-ghost use Rattle.cards.specs.Sheet.{most_columns};
-ghost use Rattle.streams.specs.Watched.{Prints, TellsFailure};
+ghost use Rattle.std.specs.Prelude.{◌≡◌, false, option_copied, IfErr, IfOk, None, Some};
 ghost use Rattle.desk_command.specs.Ends as ends;
 ghost use Rattle.desk_command.specs.Ends.{WasStopped};
 ghost use Rattle.desk_command.specs.Lives.{copy_of, desk_of, path_of, sheet_path_of, traces_in};
@@ -14,7 +12,6 @@ use crate::life::{Kept, Life, keep_on};
 use crate::page::{Page, PageSquares};
 use ahead::Ahead;
 use cards::Columns;
-use links::{Clock, Keys};
 use live::{Beginning, DeskEnd, LifeEnd, Outside};
 use machine::{Keyboard, MonotonicClock};
 use machine_files::{LastFault, WriteFault};
@@ -24,11 +21,9 @@ use setup::{
 use station_pages::{PageLines, PageWord, PageWords};
 use station_screens::{Shared, errors_at, output_at};
 use station_table::DeskSetting;
-use station_texts::asides::print_all_dropped;
 use std::cell::RefCell;
 use std::env::Env;
 use std::mem::drop;
-use streams::{Sink, Watched, WriteFailed};
 
 /// Why the command ends with a fault, by how its desk's process ended and whether its keyboard failed. Where its scorer
 /// stopped, there is none.
@@ -102,30 +97,10 @@ fn with_lasts<'a>(
     }
 }
 
-/// Tells which lines are dropped, where a desk ended by itself.
-fn tell_dropped<K: Keys, C: Clock, W: Sink>(
-    out: &mut Watched<W>,
-    columns: usize,
-    ended: Result<(), LifeEnd>,
-    keys: &mut Ahead<K, C>,
-) -> Result<(), WriteFailed>
-    requires { columns ≤ most_columns }
-    ensures text { OnOk result (Prints W.contents out.old out.new (ends.last_told ended columns (keys.old.queue).log)) }
-    ensures failed { TellsFailure result out.old out.new }
-{
-    match ended {
-        Err(LifeEnd::Ended(DeskEnd::Device)) => {
-            let (held, lost) = keys.drop_rest();
-            print_all_dropped(out, columns, held.as_slice(), lost.as_slice())
-        }
-        _ => Ok(()),
-    }
-}
-
 /// Waits until all that was written to a desk's screen is taken, and tells whether it is. Where a write of it failed, no other
 /// one is made.
-fn is_seen(screen: Watched<DeskScreen<'_, '_>>, had_failed: bool) -> bool {
-    !had_failed && !screen.has_failed() && screen.into_inner().output.end().is_ok()
+fn is_seen(screen: DeskScreen<'_, '_>, had_failed: bool) -> bool {
+    !had_failed && screen.output.end().is_ok()
 }
 
 /// The command's answer, where its screen was read whole or wasn't: it has no fault only where its scorer stopped the desk.
@@ -217,7 +192,6 @@ pub fn start_desk<'a>(
     let ends = page.ends_with(keyboard.descriptor());
     let squares = PageSquares::of(rt, &page, Shared::of(&errors));
     let keys = Ahead::new(PageWords::of(keyboard, squares), MonotonicClock::new(rt));
-    let width = sheet.columns();
     let lasts = [LastFault::new(None), LastFault::new(None)];
     let book = empty_book(rt, sheet)?;
     let disk = desk_disk_at(rt, sheet, setting.desk, file, copy, &lasts)?;
@@ -245,13 +219,12 @@ pub fn start_desk<'a>(
     };
     let Kept {
         life,
-        mut keys,
-        mut out,
+        keys,
+        screen,
         has_failed,
     } = keep_on(rt, beginning, source, outside, page.audience(), file, copy);
     let ended = life.ended();
-    let _ = tell_dropped(&mut out, width, ended, &mut keys);
-    let is_seen = is_seen(out, has_failed);
+    let is_seen = is_seen(screen, has_failed);
     let keyboard_failed = keys.keys().keys().has_failed();
     drop(keys);
     let _ = errors.into_inner().end();

@@ -3,7 +3,7 @@
 ghost use Rattle.std.specs.Prelude.{Some};
 ghost use Rattle.machine.specs.Screens.{written_of};
 
-use crate::life::Recorded;
+use crate::ending::Recorded;
 use machine::Written;
 use station_pages::ScorersPage;
 use station_screens::{Errors, Output, retry};

@@ -4,6 +4,7 @@
 mod begin;
 mod desk_disk;
 mod desk_screen;
+mod ending;
 mod key;
 mod laws;
 mod life;

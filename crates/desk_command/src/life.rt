@@ -9,6 +9,7 @@ ghost use Rattle.desk_command.specs.OnFiles.{IsOnFiles};
 ghost use Rattle.desk_command.specs.Traces.{IsWideSheetOf, WasEntered, traces_of};
 
 use crate::desk_disk::DeskDisk;
+use crate::ending::{Ending, Recorded, end_screen};
 use crate::page::Audience;
 use agree_core::DeskId;
 use ahead::Ahead;
@@ -24,12 +25,13 @@ use setup::{SheetFile, StationLink};
 use station_pages::{PageLines, PageSight, PageWords, Squares};
 use std::io::{Read, Write};
 use std::snapshot::Snapshot;
-use streams::{Sink, Watched};
+use streams::{Sink, Watched, WriteFailed};
 
-/// The life of a desk: its letter, the paths of its sheet, of its votes file and of its copy, where it has one, and how it ended.
-/// Of what it had to do with clauses alone read: the bytes of its sheet, what was read of them, what was typed but for the words of
-/// its page, all that its scorer entered with those, the lines of it that were posted in the page, what it said and heard, what
-/// passed for that at its socket, and what was written to its screen.
+/// The life of a desk: its letter, the paths of its sheet, of its votes file and of its copy, where it has one, how it ended, and
+/// whether its last rows could be written. Of what it had to do with clauses alone read: the bytes of its sheet, what was read of
+/// them, what was typed but for the words of its page, all that its scorer entered with those, the lines of it that were posted in
+/// the page, what it said and heard, what passed for that at its socket, what it told until it ended, and all that was written to
+/// its screen.
 #[derive(Drop)]
 pub struct Life<'a> {
     desk: DeskId,
@@ -37,6 +39,7 @@ pub struct Life<'a> {
     file: &'a str,
     copy: Option<&'a str>,
     ended: Result<(), LifeEnd>,
+    last: Result<(), WriteFailed>,
     text: Snapshot<Vec<u8>>,
     sheet: Snapshot<MatchSheet>,
     typed: Snapshot<InputLog>,
@@ -45,10 +48,11 @@ pub struct Life<'a> {
     passed: Snapshot<Log>,
     carried: Snapshot<CarriedLog>,
     told: Written,
+    written: Written,
     pub ghost read: { ∥ IsWideSheetOf text.value.items sheet.value ∥₁ },
     pub ghost entries: { WasEntered typed.value entered.value posted.value },
     pub ghost kept: { ∥ WasKept desk file.now (option_copied copy)
-        (traces_of sheet.value typed.value passed.value carried.value told ended) ∥₁ },
+        (traces_of sheet.value typed.value passed.value carried.value told written ended last) ∥₁ },
 }
 
 impl Life<'_> {
@@ -132,22 +136,12 @@ impl<R: Read, E: Write> Enters for Keyboard<R, PageLines<'_, E>> {
     }
 }
 
-/// A screen that tells what was written to it.
-pub trait Recorded: Write {
-    ghost use Rattle.std.specs.Prelude.{◌≡◌, Some};
-    ghost use Rattle.machine.specs.Screens.{text_of};
-
-    /// What was written to it, which clauses alone read.
-    fn written(&self) -> Written
-        ensures { Self.contents self.now ≡ Some (text_of result) };
-}
-
 /// What comes of a desk's process that was kept: its life, its scorer's lines, and its screen, with whether a write of it has failed.
 /// Its socket is closed.
 pub struct Kept<'a, K: Keys, W> {
     pub life: Life<'a>,
     pub keys: K,
-    pub out: Watched<W>,
+    pub screen: W,
     pub has_failed: bool,
 }
 
@@ -173,7 +167,7 @@ pub fn keep_on<'a, L: Carries + Drop, K: Enters, S: Squares, C: Clock, W: Record
     ensures copy { option_copied (result.life).copy ≡ option_copied copy.entry }
     ensures sheet { (result.life).sheet_path.now ≡ source.entry.path.now }
     ensures typed { ((result.life).typed).value ≡ ((result.keys).keys).given }
-    ensures told { W.contents (stream_of result.out) ≡ Some (text_of (result.life).told) }
+    ensures written { W.contents result.screen ≡ Some (text_of (result.life).written) }
 {
     let SheetFile {
         path: sheet_path,
@@ -185,12 +179,17 @@ pub fn keep_on<'a, L: Carries + Drop, K: Enters, S: Squares, C: Clock, W: Record
     let ended = keep(rt, beginning, &sheet, &mut outside, audience);
     let Outside {
         link,
-        keys,
+        mut keys,
         clock: _clock,
         out,
     } = outside;
-    let has_failed = out.has_failed();
-    let screen = out.into_inner();
+    let Ending {
+        screen,
+        told,
+        written,
+        last,
+        has_failed,
+    } = end_screen(out, sheet.columns(), ended, &mut keys);
     let (entered, posted) = keys.keys().keys().entered();
     let life = Life {
         desk,
@@ -198,6 +197,7 @@ pub fn keep_on<'a, L: Carries + Drop, K: Enters, S: Squares, C: Clock, W: Record
         file,
         copy,
         ended,
+        last,
         text,
         sheet: Snapshot::of(&sheet),
         typed: Snapshot::of(keys.keys().given()),
@@ -205,12 +205,13 @@ pub fn keep_on<'a, L: Carries + Drop, K: Enters, S: Squares, C: Clock, W: Record
         posted: Snapshot::of(posted),
         passed: Snapshot::of(link.passed()),
         carried: Snapshot::of(link.carried()),
-        told: screen.written(),
+        told,
+        written,
     };
     Kept {
         life,
         keys,
-        out: Watched::new(screen),
+        screen,
         has_failed,
     }
 }

@@ -6,4 +6,4 @@ use Rattle.desk_command.proofs.laws.a_life_is_a_process.Goals as goal
 pub returns : goal.returns
 returns c =
     let life = c.args._life.now in
-    ∥∥₁_map life.kept (λ w. (record { path = path_of life; copy = copy_of life; traces = traces_in life; kept = w }, record { path = refl; copy = refl; traces = refl }))
+    ∥∥₁_map life.kept (λ w. (record { path = path_of life; copy = copy_of life; traces = traces_in life; kept = w }, record { letter = refl; path = refl; copy = refl; traces = refl }))
