@@ -2,18 +2,25 @@
 
 ghost use Rattle.desk_command.specs.Disks.{faults_of, file_of, images_of};
 ghost use Rattle.processes.specs.Stations.{DeskLifeIsLife};
-ghost use Rattle.processes.specs.Weaving.{WovenLivesHaveHeadline, WovenLivesPartNone};
+ghost use Rattle.processes.specs.Weaving.{WovenLivesFlow, WovenLivesHaveHeadline, WovenLivesPartNone, WovenLivesTellNone};
+ghost use Rattle.sheet_stations.specs.Matches.{LivesHaveHeadline};
 
 use desk_command::DeskDisk;
 use processes::{kept_desks_are_lives, woven_lives_are_a_flow};
 
-/// Of two desks, each with its file alone or with a copy, and from one process to the next as its scorer begins it, and some
-/// boards: what a desk was kept for is a process of its life, and where the lives of all are woven into one order in which nothing
-/// opens that none of them had sealed, the headline holds, and no board drops a vote as one by which a file lacks lines.
+/// Whatever lives `start_desk` and `start_board` answered: where they were woven into one order, each desk began on what its disk
+/// had then, and no vote opened that none of them had sealed, the headline holds of all that happened, no board dropped a vote as
+/// one by which a file lacks lines, and while all is calm all goes on (`answered`).
+///
+/// The same of any lives on the disks of the program's desks, of a file alone or with a copy, and from one process to the next as
+/// its scorer begins it: what a desk was kept for is a process of its life, and woven lives are a flow.
 pub fn kept_stations_agree()
+    ensures answered { LivesHaveHeadline }
     ensures lives { DeskLifeIsLife file_of images_of faults_of }
+    ensures flow { WovenLivesFlow file_of images_of faults_of }
     ensures headline { WovenLivesHaveHeadline file_of images_of faults_of }
     ensures whole { WovenLivesPartNone file_of images_of faults_of }
+    ensures tells { WovenLivesTellNone file_of images_of faults_of }
 {
     kept_desks_are_lives::<DeskDisk<'static>>();
     woven_lives_are_a_flow::<DeskDisk<'static>>();

@@ -1,0 +1,3 @@
+-- What holds of the stations that the program keeps: their lives, Lives, and all that happens in a match, Matches.
+pub mod Lives
+pub mod Matches
