@@ -6,16 +6,20 @@ use Rattle.cards.specs.Sheet.{Sheet}
 use Rattle.streams.specs.declared.watched.Watched.{Watched}
 use Rattle.streams.specs.Watched.{Prints}
 use Rattle.headline.specs.declared.{event.Event.Event, version.FileVersion.FileVersion}
-use Rattle.schedule_replay.specs.declared.{report.Report.Report, seen.Seen.Seen, seen.WorldRefusal.WorldRefusal}
+use Rattle.schedule_replay.specs.declared.{seen.Seen.Seen, seen.WorldRefusal.WorldRefusal}
 use Rattle.schedule_replay.specs.CodeWorlds.{HasConfiguration}
 use Rattle.notation.specs.Lines.{lines_of}
+use Rattle.notation.specs.declared.entry.Entry.{Entry}
+use Rattle.agree_core.specs.Agreed.{IsAgreedList}
 use Rattle.headline.specs.Match.{match_of}
 use Rattle.schedule_replay.specs.Refusals.{RefusesEvent}
-use Rattle.schedule_replay.specs.Replays.{IsReplay, IsRunOf, MatchRun}
+use Rattle.schedule_replay.specs.Replays.{IsRunOf, MatchRun}
+use Rattle.schedule_replay.specs.inner.VotesFiles.{FilesRead}
 use Rattle.headline.specs.Runs.{last_of}
 use Rattle.schedules.specs.ScheduleLines.{HasFault, IsScheduleOf}
 use Rattle.schedule_replay.specs.SeenWords.{refusal_number}
-use Rattle.headline.specs.Configurations.{Configuration}
+use Rattle.headline.specs.Configurations.{Configuration, all_votes}
+use Rattle.headline.specs.Laws.{HoldsInRun}
 use Rattle.setup.specs.Fault.{IsOfStreams}
 use Rattle.setup.specs.declared.fault.StopFault.{StopFault}
 use Rattle.setup.specs.declared.fault.StopFault.TheVariants.{Schedule}
@@ -49,16 +53,16 @@ pub record RefusesOne
   pub numbered : refusal_number why ≡ Some number
 
 module _ {S : Type 0} (contents : S → Option (List ℕ)) (old new : Watched S) (s : Sheet) (version : FileVersion) (boards : ℕ) (events : List Event) where
-  -- what each event is answered, how many entries a replay of the events reports as agreed, and the stations
-  -- are written
+  -- of one run, in which holds what does in every run: what each event is answered, how many entries are agreed at its end, and
+  -- the stations then are written
   pub record PrintsWhole : Type 0 where
     pub outcomes : List Seen
     pub last : Configuration MemDisk
     pub takes : TakesAll s version boards events outcomes last
-    pub report : Report
-    pub replayed : IsReplay s.game s.innings version boards events report
-    pub written : Prints contents old new
-        (event_lines outcomes ++ last_lines (length report.agreed.items) last)
+    pub holds : HoldsInRun (match_of s.game s.innings) s.innings takes.w takes.ms
+    pub agreed : List Entry
+    pub is_agreed : IsAgreedList (all_votes last) agreed
+    pub written : Prints contents old new (event_lines outcomes ++ last_lines (length agreed) last)
 
   -- what the events before the refused one are answered, and the refusal are written
   pub record PrintsRefused : Type 0 where
@@ -96,5 +100,6 @@ WhyNoReplay input fault = IsOfStreams fault
 abbrev pub IsStepped : Sheet → FileVersion → ℕ → List Event → Stepped → Type 0
 IsStepped s version boards events (Whole outcomes world) =
     (last : Configuration MemDisk) × TakesAll s version boards events outcomes.items last × HasConfiguration world last
+    × FilesRead world.game world.innings_a_side last
 IsStepped s version boards events (Refused outcomes k number) =
     RefusesOne s version boards events outcomes.items k number

@@ -3,7 +3,6 @@
 ghost use Rattle.std.specs.Prelude.{◌≡◌, ◌≢◌, ◌≤◌, ◌⊎◌, All, Err, IfErr, IfOk, IfSome, OnOk};
 ghost use Rattle.streams.specs.Watched.{IsHandedOn, MeetsFailure, failures, stream_of};
 ghost use Rattle.headline.specs.Events.{IsEvent};
-ghost use Rattle.schedule_replay.specs.Replays.{IsReplay};
 ghost use Rattle.replay_command.specs.ReplayRun.{IsOfReplay, PrintsReplay, PrintsRun, WhyNoReplay};
 ghost use Rattle.setup.specs.Ends.{EndsReading, EndsWriting};
 
@@ -12,33 +11,12 @@ mod step;
 
 use cards::MatchSheet;
 use headline::{Event, FileVersion};
-use print::{print_refused, print_whole};
-use schedule_replay::{Report, replay_in};
+use print::{print_refused, print_whole, stations_text};
 use schedules::read_schedule;
 use setup::{StopFault, Stopped, open_input, output, sheet_at};
-use std::alloc::{AllocError, Global};
-use step::{Stepped, begin, step_all};
+use std::alloc::Global;
+use step::{Stepped, step_all};
 use streams::{Feed, Sink, Watched, read_all};
-
-/// What a replay of the events reports, which the world of a run has taken. Where it has no report, memory is
-/// told to be wanted.
-fn report_of(
-    alloc: Global,
-    sheet: &MatchSheet,
-    version: FileVersion,
-    boards: u8,
-    events: &[Event],
-) -> Result<Report, AllocError>
-    requires boards { boards ≤ 4 }
-    requires events { All IsEvent events.now }
-    ensures reported { IfOk result (IsReplay sheet.now.game sheet.now.innings version boards events.now) }
-{
-    let world = begin(alloc, sheet, version, boards)?;
-    match replay_in(alloc, world, events) {
-        Ok(report) => Ok(report),
-        Err(_) => Err(AllocError),
-    }
-}
 
 /// Runs these events in a world, and prints what came of them. The answer is whether the world refused one.
 fn print_run<W: Sink>(
@@ -60,8 +38,9 @@ fn print_run<W: Sink>(
 {
     match step_all(alloc, sheet, version, boards, events)? {
         Stepped::Whole(outcomes, world) => {
-            let report = report_of(alloc, sheet, version, boards, events)?;
-            match print_whole(out, outcomes.as_slice(), report.agreed.len(), &world) {
+            let stations = stations_text(alloc, &world)?;
+            let agreed = world.agreed()?;
+            match print_whole(out, outcomes.as_slice(), agreed.len(), stations.as_str()) {
                 Ok(()) => Ok(false),
                 Err(_) => Err(StopFault::Write),
             }

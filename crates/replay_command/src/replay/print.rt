@@ -1,6 +1,6 @@
 //! The printed lines of a replay.
 
-ghost use Rattle.std.specs.Prelude.{◌++◌, option_map, OnOk};
+ghost use Rattle.std.specs.Prelude.{◌≡◌, ◌++◌, option_map, string_bytes, IfOk, OnOk};
 ghost use Rattle.entry_log.specs.declared.mem_disk.MemDisk.{MemDisk};
 ghost use Rattle.match_laws.specs.Stands.{ForEachHistory};
 ghost use Rattle.streams.specs.Watched.{IsHandedOn, Prints, TellsFailure};
@@ -14,6 +14,7 @@ use board::Board;
 use corrections::{BookOf, CheckedBook};
 use match_laws::Match;
 use schedule_replay::{AnyDesk, Seen, World};
+use std::alloc::{AllocError, Global};
 use streams::{Sink, Watched, WriteFailed};
 
 /// Prints what the event of this number is answered.
@@ -126,23 +127,38 @@ fn print_refusal<W: Sink>(out: &mut Watched<W>, event: u64, why: u8) -> Result<(
     writeln!(out, "{event} world refused {why}")
 }
 
-/// Prints what a world answered the events of a whole schedule, how many entries are agreed, and the stations.
+/// The lines of both desks and the boards of a world, as text.
+pub fn stations_text(alloc: Global, world: &World) -> Result<String, AllocError>
+    ensures { IfOk result (λ text. (w : Configuration MemDisk) → HasConfiguration world.now w →
+        string_bytes text ≡ texts.station_lines w) }
+{
+    let mut out = Watched::new(Vec::new(alloc));
+    let Ok(()) = print_stations(&mut out, world) else {
+        return Err(AllocError);
+    };
+    match String::from_utf8(out.into_inner()) {
+        Ok(text) => Ok(text),
+        // Letters and digits are text.
+        Err(_) => Err(AllocError),
+    }
+}
+
+/// Prints what a world answered the events of a whole schedule, how many entries are agreed, and the lines of the stations.
 /// It fails only where a write fails; how much was written then isn't said.
 pub fn print_whole<W: Sink>(
     out: &mut Watched<W>,
     outcomes: &[Seen],
     agreed: usize,
-    world: &World,
+    stations: &str,
 ) -> Result<(), WriteFailed>
-    ensures text { (w : Configuration MemDisk) → HasConfiguration world.now w →
-        OnOk result (Prints W.contents out.old out.new
-        (texts.event_lines outcomes.now ++ texts.last_lines agreed w)) }
+    ensures text { OnOk result (Prints W.contents out.old out.new
+        (texts.event_lines outcomes.now ++ (texts.agreed_line agreed ++ stations.now))) }
     ensures handed_on { OnOk result (IsHandedOn W.calls out.new) }
     ensures failed { TellsFailure result out.old out.new }
 {
     print_events(out, outcomes)?;
     print_agreed(out, agreed)?;
-    print_stations(out, world)?;
+    write!(out, "{stations}")?;
     out.flush()
 }
 

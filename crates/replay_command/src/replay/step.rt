@@ -21,7 +21,7 @@ pub enum Stepped {
 }
 
 /// A new world for the match of a sheet, on files of this version.
-pub fn begin(
+fn begin(
     alloc: Global,
     sheet: &MatchSheet,
     version: FileVersion,
