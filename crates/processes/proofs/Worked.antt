@@ -1,5 +1,5 @@
 -- The worked life is such as what happens to processes.
-use Rattle.std.proofs.Common.{◌≡◌, ℕ, zero, suc, Some, None, Option, List, [], ◌∷◌, Ok, refl, sym, ap, ◌∙◌, inl, arith, slice_get}
+use Rattle.std.proofs.Common.{◌≡◌, ℕ, zero, suc, Some, None, Option, List, [], ◌∷◌, Ok, refl, sym, ap, ◌∙◌, inl, inr, arith, slice_get}
 use Rattle.std.specs.Prelude.{All, codes}
 use Rattle.std.specs.Fmt.{digits}
 use Rattle.std.specs.List.{filter}
@@ -31,7 +31,12 @@ use Rattle.shorthand.proofs.Standing.{full_lines_stand}
 use Rattle.vote_store.specs.View.{file_view, votes_shown}
 use Rattle.vote_store.specs.Sequence.{file_votes, votes_after}
 use Rattle.vote_store.proofs.RecordLemmas.{vote_in-record_of}
-use Rattle.wire.specs.Layout.{IsMessage}
+use Rattle.wire.specs.Layout.{IsMessage, Says}
+use Rattle.wire.specs.declared.what.What.{What}
+use Rattle.wire.proofs.MessageLemmas.{says_once}
+use Rattle.headline.specs.declared.event.Station.{Station}
+use Rattle.processes.specs.Exchanges.{ProcessExchange}
+use Rattle.processes.specs.Happenings.{BoardCalled, DeskCalled}
 use Rattle.wire.specs.declared.what.What.TheVariants.{Heard}
 use Rattle.headline.specs.declared.version.FileVersion.TheVariants.{New}
 use Rattle.live.specs.Boards as boards
@@ -51,7 +56,8 @@ use Rattle.live.specs.Sights.{Sight, sight_of}
 use Rattle.processes.specs.Sealing.{IsAuthentic, ring_of_desk}
 use Rattle.processes.proofs.DeskSteps.{stays_refl}
 use Rattle.processes.specs.Weaving.{IsWoven, is_at_board, is_at_desk, start}
-use Rattle.processes.specs.Worked.{LivedIsWoven, a_again, a_bytes, a_penned, a_says, b_bytes, b_noted, b_penned, b_says}
+use Rattle.processes.specs.Worked.{LivedHasExchange, LivedIsWoven, a_again, a_bytes, a_penned, a_says, b_bytes, b_noted, b_penned, b_says}
+use Rattle.processes.specs.Worked.{ask_bytes, exchanged}
 use Rattle.processes.specs.Worked.{board_agreed, board_asks, board_noted, disk_with, disk_without, lived, new_desk, no_faults, the_vote, toy}
 
 only_is : (file image : List ℕ) → IsImage (only file) image → image ≡ file
@@ -98,15 +104,24 @@ a_sealed : (ring : Ring) (seal : List ℕ) (more : List Message) → slice_get (
 a_sealed ring seal more there = λ v says.
     (sealed seal a_bytes, refl, (0, (seal, there, (None, tt, refl), λ m long same. (0, (a_says, refl, (None, tt, refl))))))
 
-b_sealed : (ring : Ring) (seal : List ℕ) → slice_get (seals_by ring b_bytes) 0 ≡ Some seal → IsAuthentic ring 7 (a_says ∷ b_says ∷ board_asks ∷ []) b_bytes
-b_sealed ring seal there = λ v says.
+b_sealed : (ring : Ring) (seal : List ℕ) (more : List Message) → slice_get (seals_by ring b_bytes) 0 ≡ Some seal → IsAuthentic ring 7 (a_says ∷ b_says ∷ more) b_bytes
+b_sealed ring seal more there = λ v says.
     (sealed seal b_bytes, refl, (0, (seal, there, (None, tt, refl), λ m long same. (1, (b_says, refl, (None, tt, refl))))))
+
+-- an ask is no vote
+asks : Says 7 ask_bytes board_asks
+asks = ((omega arith, omega arith), refl)
+
+ask_came : (ring : Ring) (sent : List Message) → IsAuthentic ring 7 sent ask_bytes
+ask_came ring sent = λ v says. let same = says_once 7 ask_bytes (Message.Vote v) board_asks says asks in absurd cc
 
 -- ---- desk A
 
 module _ (s : Sheet) where
   abbrev calls_of_a : List (own.Moment (desks.DeskProcess (List ℕ)) desks.DeskCall)
-  calls_of_a = then desks.after_call (fresh (new_desk A)) [] (desks.Typed (codes "void") (Penned (Write Void) Settled.Pending)) (a_says ∷ []) a_penned
+  calls_of_a =
+      let penned = then desks.after_call (fresh (new_desk A)) [] (desks.Typed (codes "void") (Penned (Write Void) Settled.Pending)) (a_says ∷ []) a_penned in
+      then desks.after_call (fresh (new_desk A)) penned (desks.Given ask_bytes What.Asked) (a_says ∷ []) a_penned
 
   abbrev life_of_a : List (Stage (List ℕ))
   life_of_a =
@@ -123,8 +138,15 @@ module _ (s : Sheet) where
   a_pens : desks.DeskStep s (view A) 7 1 (new_desk A) (desks.Typed (codes "void") (Penned (Write Void) Settled.Pending)) (a_says ∷ []) a_penned
   a_pens = (says, (((refl, refl), ((omega arith, omega arith), omega arith), taken 1), ((refl, refl), refl, refl, refl, holds A disk_with (the_vote ∷ []) (one_read A)), refl))
 
+  a_answers : desks.DeskStep s (view A) 7 1 a_penned (desks.Given ask_bytes What.Asked) (a_says ∷ []) a_penned
+  a_answers = (board_asks, asks, (refl, (stays_refl (view A) disk_with, refl), inl (Write Void, inl refl, refl)))
+
   a_runs : RunsFrom s (view A) no_faults 7 1 (new_desk A) calls_of_a
-  a_runs = ((λ n. n), 0, (tt, one_out a_says (is_message A), (refl, a_pens, blameless, refl, refl, tt)))
+  a_runs = (
+    (λ n. n),
+    0,
+    ((tt, one_out a_says (is_message A), (refl, a_pens, blameless, refl, refl, tt)), one_out a_says (is_message A), (refl, a_answers, blameless, refl, tt, tt)),
+  )
 
   abbrev LivesAsA : List (Stage (List ℕ)) → Type 0
   LivesAsA = IsLife (λ version. file_view (toy version) (λ disk. disk) only A 7) (λ disk. disk) no_faults A 7 1 (node (start New 1 (new_desk A) (new_desk B)) A)
@@ -146,7 +168,9 @@ module _ (s : Sheet) where
       then desks.after_call (fresh (new_desk B)) noted (desks.Reminded HasWritten) [] b_noted
 
   abbrev calls_of_b : List (own.Moment (desks.DeskProcess (List ℕ)) desks.DeskCall)
-  calls_of_b = then desks.after_call (fresh (new_desk B)) b_reminded (desks.Typed (codes "void") (Penned (Write Void) Settled.Agreed)) (b_says ∷ []) b_penned
+  calls_of_b =
+      let penned = then desks.after_call (fresh (new_desk B)) b_reminded (desks.Typed (codes "void") (Penned (Write Void) Settled.Agreed)) (b_says ∷ []) b_penned in
+      then desks.after_call (fresh (new_desk B)) penned (desks.Given ask_bytes What.Asked) (b_says ∷ []) b_penned
 
   b_notes : desks.DeskStep s (view B) 7 1 (new_desk B) (desks.Given a_bytes (Heard hearing.Heard.Noted)) [] b_noted
   b_notes = (a_says, (is_message A, refl), (refl, (((λ e. cc), refl), refl, refl, refl), stays_refl (view B) disk_without, refl, refl))
@@ -154,14 +178,21 @@ module _ (s : Sheet) where
   b_pens : desks.DeskStep s (view B) 7 1 b_noted (desks.Typed (codes "void") (Penned (Write Void) Settled.Agreed)) (b_says ∷ []) b_penned
   b_pens = (says, (((refl, refl), ((omega arith, omega arith), omega arith), taken 1), ((refl, refl), refl, refl, refl, holds B disk_with (the_vote ∷ []) (one_read B)), refl))
 
+  b_answers : desks.DeskStep s (view B) 7 1 b_penned (desks.Given ask_bytes What.Asked) (b_says ∷ []) b_penned
+  b_answers = (board_asks, asks, (refl, (stays_refl (view B) disk_with, refl), inl (Write Void, inl refl, refl)))
+
   b_runs : RunsFrom s (view B) no_faults 7 1 (new_desk B) calls_of_b
   b_runs = (
     (λ n. n),
     0,
     (
-      ((tt, none_out, (refl, b_notes, blameless, refl, tt, tt)), none_out, (refl, (refl, refl), blameless, refl, (refl, refl, refl), tt)),
+      (
+        ((tt, none_out, (refl, b_notes, blameless, refl, tt, tt)), none_out, (refl, (refl, refl), blameless, refl, (refl, refl, refl), tt)),
+        one_out b_says (is_message B),
+        (refl, b_pens, blameless, refl, refl, tt),
+      ),
       one_out b_says (is_message B),
-      (refl, b_pens, blameless, refl, refl, tt),
+      (refl, b_answers, blameless, refl, tt, tt),
     ),
   )
 
@@ -236,11 +267,76 @@ begins_first d = (disk_without, ((λ none. absurd (omega (arith, none))), (λ so
 
 woven : (s : Sheet) (seals : Seals) → IsWoven (λ disk. disk) only no_faults seals toy 7 1 (start New 1 (new_desk A) (new_desk B)) (lived s)
 woven s seals = record {
-  order = (((((((((((((((((tt, tt), tt), tt), a_sealed (ring_of_desk seals B) seals.desks [] refl), tt), tt), tt), tt), tt), tt), a_sealed (ring_of_board seals 1) (seals.a 1) (b_says ∷ board_asks ∷ []) refl), b_sealed (ring_of_board seals 1) (seals.b 1) refl), tt), tt), tt), tt), tt);
+  order = (((((((((((((((((((tt, tt), tt), tt), a_sealed (ring_of_desk seals B) seals.desks [] refl), tt), tt), tt), tt), tt), tt), ask_came (ring_of_desk seals A) (a_says ∷ b_says ∷ board_asks ∷ [])), a_sealed (ring_of_board seals 1) (seals.a 1) (b_says ∷ board_asks ∷ a_says ∷ []) refl), ask_came (ring_of_desk seals B) (a_says ∷ b_says ∷ board_asks ∷ a_says ∷ [])), b_sealed (ring_of_board seals 1) (seals.b 1) (board_asks ∷ a_says ∷ b_says ∷ []) refl), tt), tt), tt), tt), tt);
   desks = desk_lives s;
   boards = board_lives s;
   no_others = no_others s;
 }
+
+-- the board's exchange with both desks
+module _ (s : Sheet) where
+  -- a message that is said where just this one is
+  only_said : (m n : Message) (i : ℕ) → slice_get (m ∷ []) i ≡ Some n → n ≡ m
+  only_said m n zero e = cc
+  only_said m n (suc i) e = absurd cc
+
+  a_exchanges : ProcessExchange 7 (Station.Board 1) A (exchanged s)
+  a_exchanges = record {
+    later =
+        BoardCalled 1 s (boards.Given b_bytes (Ok (Heard hearing.Heard.Agreed))) [] board_agreed [] []
+        ∷ DeskCalled B s (desks.Given ask_bytes What.Asked) (b_says ∷ []) b_penned []
+        ∷ BoardCalled 1 s (boards.Given a_bytes (Ok (Heard hearing.Heard.Noted))) [] board_noted [] []
+        ∷ DeskCalled A s (desks.Given ask_bytes What.Asked) (a_says ∷ []) a_penned []
+        ∷ [];
+    at = BoardCalled 1 s boards.Ticked (board_asks ∷ []) fresh_board [] [];
+    earlier = [];
+    whole = refl;
+    ticks = refl;
+    answered = λ m said. record {
+      later =
+          BoardCalled 1 s (boards.Given b_bytes (Ok (Heard hearing.Heard.Agreed))) [] board_agreed [] []
+          ∷ DeskCalled B s (desks.Given ask_bytes What.Asked) (b_says ∷ []) b_penned []
+          ∷ BoardCalled 1 s (boards.Given a_bytes (Ok (Heard hearing.Heard.Noted))) [] board_noted [] []
+          ∷ [];
+      at = DeskCalled A s (desks.Given ask_bytes What.Asked) (a_says ∷ []) a_penned [];
+      earlier = [];
+      whole = refl;
+      taken = (refl, rw (only_said board_asks m said.0 said.1) asks);
+      heard = λ reply answer. inr (inr (inl (refl, rw (only_said a_says reply answer.0 answer.1) (is_message A, refl))));
+    };
+  }
+
+  b_exchanges : ProcessExchange 7 (Station.Board 1) B (exchanged s)
+  b_exchanges = record {
+    later =
+        BoardCalled 1 s (boards.Given b_bytes (Ok (Heard hearing.Heard.Agreed))) [] board_agreed [] []
+        ∷ DeskCalled B s (desks.Given ask_bytes What.Asked) (b_says ∷ []) b_penned []
+        ∷ BoardCalled 1 s (boards.Given a_bytes (Ok (Heard hearing.Heard.Noted))) [] board_noted [] []
+        ∷ DeskCalled A s (desks.Given ask_bytes What.Asked) (a_says ∷ []) a_penned []
+        ∷ [];
+    at = BoardCalled 1 s boards.Ticked (board_asks ∷ []) fresh_board [] [];
+    earlier = [];
+    whole = refl;
+    ticks = refl;
+    answered = λ m said. record {
+      later = BoardCalled 1 s (boards.Given b_bytes (Ok (Heard hearing.Heard.Agreed))) [] board_agreed [] [] ∷ [];
+      at = DeskCalled B s (desks.Given ask_bytes What.Asked) (b_says ∷ []) b_penned [];
+      earlier =
+          BoardCalled 1 s (boards.Given a_bytes (Ok (Heard hearing.Heard.Noted))) [] board_noted [] []
+          ∷ DeskCalled A s (desks.Given ask_bytes What.Asked) (a_says ∷ []) a_penned []
+          ∷ [];
+      whole = refl;
+      taken = (refl, rw (only_said board_asks m said.0 said.1) asks);
+      heard = λ reply answer. inl (refl, rw (only_said b_says reply answer.0 answer.1) (is_message B, refl));
+    };
+  }
+
+  exchanges : (d : DeskId) → ProcessExchange 7 (Station.Board 1) d (exchanged s)
+  exchanges A = a_exchanges
+  exchanges B = b_exchanges
+
+pub lived_has_exchange : LivedHasExchange
+lived_has_exchange s = ((((((tt, tt), tt), tt), tt), tt), (exchanged s, [], refl, tt, exchanges s))
 
 pub lived_is_woven : LivedIsWoven
 lived_is_woven = (none_shown, (begins_first A, begins_first B), woven)

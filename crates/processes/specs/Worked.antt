@@ -1,8 +1,8 @@
 -- A worked life: desk A pens `void`, is killed, begins in vain, and begins; desk B is given its vote, tells its scorer later
--- that the other has written, and pens `void` too; a board shows its empty book, looks at its clock, asks, is given both
--- votes, and shows the book. A disk is its bytes, all of them synced: one for the header, and one for the desk's vote. The
+-- that the other has written, and pens `void` too; a board shows its empty book, looks at its clock, asks, is given the vote with
+-- which each desk answers, and shows the book. A disk is its bytes, all of them synced: one for the header, and one for the desk's vote. The
 -- texts were written by hand.
-use Rattle.std.specs.Prelude.{ℕ, List, [], ◌∷◌, None, Ok, Err, codes, false}
+use Rattle.std.specs.Prelude.{ℕ, List, [], ◌∷◌, ◌++◌, None, Ok, Err, codes, false}
 use Rattle.notation.specs.declared.entry.Entry.TheVariants.{Write}
 use Rattle.notation.specs.declared.entry.Plain.TheVariants.{Void}
 use Rattle.entry_log.specs.Disk.{Faults, Never, only}
@@ -21,6 +21,7 @@ use Rattle.agree_core.specs.Readers.{reading}
 use Rattle.agree_core.specs.Seats.{casting, noting, waiting}
 use Rattle.cards.specs.Sheet.{Sheet}
 use Rattle.wire.specs.Layout.{written}
+use Rattle.wire.specs.declared.what.What.{What}
 use Rattle.wire.specs.declared.what.What.TheVariants.{Heard}
 use Rattle.vote_store.specs.Record.{record_of}
 use Rattle.seal.specs.Rings.{Seals}
@@ -32,7 +33,9 @@ use Rattle.live.specs.Sights.{sight_of}
 use Rattle.station_texts.specs.declared.reminder.Reminder.TheVariants.{HasWritten}
 use Rattle.station_texts.specs.declared.said.Said.TheVariants.{Penned}
 use Rattle.processes.specs.Happenings.{BoardBegun, BoardCalled, BoardGreeted, DeskBegun, DeskCalled, DeskEnded, DeskGreeted, Happening}
+use Rattle.processes.specs.Exchanges.{HaveExchanged}
 use Rattle.processes.specs.Files.{NoneShowNone}
+use Rattle.processes.specs.Progress.{AllQuiet}
 use Rattle.processes.specs.Weaving.{BothBegin, IsWoven, start}
 
 -- what is on a disk: behind the header the desk's vote, or none
@@ -97,22 +100,38 @@ a_bytes = written 7 a_says
 abbrev pub b_bytes : List ℕ
 b_bytes = written 7 b_says
 
+-- and of the board's ask
+abbrev pub ask_bytes : List ℕ
+ask_bytes = written 7 board_asks
+
 -- the six lines of a book without play
 abbrev pub no_play : List ℕ
 no_play = codes "No play\nOvers -\nStriker -\nOther -\nTarget -\nResult -\n"
 
--- all that happens, the newest first
-abbrev pub lived : Sheet → List (Happening (List ℕ))
-lived s =
+-- what happens at last, the newest first
+abbrev pub ended : Sheet → List (Happening (List ℕ))
+ended s =
     DeskGreeted A s (codes "No play\n0 pending: void\n")
     ∷ DeskBegun A (Opened a_again)
     ∷ DeskBegun A (NotOpened OpenRefusal.DeviceFailed disk_with)
     ∷ DeskEnded A disk_with
     ∷ BoardCalled 1 s boards.TurnEnded [] board_agreed no_play (sight_of s 1 (Write Void ∷ []) None ∷ [])
-    ∷ BoardCalled 1 s (boards.Given b_bytes (Ok (Heard hearing.Heard.Agreed))) [] board_agreed [] []
+    ∷ []
+
+-- the board asks before that, and each desk answers
+abbrev pub exchanged : Sheet → List (Happening (List ℕ))
+exchanged s =
+    BoardCalled 1 s (boards.Given b_bytes (Ok (Heard hearing.Heard.Agreed))) [] board_agreed [] []
+    ∷ DeskCalled B s (desks.Given ask_bytes What.Asked) (b_says ∷ []) b_penned []
     ∷ BoardCalled 1 s (boards.Given a_bytes (Ok (Heard hearing.Heard.Noted))) [] board_noted [] []
+    ∷ DeskCalled A s (desks.Given ask_bytes What.Asked) (a_says ∷ []) a_penned []
     ∷ BoardCalled 1 s boards.Ticked (board_asks ∷ []) fresh_board [] []
-    ∷ BoardCalled 1 s (boards.Looked 0) [] fresh_board [] []
+    ∷ []
+
+-- and what happens at first
+abbrev pub begun : Sheet → List (Happening (List ℕ))
+begun s =
+    BoardCalled 1 s (boards.Looked 0) [] fresh_board [] []
     ∷ BoardGreeted 1 s no_play (sight_of s 1 [] None ∷ [])
     ∷ BoardBegun 1
     ∷ DeskCalled B s (desks.Typed (codes "void") (Penned (Write Void) Settled.Agreed)) (b_says ∷ []) b_penned
@@ -125,6 +144,9 @@ lived s =
     ∷ DeskGreeted A s (codes "No play\n0 next\n")
     ∷ []
 
+abbrev pub lived : Sheet → List (Happening (List ℕ))
+lived s = ended s ++ (exchanged s ++ begun s)
+
 -- all is so that the law of woven lives asks for: no bytes show no votes, both desks begin, and what happened is such as what
 -- happens to processes, with whatever sheet and seals, in a match of one innings a side
 abbrev pub LivedIsWoven : Type 0
@@ -132,3 +154,7 @@ LivedIsWoven =
     NoneShowNone toy 7 × BothBegin (λ disk. disk) only no_faults (toy New) 7 1 (new_desk A) (new_desk B)
     × ((s : Sheet) (seals : Seals)
     → IsWoven (λ disk. disk) only no_faults seals toy 7 1 (start New 1 (new_desk A) (new_desk B)) (lived s))
+
+-- and in its midst the board has an exchange with both desks, while no scorer types, no disk fails, and no process begins or ends
+abbrev pub LivedHasExchange : Type 0
+LivedHasExchange = (s : Sheet) → AllQuiet (exchanged s) × HaveExchanged 7 1 1 (exchanged s)

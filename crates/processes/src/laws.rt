@@ -5,7 +5,7 @@ ghost use Rattle.processes.specs.Laws.{BoardStepsInRun, DeskStepsInRun, FlowsAre
 ghost use Rattle.processes.specs.Progress.{ProcessesGoOn};
 ghost use Rattle.processes.specs.Stations.{BeginningIsStage, BoardLifeIsProcess, DeskLifeIsLife, DeskRunIsStage};
 ghost use Rattle.processes.specs.Weaving.{WovenLivesFlow, WovenLivesHaveHeadline, WovenLivesPartNone, WovenLivesTellNone};
-ghost use Rattle.processes.specs.Worked.{LivedIsWoven};
+ghost use Rattle.processes.specs.Worked.{LivedHasExchange, LivedIsWoven};
 
 use board::Board;
 use corrections::BookOf;
@@ -70,7 +70,9 @@ pub fn empty_files_show_none()
 {}
 
 /// The premises of the law of woven lives are met: a desk that pens, is killed, begins in vain and begins, with another desk
-/// and a board that are given its vote, is what it speaks of.
+/// and a board that are given its vote, is what it speaks of. In its midst the board has an exchange with both desks, of which the
+/// law of what goes on speaks.
 pub fn a_worked_life_is_woven()
-    ensures { LivedIsWoven }
+    ensures lives { LivedIsWoven }
+    ensures exchange { LivedHasExchange }
 {}
