@@ -24,6 +24,7 @@ use station_table::DeskSetting;
 use std::cell::RefCell;
 use std::env::Env;
 use std::mem::drop;
+use streams::Watched;
 
 /// Why the command ends with a fault, by how its desk's process ended and whether its keyboard failed. Where its scorer
 /// stopped, there is none.
