@@ -77,6 +77,13 @@ class Process:
             self.lines += came
         return came, [it for it in ready if it is not self.ran.stdout]
 
+    def plays(self, shows, step):
+        """Plays on, a step at a time, until this holds or it has ended; whether it holds."""
+        end = time.time() + LONGEST
+        while self.is_open and time.time() < end and not shows():
+            step()
+        return shows()
+
     def end(self, is_stopped=False):
         """Its status and texts; `None` for the status of one that goes on, and is stopped here."""
         if is_stopped:
@@ -191,16 +198,16 @@ def board(folder, fail="", wrong="", disturb=None):
     words = ["board", "--sheet", SHEET, "--at", at, "--desk-a", where[0], "--desk-b", where[1]]
     words += ["--text", text, "--json", json]
     with Process(words, folder, fail, wrong) as it:
-        end = time.time() + LONGEST
-        shows = lambda: it.out.endswith(BOARD) and bytes_at(text) == BOARD.encode() and has_book(json)
-        while it.is_open and time.time() < end and not shows():
-            _, ready = it.wait(desks, 0.005)
-            answer_board(desks, ready)
+
+        def step():
+            answer_board(desks, it.wait(desks, 0.005)[1])
             if disturb:
                 disturb(it.ran)
             shown = bytes_at(text)
             if shown is not None and shown.count(b"\n") != 6:
                 raise Wrong(f"the board's file has {shown!r}, which isn't six lines")
+
+        it.plays(lambda: it.out.endswith(BOARD) and bytes_at(text) == BOARD.encode() and has_book(json), step)
         if fail:
             # Where it fails as the last file has its name already, it ends a moment later.
             it.wait([], 0.05)

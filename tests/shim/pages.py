@@ -1,6 +1,7 @@
 """Lives of a board that serves a page, under shim.c, in which a call for it fails: its viewer is played here."""
 import re, socket, time
 from lib import ports
+from lib.waiting import wait_for
 from lives import BOARD, LONGEST, SHEET, Process, answer_board, has_book
 from record import Wrong, bytes_at
 from trials import Ground, expect, shows_board
@@ -44,13 +45,12 @@ class Viewer:
 
     def state(self):
         """What is answered to who asks for the state now, and asks again where that fails."""
-        end = time.time() + LONGEST
-        while time.time() < end:
+
+        def answered():
             status, text = answer_at(self.place, f"GET /board.json HTTP/1.1\r\nHost: {self.place}\r\n\r\n".encode())
-            if status == 200:
-                return text
-            time.sleep(0.02)
-        raise Wrong("nobody answers who asks for the state")
+            return text if status == 200 else None
+
+        return wait_for("the state", answered, LONGEST)
 
 
 WHOLE = re.compile(rb"HTTP/1\.1 (\d{3}) (?:.*\r\n)*content-length: (\d+)\r\n(?:.*\r\n)*?\r\n")
@@ -85,12 +85,13 @@ def life(folder, fail=""):
     where, viewer = [*map(ports.address_of, desks)], Viewer(place)
     words = ["board", "--sheet", SHEET, "--at", at, "--desk-a", where[0], "--desk-b", where[1], "--text", text, "--json", json]
     with Process([*words, "--serve", place], folder, fail, "") as it:
-        end = time.time() + LONGEST
-        shows = lambda: it.out.endswith(BOARD) and bytes_at(text) == BOARD.encode() and has_book(json) and viewer.has_book()
-        while it.is_open and time.time() < end and not shows():
+
+        def step():
             answer_board(desks, it.wait(desks, 0.005)[1])
             viewer.work()
-        if it.is_open and not shows():
+
+        shows = lambda: it.out.endswith(BOARD) and bytes_at(text) == BOARD.encode() and has_book(json) and viewer.has_book()
+        if not it.plays(shows, step) and it.is_open:
             raise Wrong(f"a viewer was told {viewer.came[-200:]!r}")
         if it.is_open and viewer.state() != bytes_at(json):
             raise Wrong("the state that is answered isn't that of the file")
@@ -105,14 +106,11 @@ def at_rest(served):
         where = [*map(ports.address_of, desks)]
         words = ["board", "--sheet", SHEET, "--at", at, "--desk-a", where[0], "--desk-b", where[1], "--serve", place]
         with Process(words, ground.folder, "", "") as it:
-            viewer, end = Viewer(place), time.time() + LONGEST
-            while served and b"event: beat" not in viewer.came and time.time() < end:
-                viewer.work()
-                it.wait([], 0.02)
+            viewer = Viewer(place)
+            it.plays(lambda: not served or b"event: beat" in viewer.came, lambda: (viewer.work(), it.wait([], 0.02)))
             counted = lambda: [call.name for call in ground.calls()]
             before = counted()
-            while counted().count("poll") < before.count("poll") + 16 and time.time() < end:
-                it.wait([], 0.1)
+            it.plays(lambda: counted().count("poll") >= before.count("poll") + 16, lambda: it.wait([], 0.1))
             after = counted()
             viewer.leave()
             it.end(is_stopped=True)

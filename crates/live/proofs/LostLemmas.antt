@@ -66,17 +66,14 @@ is_coded r e f h k same =
     same_from_decides r (bytes_eq (code e) (code f)) same
     (Decides-like (bytes_eq (code e) (code f)) (λ x. code_once e f h k x) (λ x. ap code x) (bytes_eq-Decides (code e) (code f)))
 
--- tests of two positions are those of their numbers
+-- a position is at itself alone
 at_self : (p : Position) → is_at p p ≡ true
 at_self p = grind (arith, nat_tests)
 
 at_once : (p q : Position) → is_at p q ≡ true → p ≡ q
 at_once p q e = grind (arith, nat_tests)
 
-pub is_there : (r : Bool) (p q : Position) → IsTrue r ↔ (p ≡ q) → r ≡ is_at p q
-is_there r p q same =
-    same_from_decides r (is_at p q) same (at_once p q, λ e. subst (λ (x : Position). is_at p x ≡ true) e (at_self p))
-
+-- whether a position comes before another one is told by their numbers
 pub comes_before : (r : Bool) (p q : Position) → IsTrue r ↔ Before p q → r ≡ is_before p q
 comes_before r p q same =
     same_from_decides r (is_before p q) same

@@ -2,7 +2,7 @@
 
 /// What may be run and loaded in the page: its own style and script, and what it asks of its station.
 pub const POLICY: &[u8] =
-    b"default-src 'none'; script-src 'sha256-c+AmzPZsdMtQ4XLb11b5nHgk7xe+xEGK1O6JamXatOg='; style-src 'sha256-DTH/OFZGnBmiDtiQkR3rBSdsBgAlJjHqn7xirAivU0E='; connect-src 'self'; img-src data:; base-uri 'none'; form-action 'none'; frame-ancestors 'none'";
+    b"default-src 'none'; script-src 'sha256-OmyhbeGYrbRPf7gVO+eSrCe91vlHiWYi1ndrhz0ZTGk='; style-src 'sha256-YB5SVarurR5oU1bpycpFCLpVKWc8RbGL+5rNLHyAfRg='; connect-src 'self'; img-src data:; base-uri 'none'; form-action 'none'; frame-ancestors 'none'";
 
 /// The page.
 pub const PAGE: &[u8] = b"<!DOCTYPE html>
@@ -54,7 +54,7 @@ h2 { font-size: .85em; letter-spacing: .06em; text-transform: uppercase; color: 
 table { border-collapse: collapse; width: 100%; }
 th, td { text-align: right; padding: .15em .4em; vertical-align: baseline; border-top: 1px solid var(--line); }
 thead th { font-size: .8em; font-weight: 400; color: var(--quiet); border-top: 0; }
-th:first-child, th.words, td.words { text-align: left; overflow-wrap: anywhere; }
+th:first-child, th.words, td.words { text-align: left; overflow-wrap: break-word; }
 tbody th { font-weight: 400; }
 td.words, tfoot td.words { color: var(--quiet); }
 td:not(.words) { white-space: nowrap; }
@@ -70,11 +70,30 @@ ol.over li.wicket { border-color: var(--wicket); border-radius: .2em; background
 .falls, .absent { color: var(--quiet); font-size: .9em; padding: .4em; overflow-wrap: anywhere; }
 .falls span { display: inline-block; max-width: 100%; }
 .unseen { position: absolute; width: 1px; height: 1px; overflow: hidden; clip-path: inset(50%); white-space: nowrap; }
+#match:not([hidden]) { display: grid; gap: .5em 1.5em; grid-template-columns: minmax(0, 1fr); }
+.is-over #team, .is-over #runs, .is-over #overs { display: none; }
+#match h2 { text-transform: none; letter-spacing: 0; font-size: 1.1em; color: var(--text); }
+#match .total { color: var(--bright); white-space: nowrap; }
+#match .overs { font-weight: 400; color: var(--quiet); white-space: nowrap; }
+.best { display: grid; gap: 0 1.5em; grid-template-columns: repeat(auto-fit, minmax(min(100%, 14em), 1fr)); align-items: start; }
 #cards { display: grid; gap: .75em; grid-template-columns: minmax(0, 1fr); }
 .bars { display: flex; align-items: flex-end; gap: 2px; height: 5em; margin-top: .4em; border-bottom: 1px solid var(--line); }
 .bars span { flex: 1 1 0; min-width: 1px; max-width: 1.6em; background: var(--bright); }
 .bars.earlier span { background: var(--line); }
 [hidden] { display: none !important; }
+
+/* In the hand there is no room for how somebody was out beside his name. */
+@media (max-width: 599px) {
+  html:not(.big, .overlay) .batting tr { display: grid; grid-template-columns: minmax(0, 1fr) repeat(4, 1.9em); }
+  html:not(.big, .overlay) .batting :is(th, td) { padding-left: .1em; padding-right: .1em; }
+  html:not(.big, .overlay) .batting td.words { grid-row: 2; grid-column: 1 / -1; padding-top: 0; border: 0; }
+  html:not(.big, .overlay) .batting thead .words + .words { display: none; }
+  html:not(.big, .overlay) .batting tfoot :is(th, td) { border: 0; }
+}
+
+@media (max-width: 359px) {
+  html:not(.big, .overlay) :is(.card, #crease, #match) table { font-size: .9em; }
+}
 
 /* A screen at the ground: the score can be read from across the field. */
 @media (min-width: 900px) {
@@ -90,6 +109,11 @@ ol.over li.wicket { border-color: var(--wicket); border-radius: .2em; background
   ol.over { font-size: 2.3em; min-height: 1.8em; }
   #last-over { font-size: 1.5em; }
   #wickets th, #wickets td { font-size: 1.3em; }
+  #match h2 { font-size: 2em; }
+  #match .best { font-size: 1.4em; }
+  #match .best th, #match .best td { padding: .1em .25em; }
+  .is-over #score, .is-over #match { grid-column: 1 / -1; }
+  .is-over #match { grid-template-columns: repeat(2, minmax(0, 1fr)); }
   #chart { grid-column: 1 / -1; }
   #cards { grid-column: 1 / -1; grid-template-columns: repeat(2, minmax(0, 1fr)); }
   .card .both { display: grid; grid-template-columns: minmax(0, 1.5fr) minmax(0, 1fr); gap: 1em; align-items: start; }
@@ -99,6 +123,8 @@ ol.over li.wicket { border-color: var(--wicket); border-radius: .2em; background
 /* A stream: a lower third over the picture. */
 html.overlay { background: transparent; }
 .overlay h1, .overlay #age:not(.old), .overlay #missing, .overlay #wickets, .overlay #chart, .overlay #cards { display: none; }
+.overlay #match { grid-column: span 2; }
+.is-over.overlay #match { grid-column: 1 / -1; }
 .overlay header { position: fixed; right: 2vw; top: 2vh; padding: 0; border: 0; }
 .overlay #trouble { position: fixed; left: 2vw; top: 2vh; max-width: 60vw; margin: 0; }
 .overlay main { position: fixed; left: 2vw; right: 2vw; bottom: 3vh; padding: 0; align-items: stretch; grid-template-columns: minmax(0, 1fr) minmax(0, 1.5fr) minmax(0, 1fr); }
@@ -109,6 +135,8 @@ html.overlay { background: transparent; }
   .overlay #score h2 { font-size: 1.3em; }
   .overlay #aim, .overlay #result { font-size: 1.4em; }
   .overlay #left, .overlay #stand { font-size: 1em; }
+  .overlay #match h2 { font-size: 1.3em; }
+  .overlay #match .best { font-size: 1.1em; }
   .overlay #crease th, .overlay #crease td { font-size: 1.35em; }
   .overlay #crease thead th { font-size: .8em; }
   .overlay ol.over { font-size: 1.35em; }
@@ -135,7 +163,11 @@ html.overlay { background: transparent; }
 .big #crease th:first-child { width: 100%; }
 .big #crease thead th { font-size: calc(3 * var(--u)); }
 .big #batters tr > :nth-child(n + 4) { display: none; }
-.big[data-turn=\"card\"] #crease, .big[data-turn=\"card\"] #left, .big[data-turn=\"card\"] #aim, .big[data-turn=\"card\"] #result { display: none; }
+.big #match { gap: calc(2 * var(--u)); grid-template-columns: minmax(0, 1fr); }
+.big #match .best { font-size: calc(3.5 * var(--u)); grid-template-columns: repeat(2, minmax(0, 1fr)); }
+.big #match h2 { font-size: calc(7 * var(--u)); line-height: 1.12; }
+.big #match .best th, .big #match .best td { line-height: 1.15; padding: 0 .4em 0 0; border: 0; white-space: nowrap; }
+.big[data-turn=\"card\"] #crease, .big[data-turn=\"card\"] #match, .big[data-turn=\"card\"] #left, .big[data-turn=\"card\"] #aim, .big[data-turn=\"card\"] #result { display: none; }
 .big[data-turn=\"card\"] #score { display: flex; gap: 1em; align-items: baseline; border-bottom: 2px solid var(--line); white-space: nowrap; }
 .big[data-turn=\"card\"] #team, .big[data-turn=\"card\"] #runs, .big[data-turn=\"card\"] #overs { font-size: calc(4.6 * var(--u)); line-height: 1.3; }
 .big[data-turn=\"card\"] #cards, .big .card .both { display: block; }
@@ -188,6 +220,7 @@ html.overlay { background: transparent; }
       <tbody></tbody>
     </table>
   </section>
+  <section id=\"match\" aria-label=\"The match\" hidden></section>
   <section id=\"chart\" aria-labelledby=\"chart-heading\" hidden>
     <h2 id=\"chart-heading\">Runs by over</h2>
     <div id=\"bars\"></div>
@@ -293,13 +326,52 @@ function tellWicket(innings, before) {
   put(\"fallen\", \"Wicket: \" + fall.name + (b ? \", \" + b.how + \", \" + b.runs : \"\"));
 }
 
-function showWickets(innings) {
+function showWickets(innings, atRest) {
   const rows = innings.falls.slice(-4).reverse().map(fall => {
     const b = of(innings.batting, fall.number);
     return row(fall.name, [{ words: b ? b.how : \"\" }, b ? b.runs : \"\", fall.wicket + \"-\" + fall.runs]);
   });
   at(\"wickets\").querySelector(\"tbody\").replaceChildren(...rows);
-  at(\"wickets\").hidden = rows.length === 0;
+  at(\"wickets\").hidden = atRest || rows.length === 0;
+}
+
+// What is shown where nobody bats: each innings with its total, its highest scores and its best bowling, as many of each.
+const BEST = 3;
+const WICKETS = PLAYERS - 1;
+const isAtRest = board => board.innings.length > 0 && (board.now.result !== null || board.innings[board.innings.length - 1].closed);
+const highest = innings => innings.batting.slice().sort((one, other) => other.runs - one.runs || one.balls - other.balls).slice(0, BEST);
+const bestBowled = innings => innings.bowling.slice().sort((one, other) => other.wickets - one.wickets || one.runs - other.runs).slice(0, BEST);
+
+function total(innings) {
+  return innings.wickets === WICKETS ? innings.runs + \" all out\" : innings.runs + \"/\" + innings.wickets;
+}
+
+function figures(rows) {
+  const made = element(\"table\");
+  const body = element(\"tbody\");
+  body.append(...rows);
+  made.append(body);
+  return made;
+}
+
+function bestOf(innings) {
+  const made = element(\"div\", undefined, \"best\");
+  made.append(
+    figures(highest(innings).map(b => row(b.name, [b.runs + (b.how === \"not out\" ? \"*\" : \"\") + \" (\" + b.balls + \")\"]))),
+    figures(bestBowled(innings).map(b => row(b.name, [b.wickets + \"-\" + b.runs + \" (\" + b.overs + \")\"]))),
+  );
+  return made;
+}
+
+function showMatch(board) {
+  const parts = board.innings.map(innings => {
+    const head = element(\"h2\", innings.team + \" \");
+    head.append(element(\"span\", total(innings), \"total\"), \" \", element(\"span\", innings.overs + \" overs\", \"overs\"));
+    const made = element(\"div\");
+    made.append(head, bestOf(innings));
+    return made;
+  });
+  at(\"match\").replaceChildren(...parts);
 }
 
 // A bar for each over that was called, innings by innings, the last one bright.
@@ -418,11 +490,15 @@ function show(board, before) {
   putIf(\"left\", last && now.result === null ? left(now).join(\" \\u00b7 \") : \"\");
   putIf(\"stand\", last && now.result === null && known(now.partnership) ? partnership(now, last) : \"\");
   putIf(\"result\", now.result || \"\");
-  for (const id of [\"crease\", \"over\", \"wickets\"]) at(id).hidden = !last;
+  const atRest = isAtRest(board);
+  page.classList.toggle(\"is-over\", now.result !== null);
+  for (const id of [\"crease\", \"over\", \"wickets\"]) at(id).hidden = !last || atRest;
+  at(\"match\").hidden = !atRest;
+  if (atRest) showMatch(board);
   if (last) {
     tellWicket(board.innings, before);
     showCrease(last, now);
-    showWickets(last);
+    showWickets(last, atRest);
     at(\"this-over\").replaceChildren(...now.this_over.map(ball));
     put(\"last-over\", now.last_over.length > 0 ? \"Last over: \" + now.last_over.map(mark => mark === \".\" ? \"\\u2022\" : mark).join(\" \") : \"\");
   }

@@ -387,11 +387,7 @@ fn print_asked<B: BookOf, W: Sink>(
 {
     match word {
         Word::Where => {
-            let is_waited_for = if both.own.is_some() {
-                false
-            } else {
-                both.other.is_some()
-            };
+            let is_waited_for = both.is_waited_for();
             print_standing(out, sheet, both.at, both.own, is_waited_for, warned, book)
         }
         Word::Entries(most) => print_listing(out, book, most),
