@@ -1,5 +1,6 @@
 -- A desk's process that was kept.
-use Rattle.std.proofs.Common.{◌≡◌, ℕ, Bool, false, List, [], Option, None, Some, Result, Ok, Err, IfOk}
+use Rattle.std.proofs.Common.{◌≡◌, ℕ, Bool, true, false, List, [], Option, None, Some, Result, Ok, Err, IfOk, OnErr, refl}
+use Rattle.std.specs.Prelude.{IsOk}
 use Rattle.entry_log.specs.Format.{contents, room}
 use Rattle.entry_log.specs.Version2.{version_2}
 use Rattle.vote_store.specs.View.{file_view}
@@ -41,3 +42,10 @@ pub was_stopped : {E : Type 0} (answer : Result Bool E) {ended life : Result (Un
     → IfOk answer (λ refused. (refused ≡ false) × WasStopped life)
 was_stopped (Ok refused) failed same holds = (holds.0, (failed, rw same at holds.1))
 was_stopped (Err why) failed same holds = tt
+
+-- where an answer has no fault, its desk's screen was seen, so no write of that had failed
+pub was_written : {E F : Type 0} (answer : Result Bool E) (last : Result (Unit {0}) F) {seen had : Bool} → OnErr last (had ≡ true) → (seen ≡ true → had ≡ false)
+    → IfOk answer (λ refused. seen ≡ true) → IfOk answer (λ refused. IsOk last)
+was_written (Ok refused) (Ok done) failed none is = refl
+was_written (Ok refused) (Err why) failed none is = let sound = none is in cc
+was_written (Err why) last failed none is = tt

@@ -1,6 +1,6 @@
 //! `ground desk`: a scorer's desk.
 
-ghost use Rattle.std.specs.Prelude.{◌≡◌, false, option_copied, IfErr, IfOk, None, Some};
+ghost use Rattle.std.specs.Prelude.{◌≡◌, false, option_copied, true, IfErr, IfOk, IsOk, None, Some};
 ghost use Rattle.desk_command.specs.Ends as ends;
 ghost use Rattle.desk_command.specs.Ends.{WasStopped};
 ghost use Rattle.desk_command.specs.Lives.{copy_of, desk_of, path_of, sheet_path_of, traces_in};
@@ -100,7 +100,9 @@ fn with_lasts<'a>(
 
 /// Waits until all that was written to a desk's screen is taken, and tells whether it is. Where a write of it failed, no other
 /// one is made.
-fn is_seen(screen: DeskScreen<'_, '_>, had_failed: bool) -> bool {
+fn is_seen(screen: DeskScreen<'_, '_>, had_failed: bool) -> bool
+    ensures { result ≡ true → had_failed ≡ false }
+{
     !had_failed && screen.output.end().is_ok()
 }
 
@@ -113,7 +115,8 @@ fn answer_of<'a>(
     copy: Option<&'a str>,
     lasts: &[LastFault; 2],
 ) -> Result<bool, Stopped<'a>>
-    ensures { IfOk result (λ refused. (refused ≡ false) × (ends.stop_of ended keyboard_failed ≡ None)) }
+    ensures stopped { IfOk result (λ refused. (refused ≡ false) × (ends.stop_of ended keyboard_failed ≡ None)) }
+    ensures seen { IfOk result (λ refused. is_seen ≡ true) }
 {
     match answer(ended, keyboard_failed, file) {
         Ok(_) if !is_seen => Err(Stopped::at("-", StopFault::Write)),
@@ -168,6 +171,7 @@ pub fn start_desk<'a>(
     ensures copy { IfOk result (λ ended. copy_of ended.life ≡ option_copied setting.now.copy) }
     ensures answer { IfOk result (λ ended. IfOk ended.answer (λ refused.
         (refused ≡ false) × WasStopped (traces_in ended.life).ended)) }
+    ensures written { IfOk result (λ ended. IfOk ended.answer (λ refused. IsOk (traces_in ended.life).last)) }
 {
     let file = setting.file;
     let copy = setting.copy;

@@ -1,6 +1,6 @@
 //! What a desk's scorer is told once its process has ended.
 
-ghost use Rattle.std.specs.Prelude.{◌≡◌, ◌≤◌, ◌++◌, OnOk, Some};
+ghost use Rattle.std.specs.Prelude.{◌≡◌, ◌≤◌, ◌++◌, OnErr, OnOk, Some, true};
 ghost use Rattle.cards.specs.Sheet.{most_columns};
 ghost use Rattle.machine.specs.Screens.{text_of};
 ghost use Rattle.streams.specs.Watched.{Prints, TellsFailure, stream_of};
@@ -67,6 +67,7 @@ pub fn end_screen<K: Keys, C: Clock, W: Recorded>(
     ensures written { W.contents result.screen ≡ Some (text_of result.written) }
     ensures last { OnOk result.last (text_of result.written
         ≡ text_of result.told ++ ends.last_told ended columns (keys.old.queue).log) }
+    ensures failed { OnErr result.last (result.has_failed ≡ true) }
     ensures keys { keys.new.keys ≡ keys.old.keys }
 {
     let had_failed = out.has_failed();

@@ -1,6 +1,6 @@
 //! The process of a desk on this machine: there is a life of a desk only where its process was kept.
 
-ghost use Rattle.std.specs.Prelude.{◌≡◌, [], Some, option_copied};
+ghost use Rattle.std.specs.Prelude.{◌≡◌, [], OnErr, Some, option_copied, true};
 ghost use Rattle.ahead.specs.Ahead.{given_of};
 ghost use Rattle.machine.specs.Screens.{text_of};
 ghost use Rattle.streams.specs.Watched.{stream_of};
@@ -168,6 +168,7 @@ pub fn keep_on<'a, L: Carries + Drop, K: Enters, S: Squares, C: Clock, W: Record
     ensures sheet { (result.life).sheet_path.now ≡ source.entry.path.now }
     ensures typed { ((result.life).typed).value ≡ ((result.keys).keys).given }
     ensures written { W.contents result.screen ≡ Some (text_of (result.life).written) }
+    ensures failed { OnErr (result.life).last (result.has_failed ≡ true) }
 {
     let SheetFile {
         path: sheet_path,
