@@ -189,7 +189,8 @@ OURS = is_mapping_of(
         "program": is_text, "match_number": is_match_number, "innings_a_side": lambda count: count in (1, 2), "falls": is_list_of(FALL),
         "book": is_list_of(ENTRY),
     },
-    {"title": is_text, "limits": LIMITS},
+    # (an outcome is as the sheet tells it)
+    {"title": is_text, "limits": LIMITS, "outcome": lambda _: True},
 )
 MATCH = is_mapping_of({"meta": META, "info": INFO, "innings": is_list_of(INNINGS), "yermudosh": OURS})
 

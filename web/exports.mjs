@@ -2,7 +2,7 @@
 // An export that comes without its match: its sheet and its lines, as it has them. Whether they are right the program tells: it prints of
 // them the very export again, or another one.
 
-/** The last key of an export's `info` that is never the sheet's, and the one behind it that may be. */
+/** The last key of an export's `info` that is never the sheet's, and the one behind it that is the Laws'. */
 const [LAST_OWN, MAYBE] = ["balls_per_over", "outcome"];
 const DAY = /^\d{4}-\d{2}-\d{2}$/;
 const BARE = /^[A-Za-z0-9_-]+$/;
@@ -44,15 +44,16 @@ function limits_of(limits) {
 }
 
 /**
- * The sheet of an export.
+ * The sheet of an export. Where it doesn't tell an outcome of the sheet's, as earlier ones don't, the Laws' may be it.
  * @param {any} of
- * @param {boolean} has_outcome whether the outcome was the sheet's
+ * @param {boolean} has_outcome whether it was
  */
 function sheet_of({ meta, info, yermudosh }, has_outcome) {
   const [home, away] = info.teams;
   const { data_version: _, ...more } = meta;
   const own = Object.entries(info).slice(Object.keys(info).indexOf(LAST_OWN) + 1);
-  const rest = Object.fromEntries(own.filter(([key]) => has_outcome || key !== MAYBE));
+  const { outcome } = "outcome" in yermudosh ? yermudosh : has_outcome ? info : {};
+  const rest = { ...Object.fromEntries(own.filter(([key]) => key !== MAYBE)), ...(outcome === undefined ? {} : { outcome }) };
   const side = (/** @type {string} */ name) => ({ name, players: info.players[name] });
   return [
     ...["title = " + toml_of(yermudosh.title ?? info.event.name), "number = " + yermudosh.match_number, "innings = " + yermudosh.innings_a_side, ""],

@@ -19,7 +19,7 @@ export const PRINTED = {
 };
 
 /**
- * An outcome's values, as they stand in an export.
+ * An outcome's values, as they stand in an export: what the sheet tells goes before what the Laws say.
  * @param {any} outcome
  * @returns {string}
  */
@@ -53,8 +53,8 @@ export async function row_of(module, match) {
   const { status, output, errors } = await ground(module, words, match.files);
   const both = await counted(module, match);
   if (status !== 0) return { ...none, both, told: errors.trim() || (await output.text()).trim() };
-  const { info } = JSON.parse(await output.text());
-  return { title: info.event?.name ?? "", day: String(info.dates?.[0] ?? ""), result: told_of(info.outcome), both, told: errors.trim() };
+  const { info, yermudosh } = JSON.parse(await output.text());
+  return { title: info.event?.name ?? "", day: String(info.dates?.[0] ?? ""), result: told_of(yermudosh.outcome) || told_of(info.outcome), both, told: errors.trim() };
 }
 
 /**

@@ -1,13 +1,13 @@
 -- What a sheet's table [info] hands on, value by value.
-use Rattle.std.proofs.Common.{◌≡◌, ℕ, Bool, true, false, List, [], ◌∷◌, ◌++◌, refl, if◌then◌else◌, append_assoc}
-use Rattle.toml.specs.Data.{Data, Members, no_members, member}
+use Rattle.std.proofs.Common.{◌≡◌, ℕ, Bool, true, false, List, [], ◌∷◌, ◌++◌, refl, Option, Some, None, if◌then◌else◌, append_assoc, codes}
+use Rattle.toml.specs.Data.{Data, Members, no_members, member, get_member}
 use Rattle.json.specs.Json.{Json}
 use Rattle.json.specs.Token.{Token, key}
 use Rattle.json.specs.Tree.{json_tokens}
 use Rattle.json_fields.specs.Values.{Field}
 use Rattle.json_fields.proofs.Putting.{adds_fields, no_fields, one_field}
 use Rattle.export.specs.Given.{IsValueOf, AreFieldsOf, is_own, others}
-use Rattle.export.specs.inner.Putting.{PutsGiven, PutsHanded}
+use Rattle.export.specs.inner.Putting.{PutsGiven, PutsHanded, PutsRuled}
 
 -- a member under a key of the export's own is left out
 pub left_out : (name : List ℕ) (d : Data) (old : List Token) → is_own name ≡ true → PutsHanded name d old old
@@ -28,3 +28,12 @@ pub puts_more : (name : List ℕ) (d : Data) (ms : Members) (old mid new : List 
     PutsGiven (member name d ms) old new
 puts_more name d ms old mid new one more =
     (one.0 ++ more.0, handed_more (is_own name) name d (others ms) one.0 more.0 one.1 more.1, adds_fields old mid new one.0 more.0 one.2 more.2)
+
+-- the outcome that the members tell, where they tell one
+pub puts_ruled : (ms : Members) (d : Data) (old mid new : List Token) → get_member (codes "outcome") ms ≡ Some d → mid ≡ old ++ key (codes "outcome") ∷ [] →
+    (w : (v : Json) × IsValueOf d v × (new ≡ mid ++ json_tokens v)) → PutsRuled ms old new
+puts_ruled ms d old mid new is named w =
+    ((codes "outcome", w.0) ∷ [], rw is (w.0, [], refl, w.1, refl), rw w.2 (rw (named, one_field (codes "outcome", w.0), append_assoc old) refl))
+
+pub puts_none : (ms : Members) (old : List Token) → get_member (codes "outcome") ms ≡ None → PutsRuled ms old old
+puts_none ms old is = ([], rw is refl, no_fields old)

@@ -63,3 +63,17 @@ info_in document = members_or_none (table_in (codes "info") document)
 -- the fields that a sheet's document hands on
 abbrev pub HandsOn : Members → List Field → Type 0
 HandsOn document given = AreFieldsOf (others (info_in document)) given
+
+-- ---- what the umpires or the league ruled
+
+abbrev pub ruling : Option Data → Members
+ruling None = no_members
+ruling (Some d) = member (codes "outcome") d no_members
+
+-- the outcome that the members of [info] tell
+abbrev pub ruled : Members → Members
+ruled info = ruling (get_member (codes "outcome") info)
+
+-- that of a sheet's document, in a field, where it tells one
+abbrev pub IsRuled : Members → List Field → Type 0
+IsRuled document told = AreFieldsOf (ruled (info_in document)) told

@@ -1,5 +1,5 @@
--- The book of a match as one JSON value. s is the sheet, document the table that its text is, and given what the table [info]
--- of that hands on.
+-- The book of a match as one JSON value. s is the sheet, document the table that its text is, given what the table [info]
+-- of that hands on, and told the outcome that it tells.
 use Rattle.std.specs.Prelude.{◌≡◌, ℕ, ◌^◌, Bool, nat_le, if◌then◌else◌, List, [], ◌∷◌, ◌++◌, codes, decimal}
 use Rattle.notation.specs.declared.entry.Entry.{Entry}
 use Rattle.corrections.specs.CleanList.{clean, history_of}
@@ -10,7 +10,7 @@ use Rattle.json.specs.Tree.{json_tokens}
 use Rattle.json.specs.Layout.{pretty}
 use Rattle.json_fields.specs.Values.{Field, object_of, text_field, number_field}
 use Rattle.archive_deliveries.specs.Notes.{notes}
-use Rattle.export.specs.Given.{HandsOn, info_in}
+use Rattle.export.specs.Given.{HandsOn, IsRuled, info_in}
 use Rattle.export.specs.Meta.{meta_field}
 use Rattle.export.specs.Info.{has_event, info_field}
 use Rattle.export.specs.Falls.{falls_field}
@@ -39,28 +39,32 @@ sheet_fields s given =
     ++ number_field (codes "innings_a_side") s.innings ∷ []
     ++ limits_field s.limits
 
--- what the format of archives can't hold: the rest of the sheet, the falls of wickets, and each entry as it was penned
-abbrev pub own_field : Sheet → List Field → List Entry → Field
-own_field s given book = (
+-- what the format of archives can't hold: the rest of the sheet, an outcome that it tells beside that of the Laws, the falls of
+-- wickets, and each entry as it was penned
+abbrev pub own_field : Sheet → List Field → List Field → List Entry → Field
+own_field s given told book = (
   codes "yermudosh",
   object_of (text_field (codes "program") (codes "yermudosh 1") ∷ []
       ++ sheet_fields s given
+      ++ told
       ++ falls_field s (history_of book) ∷ []
       ++ book_field book ∷ []),
 )
 
-abbrev pub export_of : Sheet → Members → List Field → List Entry → Json
-export_of s document given book =
+abbrev pub export_of : Sheet → Members → List Field → List Field → List Entry → Json
+export_of s document given told book =
     object_of (meta_field document ∷ []
     ++ info_field s (history_of book) (info_in document) given ∷ []
     ++ innings_field s (history_of book) (notes [] (clean book)) ∷ []
-    ++ own_field s given book ∷ [])
+    ++ own_field s given told book ∷ [])
 
 -- the value of a book by a sheet and its document, as the library lays it out
 pub record IsLaidOut (s : Sheet) (document : Members) (book : List Entry) (text : List ℕ) : Type 0 where
   pub given : List Field
   pub hands_on : HandsOn document given
-  pub written : text ≡ pretty (json_tokens (export_of s document given book))
+  pub told : List Field
+  pub ruled : IsRuled document told
+  pub written : text ≡ pretty (json_tokens (export_of s document given told book))
 
 -- that text, with what a terminal obeys in it escaped
 pub record IsExport (s : Sheet) (document : Members) (book : List Entry) (text : List ℕ) : Type 0 where

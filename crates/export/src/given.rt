@@ -7,7 +7,7 @@ ghost use Rattle.toml.specs.View.{array_view, table_view, view};
 ghost use Rattle.toml_datetime.specs.Text.{datetime_text};
 ghost use Rattle.json.specs.Json as json_values;
 ghost use Rattle.export.specs.Given as laws;
-ghost use Rattle.export.specs.inner.Putting.{PutsFloat, PutsGiven, PutsHanded, PutsItems, PutsMembers, PutsValue};
+ghost use Rattle.export.specs.inner.Putting.{PutsFloat, PutsGiven, PutsHanded, PutsItems, PutsMembers, PutsRuled, PutsValue};
 ghost use Rattle.json_fields.specs.Values.{PutsValues};
 
 use json::{Pretty, Token};
@@ -121,6 +121,19 @@ fn put_handed(alloc: Global, out: &mut Pretty, key: &str, value: &Value) -> Resu
     }
     out.token(Token::Key(key))?;
     put_value(alloc, out, value)
+}
+
+/// Puts the outcome that `[info]` tells, as it stands there.
+pub fn put_ruled(alloc: Global, out: &mut Pretty, info: &Table) -> Result<(), AllocError>
+    ensures { OnOk result (PutsRuled (table_view info.now) out.old out.new) }
+{
+    match info.get("outcome") {
+        Some(outcome) => {
+            out.token(Token::Key("outcome"))?;
+            put_value(alloc, out, outcome)
+        }
+        None => Ok(()),
+    }
 }
 
 /// Puts what `[info]` hands on.

@@ -25,6 +25,8 @@ fn laid_out<B: BookOf>(
     ensures { IfOk result (λ text.
         IsLaidOut (told_apart sheet.now) (table_view document.now) (B.content book.now) (string_bytes text)) }
 {
+    // (what has a score is legal)
+    let _ = book.score();
     let (notes, begun) = notes_of(alloc, sheet.innings(), book)?;
     let named = NamedSheet::new(alloc, sheet)?;
     let mut out = Pretty::new(alloc);

@@ -8,12 +8,12 @@ ghost use Rattle.toml.specs.View.{table_view};
 ghost use Rattle.json_fields.specs.Values.{Field, PutsFields, text_field};
 ghost use Rattle.export.specs.Given.{AreFieldsOf, others};
 ghost use Rattle.export.specs.Value as laws;
-ghost use Rattle.export.specs.Value.{own_field, sheet_fields, title_fields};
-ghost use Rattle.export.specs.inner.Putting.{PutsExport};
+ghost use Rattle.export.specs.Value.{sheet_fields, title_fields};
+ghost use Rattle.export.specs.inner.Putting.{PutsExport, PutsOwn};
 
 use crate::entries::put_entries;
 use crate::fall_values::put_falls;
-use crate::given::info_or;
+use crate::given::{info_or, put_ruled};
 use crate::info::{has_event, put_info};
 use crate::innings::put_all_innings;
 use crate::limited::put_limits;
@@ -94,12 +94,13 @@ fn put_own<B: BookOf>(
 ) -> Result<(), AllocError>
     requires { StandsFor score.now sheet.now.innings (history_of (B.content book.now)) }
     ensures { (given : List Field) → AreFieldsOf (others (table_view info.now)) given
-        → PutsFields result out.old out.new (own_field sheet.now given (B.content book.now) ∷ []) }
+        → OnOk result (PutsOwn sheet.now given (table_view info.now) (B.content book.now) out.old out.new) }
 {
     let falls = falls_at(alloc, book)?;
     begin_field(out, "yermudosh")?;
     put_text(out, "program", "yermudosh 1")?;
     put_sheet(out, sheet, info)?;
+    put_ruled(alloc, out, info)?;
     put_falls(alloc, out, sheet, score, falls.as_slice())?;
     put_entries(alloc, out, book)?;
     end_object(out)

@@ -5,7 +5,7 @@ pub const FRONT: &str = "<!DOCTYPE html>
 <html lang='en'>
 <head>
 <meta charset='utf-8'>
-<meta http-equiv='Content-Security-Policy' content=\"default-src 'none'; img-src data:; base-uri 'none'; form-action 'none'; style-src 'sha256-IlMevs8LbEs0MQ8OJMvzM4i8h5hu/0Wtz78L6c2IcBo='; script-src 'sha256-4vn311CWk1IF3Fc/7hvL6cH+nE2yNynlqmuX6Iyp5lw='\">
+<meta http-equiv='Content-Security-Policy' content=\"default-src 'none'; img-src data:; base-uri 'none'; form-action 'none'; style-src 'sha256-TCCkgUSwh/zI/SkqZDOw1/fnEFIaZu6GxDatJUvlKSA='; script-src 'sha256-O78TTrsIaZE2wKZbbSjJZ7biPblFtweIHYpDo4MGRYo='\">
 <meta name='viewport' content='width=device-width, initial-scale=1'>
 <meta name='referrer' content='no-referrer'>
 <link rel='icon' href='data:,'>
@@ -24,6 +24,8 @@ h3 { font-size: 1.05rem; }
 #facts { color: var(--quiet); margin-top: .25rem; }
 #facts span { display: inline-block; margin-right: 1.2rem; }
 #result { font-size: 1.25rem; font-weight: 700; margin-top: .25rem; }
+#by-laws { color: var(--quiet); }
+#by-laws:empty { display: none; }
 #wrong { border: 3px solid #8b0000; color: #8b0000; font-weight: 700; padding: .5rem; margin-top: .5rem; }
 .name { white-space: pre; }
 .unseen { position: absolute; width: 1px; height: 1px; overflow: hidden; clip-path: inset(50%); white-space: nowrap; }
@@ -121,6 +123,7 @@ code { font: inherit; font-family: 'DejaVu Sans Mono', 'Liberation Mono', Menlo,
 <h1 id='title'>A match</h1>
 <p id='facts'></p>
 <p id='result'></p>
+<p id='by-laws'></p>
 <p id='wrong' role='alert' hidden></p>
 <noscript><p>This page is made by its own script from the book's value, which stands in it as JSON. Scripts are switched off here.</p></noscript>
 </header>
@@ -613,15 +616,25 @@ function titleOfMatch() {
   const [number] = texts(under(event, 'match_number'));
   return [name || 'A match', ...parts, ...(number ? ['match ' + number] : [])].join(', ');
 }
-function result() {
-  const outcome = match.info.outcome;
-  if (outcome === undefined) return 'No result yet';
-  if (outcome.result) return { draw: 'Match drawn', tie: 'Match tied', 'no result': 'No result' }[outcome.result];
-  const { runs, wickets, innings } = outcome.by || {};
-  if (innings) return outcome.winner + ' won by an innings and ' + counted(runs, 'run');
-  if (runs !== undefined) return outcome.winner + ' won by ' + counted(runs, 'run');
-  if (wickets !== undefined) return outcome.winner + ' won by ' + counted(wickets, 'wicket');
-  return outcome.winner + ' won by ' + outcome.method;
+// An outcome in words, which the sheet may tell as it likes. One that says neither a winner nor a result has none.
+const RESULTS = { draw: 'Match drawn', tie: 'Match tied', 'no result': 'No result' };
+const PENALTY_RUNS = 'penalty runs';
+function inWords(outcome) {
+  const [winner] = texts(under(outcome, 'winner')), [result] = texts(under(outcome, 'result')), [method] = texts(under(outcome, 'method'));
+  if (winner === undefined) return RESULTS[result] || result || '';
+  const by = under(outcome, 'by');
+  const margin = [...(under(by, 'innings') ? ['an innings'] : []),
+    ...['runs', 'wickets'].filter(unit => Number.isInteger(under(by, unit))).map(unit => counted(by[unit], unit.slice(0, -1)))];
+  const how = margin.length > 0 ? margin.join(' and ') : method === PENALTY_RUNS ? method : '';
+  return winner + ' won' + (how ? ' by ' + how : '') + (method && method !== PENALTY_RUNS ? ' (' + method + ')' : '');
+}
+// What the umpires or the league ruled stands first, the Laws' result below it.
+function tellResult() {
+  const laws = inWords(match.info.outcome) || 'No result yet', ruled = inWords(match.yermudosh.outcome);
+  const isOther = ruled !== '' && ruled !== laws;
+  tell('result', isOther ? ruled : laws);
+  if (isOther) tell('by-laws', 'By the Laws: ' + laws);
+  document.title = titleOfMatch() + ': ' + (isOther ? ruled : laws);
 }
 
 function tell(id, text) { document.getElementById(id).textContent = text; }
@@ -631,8 +644,7 @@ function reveal(id) { document.getElementById(id).removeAttribute('hidden'); }
 function showAll() {
   const innings = played(), bowled = innings.filter(it => it.overs.length > 0);
   tell('title', titleOfMatch());
-  tell('result', result());
-  document.title = titleOfMatch() + ': ' + result();
+  tellResult();
   show('facts', ...facts().flatMap(text => [made('span', {}, text), ' ']));
   show('cards', ...innings.map(card));
   if (innings.length === 0) show('cards', made('p', {}, 'No play.'));

@@ -348,6 +348,17 @@ fn print_withheld<W: Sink>(out: &mut Watched<W>, place: u32) -> Result<(), Write
     )
 }
 
+/// Whether the other scorer has written, and the desk's own hasn't.
+fn is_waited_for(own: Option<Entry>, other: Option<Entry>) -> bool
+    ensures { result ≡ texts.is_waited_for own other }
+{
+    if own.is_some() {
+        false
+    } else {
+        other.is_some()
+    }
+}
+
 /// Prints how the match stands, where the desk does, and what is known of the other desk.
 fn print_standing<B: BookOf, W: Sink>(
     out: &mut Watched<W>,
@@ -387,7 +398,7 @@ fn print_asked<B: BookOf, W: Sink>(
 {
     match word {
         Word::Where => {
-            let is_waited_for = both.is_waited_for();
+            let is_waited_for = is_waited_for(both.own, both.other);
             print_standing(out, sheet, both.at, both.own, is_waited_for, warned, book)
         }
         Word::Entries(most) => print_listing(out, book, most),

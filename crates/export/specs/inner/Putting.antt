@@ -8,9 +8,9 @@ use Rattle.json.specs.Json.{Json}
 use Rattle.json.specs.Token.{Token}
 use Rattle.json.specs.Tree.{json_tokens, items_tokens, members_tokens}
 use Rattle.json_fields.specs.Values.{Field, items_of, members_of, fields_tokens, values_tokens}
-use Rattle.export.specs.Given.{IsFloatOf, IsValueOf, AreValuesOf, AreFieldsOf, HandsOn, others}
+use Rattle.export.specs.Given.{IsFloatOf, IsValueOf, AreValuesOf, AreFieldsOf, HandsOn, IsRuled, others, ruled}
 use Rattle.export.specs.Info.{info_field}
-use Rattle.export.specs.Value.{export_of}
+use Rattle.export.specs.Value.{export_of, own_field}
 
 abbrev pub PutsFloat : Float → List Token → List Token → Type 0
 PutsFloat x old new = (v : Json) × IsFloatOf x v × (new ≡ old ++ json_tokens v)
@@ -36,6 +36,16 @@ PutsHanded key d old new = PutsGiven (member key d no_members) old new
 abbrev pub PutsInfo : Sheet → History → Members → List Token → List Token → Type 0
 PutsInfo s h ms old new = (given : List Field) × AreFieldsOf (others ms) given × (new ≡ old ++ fields_tokens (info_field s h ms given ∷ []))
 
+-- the outcome that the table [info] of these members tells, as it stands there
+abbrev pub PutsRuled : Members → List Token → List Token → Type 0
+PutsRuled ms old new = (told : List Field) × AreFieldsOf (ruled ms) told × (new ≡ old ++ fields_tokens told)
+
+-- what the format of archives can't hold
+abbrev pub PutsOwn : Sheet → List Field → Members → List Entry → List Token → List Token → Type 0
+PutsOwn s given ms book old new =
+    (told : List Field) × AreFieldsOf (ruled ms) told × (new ≡ old ++ fields_tokens (own_field s given told book ∷ []))
+
 abbrev pub PutsExport : Sheet → List Entry → Members → List Token → List Token → Type 0
 PutsExport s book document old new =
-    (given : List Field) × HandsOn document given × (new ≡ old ++ values_tokens (export_of s document given book ∷ []))
+    (given : List Field) × HandsOn document given × (told : List Field) × IsRuled document told
+    × (new ≡ old ++ values_tokens (export_of s document given told book ∷ []))
