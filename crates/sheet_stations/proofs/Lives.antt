@@ -55,9 +55,9 @@ disks_of disk = record { faults = faults_of; FitsLongest = FitsLongest (room ver
 -- what is so by a sheet is so in the match of which that is
 in_match : (P : ℕ → ℕ → Type 0) (sheet : Sheet) (game innings : ℕ) → IsOfMatch game innings sheet → P sheet.game sheet.innings → P game innings
 in_match P sheet game innings of p =
-    subst (λ (i : ℕ). P game i) of.innings (subst (λ (g : ℕ). P g sheet.innings) of.game p)
+    subst (λ (i : ℕ). P game i) of.same_innings (subst (λ (g : ℕ). P g sheet.innings) of.same_game p)
 
-module _ {desk : DeskId} where
+module _ (desk : DeskId) where
   abbrev LifeAt : ℕ → ℕ → Node DeskDisk → List (Stage DeskDisk) → Type 0
   LifeAt game innings x stages = IsLife (views desk game) file_of faults_of desk game innings x stages
 
@@ -70,7 +70,7 @@ module _ {desk : DeskId} where
   )
 
   -- one process, by how it began and what followed
-  module _ (sheet : Sheet) (disk : DeskDisk) {before after : Logs} {turns : ℕ} {result : Result (Unit {0}) LifeEnd} (n : ℕ) (x : Node DeskDisk) (new : x.version ≡ New) where
+  module _ (sheet : Sheet) (disk : DeskDisk) (before after : Logs) (turns : ℕ) (result : Result (Unit {0}) LifeEnd) (n : ℕ) (x : Node DeskDisk) (new : x.version ≡ New) where
     abbrev Begins : Opening DeskDisk → Type 0
     Begins opening = BeginsOn (views desk sheet.game New) file_of sheet.innings desk disk opening
 
@@ -115,7 +115,7 @@ module _ {desk : DeskId} where
     lived l of x new votes down =
         let lives = l.process.kept.lives.lives in
         in_match (λ g i. LifeAt g i x (stages_of (Lived l))) (sheet_of l) game innings of
-        (process (sheet_of l) (disk_of l) l.unmade x new votes down lives.opening lives.begins lives.follows)
+        (process (sheet_of l) (disk_of l) _ _ _ _ l.unmade x new votes down lives.opening lives.begins lives.follows)
 
     pub lived_first : (l : LifeOfDesk desk) → IsOfMatch game innings (sheet_of l) → (x : Node DeskDisk) → x.version ≡ New → (k : DeskState DeskDisk) → x.process ≡ Running k
         → OpensFirst k (opening_of l)
@@ -123,7 +123,7 @@ module _ {desk : DeskId} where
     lived_first l of x new k up opens =
         let lives = l.process.kept.lives.lives in
         in_match (λ g i. LifeAt g i x (CallsMade (sheet_of l) k (calls_of l) ∷ []) × BeginsFirst (views desk g New) file_of i desk k) (sheet_of l) game innings of
-        (first (sheet_of l) (disk_of l) l.unmade x new k up lives.opening lives.begins lives.follows opens)
+        (first (sheet_of l) (disk_of l) _ _ _ _ l.unmade x new k up lives.opening lives.begins lives.follows opens)
 
     next : (x : Node DeskDisk) (y : Next desk) → x.version ≡ New → MayFollow (views desk game New) game innings x y → LifeAt game innings x (stages_of y)
     next x (Lived l) new may = lived l may.0 x new may.1 may.2
@@ -142,15 +142,15 @@ module _ {desk : DeskId} where
     keeps_version x (LostPower disk) = refl
 
     -- the lives of a desk that follow one another
-    pub followed : (x : Node DeskDisk) (first : List (Stage DeskDisk)) (ys : List (Next desk)) → (after_life x first).version ≡ New → LifeAt game innings x first
-        → AllFollow (views desk game New) game innings x first ys
-        → LifeAt game innings x (stages_after first ys) × ((after_life x (stages_after first ys)).version ≡ New)
-    followed x first [] new lives follow = (lives, new)
-    followed x first (y ∷ ys) new lives follow =
-        let before = followed x first ys new lives follow.0 in
-        let z = after_life x (stages_after first ys) in (
-          life_joined game innings x (stages_of y) (stages_after first ys) before.0 (next z y before.1 follow.1),
-          ap (λ (n : Node DeskDisk). n.version) (after_joined x (stages_of y) (stages_after first ys)) ∙ keeps_version z y ∙ before.1,
+    pub followed : (x : Node DeskDisk) (made : List (Stage DeskDisk)) (ys : List (Next desk)) → (after_life x made).version ≡ New → LifeAt game innings x made
+        → AllFollow (views desk game New) game innings x made ys
+        → LifeAt game innings x (stages_after made ys) × ((after_life x (stages_after made ys)).version ≡ New)
+    followed x made [] new lives follow = (lives, new)
+    followed x made (y ∷ ys) new lives follow =
+        let before = followed x made ys new lives follow.0 in
+        let z = after_life x (stages_after made ys) in (
+          life_joined game innings x (stages_of y) (stages_after made ys) before.0 (next z y before.1 follow.1),
+          ap (λ (n : Node DeskDisk). n.version) (after_joined x (stages_of y) (stages_after made ys)) ∙ keeps_version z y ∙ before.1,
         )
 
 -- a life of a board
@@ -166,8 +166,8 @@ lived_board game innings b of =
       elim lives.shows_first [ inl is ↦ inl is | inr none ↦ inr none.0 ],
       run_drop _ _ b.unmade moments lives.runs.goes.goes.run,
     ) in
-    subst (λ (g : ℕ). Lives g innings fresh_board) (fresh.game ∙ of.game)
-    (subst (λ (i : ℕ). Lives (board.game_of b.kept.begun) i fresh_board) (fresh.innings ∙ of.innings)
+    subst (λ (g : ℕ). Lives g innings fresh_board) (fresh.game ∙ of.same_game)
+    (subst (λ (i : ℕ). Lives (board.game_of b.kept.begun) i fresh_board) (fresh.innings ∙ of.same_innings)
     (subst (λ (k : BoardState). Lives (board.game_of b.kept.begun) (innings_in (board.book_of b.kept.begun)) k) fresh.state begun))
 
 pub lived_boards : (game innings : ℕ) (bs : List LifeOfBoard) → All (λ (b : LifeOfBoard). IsOfMatch game innings (board_sheet b)) bs → IsBoardLife game innings (map board_process bs)

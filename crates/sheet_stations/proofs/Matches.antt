@@ -38,8 +38,8 @@ module _ (m : Match) where
       let d = m.desks desk in
       let x = node (start_of m) desk in
       let new : x.version ≡ New = ap (λ (n : Node DeskDisk). n.version) (at_start desk) in
-      let first = lived_first m.game m.innings d.first are.first x new d.begun (ap (λ (n : Node DeskDisk). n.process) (at_start desk)) are.opens in
-      ((followed m.game m.innings x _ d.later new first.0 are.follow).0, first.1)
+      let first = lived_first desk m.game m.innings d.first are.first x new d.begun (ap (λ (n : Node DeskDisk). n.process) (at_start desk)) are.opens in
+      ((followed desk m.game m.innings x _ d.later new first.0 are.follow).0, first.1)
 
   module _ (hs : List (Happening DeskDisk)) (w : IsWoven m hs) where
     board_none : (n : ℕ) → board_at (start_of m).boards n ≡ None → filter (is_at_board n) hs ≡ []

@@ -69,8 +69,8 @@ all_stages d = stages_after (CallsMade (sheet_of d.first) d.begun (calls_of d.fi
 
 -- the sheet is of this match
 pub record IsOfMatch (game innings : ℕ) (sheet : Sheet) : Type 0 where
-  pub game : sheet.game ≡ game
-  pub innings : sheet.innings ≡ innings
+  pub same_game : sheet.game ≡ game
+  pub same_innings : sheet.innings ≡ innings
 
 -- the first life opened the desk, on a file without votes
 abbrev pub OpensFirst : DeskState DeskDisk → Opening DeskDisk → Type 0
