@@ -42,14 +42,14 @@ def filled(names):
 
 
 def chosen(form):
-    """What is to stand in the sheet, by its keys: texts, and lists of them."""
-    text = lambda name: str(form.get(name, "")).strip()
-    side = lambda name: (text(name), filled(players(str(form.get(f"{name}_players", "")))))
-    found = {"number": str(form["number"]), "innings": text("innings") or "1", **{it: side(it) for it in SIDES}}
+    """What is to stand in the sheet, by its keys: texts, and lists of them. A form has texts alone, and free hits or none."""
+    text = lambda name: form.get(name, "").strip()
+    side = lambda name: (text(name), filled(players(form.get(f"{name}_players", ""))))
+    found = {"number": form["number"], "innings": text("innings") or "1", **{it: side(it) for it in SIDES}}
     found["title"] = text("title") or f"{found['home'][0]} v {found['away'][0]}"
     limits = {it: text(it) for it in ("overs", "overs_a_bowler") if text(it)}
     found["toss"] = tossed(found, text("toss_winner"), text("toss_decision"))
-    return found | {"limits": limits | ({"free_hits": "true"} if form.get("free_hits") is True else {})}
+    return found | {"limits": limits | {False: {}, True: {"free_hits": "true"}}[form.get("free_hits", False)]}
 
 
 def tossed(found, winner, decision):
