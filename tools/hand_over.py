@@ -1,11 +1,12 @@
 """Hands a match over to a second laptop, for its desk B: sheet, key, and where desk A and the board are, sealed under a code (sealed.py).
 
-usage: python3 tools/hand_over.py give HOST PORT DESK-A BOARD
-       python3 tools/hand_over.py take PROGRAM PORT
+usage: python3 tools/hand_over.py give HOST PORT DESK-A BOARD [late]
+       python3 tools/hand_over.py take PROGRAM PORT [INVITE]
 
 `give` makes a code, which is good for one laptop and ten minutes, and tells what becomes of it, a line each. `take`, at the other laptop, asks
 its user for address and code. Both write other.txt, which says where the other laptop's stations are. Until both have all, neither
-has changed anything. A wrong try costs its own address one of ten. Who sends too much, or too slowly, isn't heard.
+has changed anything. Once both have the match, `late` and the address INVITE, which is the first laptop's, stand for a code that both make of
+the match's key: by that the second laptop gets a sheet in which one player has another name, and no other. A wrong try costs its own address one of ten. Who sends too much, or too slowly, isn't heard.
 """
 import json, os, re, secrets, socket, subprocess, sys, threading, time
 
@@ -81,13 +82,19 @@ def say(text):
 # The first laptop
 
 
+def late_code():
+    """The code of who has the match's key."""
+    number = int.from_bytes(sealed.made(content("match.key").strip().encode(), b"yermudosh late name")[:10], "big")
+    return "".join(sealed.SIGNS[number >> 5 * at & 31] for at in range(sealed.LENGTH))
+
+
 class Offer:
     """A code, and who tried it."""
 
-    def __init__(self, desk_a, board):
-        self.code = sealed.new_code()
+    def __init__(self, place, desk_a, board, is_late):
+        self.code = late_code() if is_late else sealed.new_code()
         self.secret, self.end = sealed.secret_of(self.code), time.monotonic() + PATIENCE
-        told = json.dumps({"sheet": content("sheet.toml"), "key": content("match.key"), "a": desk_a, "board": board}).encode()
+        told = json.dumps({"sheet": content("sheet.toml"), "key": content("match.key"), "a": desk_a, "board": board, "invite": place}).encode()
         self.told = told.ljust((len(told) // STEP + 1) * STEP)
         self.lock, self.wrong, self.going, self.is_over = threading.Lock(), {}, {}, False
 
@@ -162,8 +169,8 @@ class Offer:
         return False
 
 
-def give(host, port, desk_a, board):
-    offer = Offer(desk_a, board)
+def give(host, port, desk_a, board, late=""):
+    offer = Offer(f"{host}:{port}", desk_a, board, late)
     with socket.create_server((host, int(port)), backlog=64) as door:
         say(f"code {host}{'' if port == '8003' else ':' + port} {offer.code}")
         door.settimeout(0.2)
@@ -204,8 +211,8 @@ def connected(host, port):
                       f"old? A firewall there: sudo ufw allow {port}/tcp. A network for guests may keep them apart: use a hotspot") from None
 
 
-def taken(it, code, port, program):
-    """Takes what the first laptop gives. It is put in its place once both have all."""
+def taken(it, code, port, program, is_late=False):
+    """Takes what the first laptop gives. It is put in its place once both have all. It answers what is new in a late sheet."""
     end = time.monotonic() + TURN
     mine, hello = secrets.token_bytes(sealed.NONCE), received(it, len(HELLO) + sealed.NONCE, end)
     if not hello.startswith(HELLO):
@@ -218,23 +225,42 @@ def taken(it, code, port, program):
     if told is None:
         raise EOFError
     keep(json.loads(told), own, program)
+    news = late_name(program) if is_late else None
     send_frame(it, ours.seal(1, b"have"))
     if theirs.open(1, received_frame(it, SMALL, end)) != b"go":
         raise EOFError
     for name in ("match.key", "other.txt", "sheet.toml"):
         rename(name)
+    return news
+
+
+def late_name(program):
+    """The one name that the new sheet has instead of another, in words."""
+    before, after = ([it for it in printed(program, name).split("\n")] for name in ("sheet.toml", "sheet.toml.new"))
+    changed = [at for at, (one, other) in enumerate(zip(before, after)) if one != other]
+    if len(before) != len(after) or len(changed) != 1:
+        raise Refused("the first laptop's sheet differs in more than a name: quit, and start b by a new code of invite")
+    [number, name], [was, old] = after[changed[0]].split(" ", 1), before[changed[0]].split(" ", 1)
+    if number != was or not number.isdigit():
+        raise Refused("the first laptop's sheet differs in more than a name: quit, and start b by a new code of invite")
+    side = [it.split(" ", 1)[0] for it in after[: changed[0]] if it.startswith(("home ", "away "))][-1]
+    return f"{side} player {number} is {name}, and was {old}"
+
+
+def printed(program, path):
+    return subprocess.run([program, "sheet", "--sheet", path], capture_output=True, text=True).stdout
 
 
 def keep(match, own, program):
     """Writes what was given beside what is there: the program must take the sheet, and a match that is here must be the same."""
-    if not (is_place(match["a"]) and is_place(match["board"]) and match["key"].isascii()):
+    if not (is_place(match["a"]) and is_place(match["board"]) and is_place(match["invite"]) and match["key"].isascii()):
         raise Refused("the first laptop gave no addresses")
     if os.path.exists("match.key") and content("match.key") != match["key"]:
         raise Refused("this folder has another match: make a new one (mkdir cup2 && cd cup2), and start b there")
     try:
         write("sheet.toml.new", match["sheet"])
         write("match.key.new", match["key"], 0o600)
-        write("other.txt.new", f"own {own}\na {match['a']}\nboard {match['board']}\n")
+        write("other.txt.new", f"own {own}\na {match['a']}\nboard {match['board']}\ninvite {match['invite']}\n")
     except OSError as why:
         raise Refused(f"nothing can be written here ({why.strerror}): make room, and start b again; the code is still good") from None
     found = subprocess.run([program, "sheet", "--sheet", "sheet.toml.new"], capture_output=True, text=True)
@@ -242,11 +268,13 @@ def keep(match, own, program):
         raise Refused(found.stdout + found.stderr)
 
 
-def take(program, port):
+def take(program, port, invite=None):
     try:
-        host, there, code = asked_for()
-        with connected(host, there) as it:
-            taken(it, code, port, program)
+        host, there, code = (*invite.split(":"), late_code()) if invite else asked_for()
+        with connected(host, int(there)) as it:
+            news = taken(it, code, port, program, invite is not None)
+        if news:
+            say(news)
     except (EOFError, OSError, ValueError, KeyError):
         raise Refused("not taken: the code is wrong, used or old, or something on the way altered it; type invite at the first laptop for a new one") from None
 

@@ -1,31 +1,30 @@
-"""Serves the lobby of a match in the current folder: a page on which it is made, and which later shows the squares and who is connected.
+"""Serves the lobby of a match in the current folder: a page on which it is made, and which later shows the squares and who is connected, takes
+the toss and late names, and has each scorer agree to those.
 
 usage: python3 tools/lobby.py PROGRAM HOST PORT [STATE]
 
 The page gets its words by a code, 32 hex digits of LOBBY_CODE, which stand behind `#` in its link: without the code nobody reads or writes
 anything here (sealed.py). What may be a sheet the program alone says (`sheet`). Without STATE it ends once sheet.toml is written, which
-it does once. With STATE, a file of a name and a value a line, it shows that, and prints `page a` and `page b` where they are asked for.
+it does once. With STATE, a file of a name and a value a line, it shows that, and prints what is asked for there, a line each: `page a`,
+`name home 7 Khan`, `toss home bat`. For a late name STATE has a code for each scorer too. Who has that of A sees the name, the answers and A's
+next link alone, and has `agree a 1` or `refuse a 1` printed, 1 being the name's number.
 """
 import glob, http.server, json, os, re, secrets, socket, subprocess, sys, tempfile, threading, time
 
 sys.dont_write_bytecode = True
-import sealed, squares
+import lobby_match, sealed, squares, toss
 
 HERE = os.path.dirname(os.path.realpath(__file__))
 LARGE, SECONDS, SESSIONS, SHEETS = 1 << 16, 10, 4096, 60
 AT_ONCE, OF_ONE = 64, 8  # connections at once, and those of one address
-SIDES = ("home", "away")
-
-
-def content(path):
-    with open(path, encoding="utf-8", errors="replace") as it:
-        return it.read(1 << 18)
+SIDES, BEGUN = toss.SIDES, lobby_match.BEGUN
+OTHERWISE = "sheet: the program reads something else than what stands here: take plainer letters"
 
 
 def scripts():
     """The scorer's page's own script for tags."""
     page = next(it for it in (f"{HERE}/../examples/desk.html", f"{HERE}/../../share/yermudosh/examples/desk.html") if os.path.exists(it))
-    text = content(page)
+    text = lobby_match.text_of(page)
     return text[text.index("// ---- Tags and keystreams") : text.index("// The bytes of 32 hex digits")]
 
 
@@ -43,33 +42,37 @@ def filled(names):
 
 
 def chosen(form):
-    """What is to stand in the sheet, by its keys: texts, and lists of them."""
-    text = lambda name: str(form.get(name, "")).strip()
-    side = lambda name: (text(name), filled(players(str(form.get(f"{name}_players", "")))))
-    found = {"number": str(form["number"]), "innings": text("innings") or "1", **{it: side(it) for it in SIDES}}
+    """What is to stand in the sheet, by its keys: texts, and lists of them. A form has texts alone, and free hits or none."""
+    text = lambda name: form.get(name, "").strip()
+    side = lambda name: (text(name), filled(players(form.get(f"{name}_players", ""))))
+    found = {"number": form["number"], "innings": text("innings") or "1", **{it: side(it) for it in SIDES}}
     found["title"] = text("title") or f"{found['home'][0]} v {found['away'][0]}"
     limits = {it: text(it) for it in ("overs", "overs_a_bowler") if text(it)}
-    return found | {"limits": limits | ({"free_hits": "true"} if form.get("free_hits") is True else {})}
+    found["toss"] = tossed(found, text("toss_winner"), text("toss_decision"))
+    return found | {"limits": limits | {False: {}, True: {"free_hits": "true"}}[form.get("free_hits", False)]}
 
 
-def quoted(text):
-    return json.dumps(text, ensure_ascii=False)
+def tossed(found, winner, decision):
+    """The toss as an export has it; nothing where none is said."""
+    return {"winner": found[winner][0] if winner in SIDES else winner, "decision": decision} if winner or decision else None
 
 
 def valued(text):
     """A number as it is, or else a text, so that the program says what is wrong with it."""
     if text == "true":
         return text
-    return str(int(text)) if re.fullmatch(r"[0-9]{1,18}", text) else quoted(text)
+    return str(int(text)) if re.fullmatch(r"[0-9]{1,18}", text) else toss.quoted(text)
 
 
 def sheet_of(it):
+    quoted = toss.quoted
     rows = [f"title = {quoted(it['title'])}", f"number = {valued(it['number'])}", f"innings = {valued(it['innings'])}"]
     for side in SIDES:
         name, names = it[side]
         rows += ["", f"[{side}]", f"name = {quoted(name)}", "players = [", *(f"    {quoted(one)}," for one in names), "]"]
     limits = [f"{key} = {valued(value)}" for key, value in it["limits"].items()]
-    return "\n".join(rows + (["", "[limits]", *limits] if limits else [])) + "\n"
+    info = ["", "[info]", toss.row_of(**it["toss"])] if it["toss"] else []
+    return "\n".join(rows + (["", "[limits]", *limits] if limits else []) + info) + "\n"
 
 
 def reading_of(it):
@@ -96,9 +99,17 @@ def checked(program, form):
         with open(path, "w", encoding="utf-8", errors="replace") as file:
             file.write(text)
         found, faults = read(program, path)
-    if not faults and found != reading_of(it):
-        faults = ["sheet: the program reads something else than what stands here: take plainer letters"]
-    return text, faults
+        if not faults and (found, toss.read(program, path)) != (reading_of(it), it["toss"]):
+            faults = [OTHERWISE]
+    return text, faults or faults_of_toss(it)
+
+
+def faults_of_toss(it):
+    """What is wrong with a toss, of which the program checks nothing."""
+    said = it["toss"]
+    if not said or said["winner"] in [it[side][0] for side in SIDES] and said["decision"] in toss.DECISIONS:
+        return []
+    return ["toss: say both who won it, and what they chose"]
 
 
 def last_sides(program):
@@ -119,36 +130,45 @@ def last_sides(program):
 
 
 class Lobby:
-    def __init__(self, program, code, state):
-        self.program, self.state, self.number = program, state, time.strftime("%Y%m%d%H%M")
+    def __init__(self, program, place, code, state):
+        self.program, self.number = program, time.strftime("%Y%m%d%H%M")
+        self.match = lobby_match.Match(program, place, state) if state else None
         self.code, self.nonce, self.lock, self.newest = bytes.fromhex(code), secrets.token_bytes(16), threading.Lock(), {}
         self.starter, self.is_begun = None, threading.Event()  # the thread that began the match, and whether its page was told
-        self.page = content(f"{HERE}/lobby.html").replace("// TAGS\n", scripts()).encode()
+        self.page = lobby_match.text_of(f"{HERE}/lobby.html").replace("// TAGS\n", scripts()).encode()
+
+    def opened(self, session, number, frame):
+        """Whose code a frame was made with, what it says, and who answers; nothing where it is nobody's."""
+        for who, code in {"": self.code, **(self.match.codes() if self.match else {})}.items():
+            ours, theirs = sealed.both(code, self.nonce + session)
+            asked = theirs.open(number, frame)
+            if asked is not None:
+                return who, json.loads(asked), ours
+        return None
 
     def said(self, body):
-        """The answer to a frame: nothing where it wasn't made with the code, or was said before."""
-        session, number, frame = body[:16], int.from_bytes(body[16:24], "big"), body[24:]
-        ours, theirs = sealed.both(self.code, self.nonce + session)
-        asked = theirs.open(number, frame)
-        if asked is None:
+        """The answer to a frame: nothing where it wasn't made with a code, or was said before."""
+        session, number = body[:16], int.from_bytes(body[16:24], "big")
+        found = self.opened(session, number, body[24:])
+        if not found:
             return None
+        who, asked, ours = found
         with self.lock:
             if number <= self.newest.get(session, 0) or len(self.newest) >= SESSIONS and session not in self.newest:
                 return None
             self.newest[session] = number
-        return ours.seal(number, json.dumps(self.answer(json.loads(asked))).encode())
+        answer = self.match.answer(asked, who) if self.match else self.answer(asked)
+        return ours.seal(number, json.dumps(answer).encode())
 
     def answer(self, asked):
+        """The answer before the match is begun."""
         does = asked.get("do")
         if does == "state":
-            return self.shown()
-        if does == "page" and self.state and asked.get("desk") in ("a", "b"):
-            print(f"page {asked['desk']}", flush=True)
-            return {}
-        if self.state or does not in ("sides", "check", "start"):
-            return {"faults": ["the match is begun already: nothing was changed"]}
+            return {"begun": os.path.exists("sheet.toml")}
         if does == "sides":
             return {"sides": last_sides(self.program)}
+        if does not in ("check", "start"):
+            return {"faults": ["the match isn't begun yet"]}
         text, faults = checked(self.program, {**asked.get("form", {}), "number": self.number})
         return self.start(text) if does == "start" and not faults else {"faults": faults}
 
@@ -156,7 +176,7 @@ class Lobby:
         """Writes the sheet, where none is there."""
         with self.lock:
             if self.starter:
-                return {"faults": ["the match is begun already: nothing was changed"]}
+                return BEGUN
             try:
                 with open("sheet.toml.new", "w", encoding="utf-8") as file:
                     file.write(text)
@@ -164,7 +184,7 @@ class Lobby:
                     os.fsync(file.fileno())
                 os.link("sheet.toml.new", "sheet.toml")
             except FileExistsError:
-                return {"faults": ["the match is begun already: nothing was changed"]}
+                return BEGUN
             except OSError as why:
                 return {"faults": [f"sheet.toml can't be written: {why.strerror}"]}
             finally:
@@ -172,14 +192,6 @@ class Lobby:
                     os.remove("sheet.toml.new")
             self.starter = threading.get_ident()
             return {"begun": True}
-
-    def shown(self):
-        """What is known of the stations, with a square for each link."""
-        if not self.state:
-            return {"begun": os.path.exists("sheet.toml")}
-        told = dict(it.split(" ", 1) for it in content(self.state).split("\n") if " " in it)
-        links = {it: told[f"link_{it}"] for it in ("a", "b", "1") if told.get(f"link_{it}")}
-        return {"begun": True, "told": told, "links": links, "squares": {it: ["".join(map(str, row)) for row in squares.modules(link)] for it, link in links.items()}}
 
 
 class Handler(http.server.BaseHTTPRequestHandler):
@@ -212,7 +224,7 @@ class Handler(http.server.BaseHTTPRequestHandler):
             return self.give(404, b"nothing is here")
         try:
             found = self.lobby.said(bytes.fromhex(self.rfile.read(int(length)).decode("ascii")))
-        except (ValueError, AttributeError, KeyError, OSError, subprocess.SubprocessError):
+        except (ValueError, AttributeError, KeyError, TypeError, OSError, subprocess.SubprocessError):
             found = None
         try:
             self.give(200, found.hex().encode()) if found else self.give(403, b"the link is another's, or old")
@@ -264,7 +276,7 @@ class Server(http.server.ThreadingHTTPServer):
 
 def main(program, host, port, state=None):
     sys.stdout.reconfigure(encoding="utf-8")
-    Handler.lobby = Lobby(program, os.environ["LOBBY_CODE"], state)
+    Handler.lobby = Lobby(program, f"{host}:{port}", os.environ["LOBBY_CODE"], state)
     with Server((host, int(port)), Handler) as server:
         link = f"http://{host}:{port}/#{os.environ['LOBBY_CODE']}"
         print(f"{squares.printed(link)}\n{link}", flush=True)

@@ -1,4 +1,7 @@
-"""A square for a telephone's camera: a QR code of version 4, level L and mask 0 (ISO/IEC 18004), as the program draws its own."""
+"""A square for a telephone's camera: a QR code of version 4, level L and mask 0 (ISO/IEC 18004), as the program draws its own. Run, it prints that
+of the text of its standard input."""
+import sys
+
 SIDE, DATA, CHECK, MARGIN = 33, 80, 20, 4
 FORMAT = "111011111000100"  # of level L and mask 0, from the standard's table
 BLOCKS = [" ", "▀", "▄", "\x1b[48;5;16m \x1b[48;5;231m"]
@@ -89,3 +92,8 @@ def printed(text: str) -> str:
     rows = 2 * [empty] + wide + 3 * [empty]
     pairs = [zip(rows[at], rows[at + 1]) for at in range(0, len(rows) - 1, 2)]
     return "\n".join(BEFORE + "".join(BLOCKS[upper + 2 * lower] for upper, lower in pair) + BEHIND for pair in pairs)
+
+
+if __name__ == "__main__":
+    sys.stdout.reconfigure(encoding="utf-8")
+    print(printed(sys.stdin.read()))
