@@ -7,10 +7,11 @@ import { all_matches, put_match } from "./database.mjs";
 import { Unfit } from "./description.mjs";
 import { Joining, capital } from "./joining.mjs";
 import { begin_making, keep_match } from "./making.mjs";
-import { Playing, called, is_desk } from "./playing.mjs";
+import { Playing } from "./playing.mjs";
 import { program_at } from "./program.mjs";
 import { keep_app, release, take_release, watch_releases } from "./release.mjs";
 import { read_sheet } from "./sheet.mjs";
+import { called, is_desk } from "./words.mjs";
 
 /** @typedef {import("./database.mjs").Match} Match */
 
@@ -18,6 +19,7 @@ const CODES = new BroadcastChannel("codes");
 const WAIT = 700;
 const QUERY = new URLSearchParams(location.search);
 const VIEWS = ["home", "making"];
+const BY_HAND = "Point the tablet's own camera app at the square: it opens this app with the code. Or paste the code here.";
 
 /** @type {WebAssembly.Module} */
 let module;
@@ -227,6 +229,19 @@ async function try_joining(text) {
 
 // ---- What is pressed
 
+/** The place where a code is pasted before a match is open. */
+function show_joining() {
+  show_view("joining");
+  at("panel").hidden = at("codes").hidden = false;
+  at("file").hidden = at("shown-code").hidden = at("fingerprints").hidden = true;
+  at("panel-heading").textContent = "Join a match";
+  put_if("take-step", "Take the code that the other tablet shows.");
+  put_if("by-camera", BY_HAND);
+  at("taking").hidden = false;
+  at("take-code").onclick = () => try_joining(field("paste").value);
+  field("paste").focus();
+}
+
 function press() {
   at("make").onclick = () => {
     show_view("making");
@@ -235,22 +250,13 @@ function press() {
       show_codes();
     });
   };
-  at("join").onclick = () => {
-    show_view("home");
-    at("panel").hidden = at("codes").hidden = false;
-    at("file").hidden = at("shown-code").hidden = at("fingerprints").hidden = true;
-    at("panel-heading").textContent = "Join a match";
-    put_if("take-step", "Take the code that the other tablet shows.");
-    at("taking").hidden = false;
-    put_if("by-camera", "Point the tablet's own camera app at the square: it opens this app with the code. Or paste the code here.");
-    at("take-code").onclick = () => try_joining(field("paste").value);
-    field("paste").focus();
-  };
+  at("join").onclick = show_joining;
   at("leave-making").onclick = () => show_view("home");
   at("show-codes").onclick = () => show_codes();
   at("show-file").onclick = () => (at("file").hidden || at("panel").hidden ? show_panel("file") : hide_panel());
   at("show-more").onclick = () => location.reload();
-  at("close-panel").onclick = hide_panel;
+  at("close-panel").onclick = () => (playing ? hide_panel() : show_view("home"));
+  at("score").onclick = hide_panel;
   at("save-votes").onclick = () => save_file(".votes");
   at("save-sheet").onclick = () => save_file(".toml");
   at("share-file").hidden = !navigator.canShare?.({ files: [new File(["x"], "a.votes", { type: "application/octet-stream" })] });

@@ -3,7 +3,7 @@
 import { at, element, field, put_if } from "../dom.mjs";
 import { code_in, letters_of_code, match_of, new_offer } from "./code.mjs";
 import { Unfit } from "./description.mjs";
-import { called, is_desk, prints_of } from "./playing.mjs";
+import { called, is_desk, prints_of } from "./words.mjs";
 import { picture_of, square } from "./square.mjs";
 
 /** @typedef {import("./code.mjs").Code} Code */

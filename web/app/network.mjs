@@ -2,12 +2,8 @@
 // The network of a match: its stations are pages, each with a port of its own, joined by links. A datagram has in front the ports that it comes from and goes
 // to. What goes to another station is handed on unopened by the page that both are joined to: so a board that is joined to one desk hears both.
 import { Link } from "./link.mjs";
+import { PORTS } from "./ports.mjs";
 
-/**
- * The ports of the stations.
- * @type {Record<string, number>}
- */
-export const PORTS = { a: 47_101, b: 47_102, 1: 47_103, 2: 47_104 };
 const HEAD = 4;
 
 export class Network {

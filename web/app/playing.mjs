@@ -2,47 +2,15 @@
 // A match that is open: its desk or board runs in this page, which shows the station's own page and joins it to the others.
 import { put_match } from "./database.mjs";
 import { show_page } from "./frame.mjs";
-import { Network, PORTS } from "./network.mjs";
+import { Network } from "./network.mjs";
 import { hold_match } from "./release.mjs";
 import { Station } from "./station.mjs";
+import { is_desk, words_of } from "./words.mjs";
 
 /** @typedef {import("./database.mjs").Match} Match */
 
-const HOME = "127.0.0.1:";
-const SERVE = "127.0.0.1:8001";
 const SECRET = /#([0-9a-f]{32})\b/;
 const ENDED_BY_ITSELF = -2;
-
-/**
- * Whether a station is a desk.
- * @param {string} station
- */
-export const is_desk = station => station === "a" || station === "b";
-
-/**
- * How a station is called.
- * @param {string} station
- */
-export const called = station => (is_desk(station) ? "scorer " + station.toUpperCase() : "board " + station);
-
-/**
- * The program's words for a station.
- * @param {string} station
- */
-export function words_of(station) {
-  const at = (/** @type {string} */ it) => HOME + PORTS[it];
-  const all = ["--sheet", "sheet.toml", "--key", "key.txt", "--at", at(station), "--serve", SERVE];
-  if (!is_desk(station)) return ["board", ...all, "--desk-a", at("a"), "--desk-b", at("b")];
-  return ["desk", ...all, "--desk", station, "--file", station + ".votes", "--other", at(station === "a" ? "b" : "a"), "--board", at("1"), "--board", at("2")];
-}
-
-/**
- * By what the sheet and the key are read to each other: what the desk tells at its start.
- * @param {string} told
- */
-export function prints_of(told) {
-  return ["sheet", "key"].map(name => new RegExp(`^${name} [0-9a-f]{4}-[0-9a-f]{4}\\b`, "m").exec(told)?.[0]).filter(it => it).join(", ");
-}
 
 export class Playing {
   /**
