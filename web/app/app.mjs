@@ -90,7 +90,8 @@ async function list_matches() {
  */
 async function show_storage(is_asked) {
   const persists = is_asked ? await navigator.storage.persist() : await navigator.storage.persisted();
-  put_if("storage", persists ? "The browser keeps what is stored here." : "The browser may throw away what is stored here when it runs out of room: install the app to the home screen, and save the votes file after each innings.");
+  const told = persists ? "The browser keeps what is stored here." : "The browser may throw away what is stored here when it runs out of room: install the app to the home screen, and save the votes file after each innings.";
+  for (const it of ["storage", "storage-here"]) put_if(it, told);
 }
 
 // ---- A match that is open
@@ -107,8 +108,24 @@ function open_match(match) {
   document.title = `${capital(called(match.station))}: ${match.title}`;
   at("who").textContent = capital(called(match.station));
   at("show-file").hidden = !is_desk(match.station);
+  at("full").hidden = is_desk(match.station) || !document.fullscreenEnabled;
   Object.assign(window, { playing, joining });
   show_state();
+}
+
+/**
+ * To whom an open match is joined, in words.
+ * @param {Playing} open
+ */
+function state_of(open) {
+  const { network, station } = open;
+  if (!station.listens) return "The program starts.";
+  const [desk] = open.peers();
+  const joined = open.peers().filter(it => network.has(it)).map(called);
+  if (network.has(desk)) return "Joined to " + joined.join(", ");
+  const is_tried = network.links.get(desk)?.is_tried_again ?? false;
+  const lost = is_tried ? `The way to ${called(desk)} is lost, and tried again by itself.` : `Not joined to ${called(desk)}.`;
+  return (joined.length ? `Joined to ${joined.join(", ")}. ` : "") + lost + (is_desk(open.match.station) ? " What is written here waits." : "");
 }
 
 function show_state() {
@@ -119,13 +136,14 @@ function show_state() {
     put_if("state", "Stopped.");
     return;
   }
-  const [desk] = playing.peers();
-  const is_news = joining.list();
-  const joined = playing.peers().filter(it => playing?.network.has(it));
-  const state = !playing.station.listens ? "The program starts." : joined.length ? "Joined to " + joined.map(called).join(", ") : "Not joined: what is written here waits.";
-  put_if("state", playing.network.has(desk) || !joined.length ? state : state + "; not to " + called(desk));
-  if (is_news) show_panel("codes");
+  put_if("state", state_of(playing));
+  if (joining.list()) {
+    show_panel("codes");
+    playing.match.met = [...joining.met];
+    playing.keep();
+  }
   if (playing.station.restored) put_if("told", "The store was lost by a power cut, and was given back whole.");
+  playing.station.restored = 0;
 }
 
 /** @param {"codes" | "file"} which */
@@ -257,11 +275,15 @@ function press() {
   at("show-more").onclick = () => location.reload();
   at("close-panel").onclick = () => (playing ? hide_panel() : show_view("home"));
   at("score").onclick = hide_panel;
+  at("full").onclick = () => document.documentElement.requestFullscreen().catch(() => undefined);
+  document.addEventListener("fullscreenchange", () => { at("bar").hidden = document.fullscreenElement !== null; });
   at("save-votes").onclick = () => save_file(".votes");
   at("save-sheet").onclick = () => save_file(".toml");
   at("share-file").hidden = !navigator.canShare?.({ files: [new File(["x"], "a.votes", { type: "application/octet-stream" })] });
   at("share-file").onclick = async () => navigator.share({ files: await files_now() }).catch(() => undefined);
   at("take").onclick = async () => { if (!(await take_release())) put_if("told", "A match is open in another page: close that one first."); };
+  // A page that comes back from a browser's memory has stopped its station.
+  addEventListener("pageshow", ({ persisted }) => { if (persisted) location.reload(); });
   // The button that goes back leaves no match.
   addEventListener("hashchange", () => take_address());
   addEventListener("popstate", () => { if (playing) history.pushState(null, ""); });

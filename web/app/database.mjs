@@ -32,6 +32,7 @@ export function opened() {
  * @property {string} key the key's file
  * @property {number} made when, in milliseconds since 1970 began
  * @property {boolean} is_begun whether its desk was begun here before
+ * @property {string[]} met the stations that it was joined to before
  */
 
 /** @returns {Promise<Match[]>} the newest first */

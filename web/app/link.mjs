@@ -84,6 +84,11 @@ export class Link {
     return this.current !== null && this.current.votes.readyState === "open" && this.current.peer.connectionState === "connected";
   }
 
+  /** Whether it is away, and spares are left by which it may come back. */
+  get is_tried_again() {
+    return this.current !== null && !this.stands && (this.spares.length > 0 || this.held.length > 0);
+  }
+
   /** Begins an offer, and answers what a code has of it. */
   async offer() {
     this.offered?.peer.close();

@@ -25,11 +25,11 @@ function show_faults(faults) {
 
 /**
  * Keeps a match of this tablet's, under the name of its store.
- * @param {Omit<import("./database.mjs").Match, "name" | "made" | "is_begun">} it
+ * @param {Omit<import("./database.mjs").Match, "name" | "made" | "is_begun" | "met">} it
  */
 export async function keep_match(it) {
   const name = `match-${await match_of(it.sheet, it.key)}-${it.station}`;
-  const match = { ...it, name, made: Date.now(), is_begun: false };
+  const match = { ...it, name, made: Date.now(), is_begun: false, met: [] };
   await put_match(name, match);
   return match;
 }

@@ -24,10 +24,12 @@ export class Joining {
      */
     this.offers = new Map();
     /**
-     * To whom this page was joined since it was opened.
+     * To whom this match was ever joined, and to whom since this page was opened.
      * @type {Set<string>}
      */
-    this.met = new Set();
+    this.met = new Set(playing.match.met);
+    /** @type {Set<string>} */
+    this.joined = new Set();
     /** @type {string} */
     this.shown_to = "";
     at("copy").onclick = () => navigator.clipboard.writeText(field("code-text").value).then(() => { at("copy").textContent = "Copied"; }, () => field("code-text").select());
@@ -47,13 +49,15 @@ export class Joining {
    * Shows a code by which a station joins: with the sheet and the key where it wasn't joined yet.
    * @param {string} to
    */
-  async invite(to) {
+  async invite(to, is_whole = !this.met.has(to)) {
     const { sheet, key } = this.playing.match;
     const [offer, way] = [new_offer(), await this.playing.network.link(to).offer()];
     this.offers.set(to, offer);
-    const kind = this.met.has(to) || !is_desk(this.own) ? "offer" : "invitation";
+    const kind = is_whole && is_desk(this.own) ? "invitation" : "offer";
     const code = { kind, from: this.own, to, match: await match_of(sheet, key), offer, way, sheet, key };
     this.show(to, await letters_of_code(/** @type {Code} */ (code)), `1. ${capital(called(to))} points a camera at this square, or pastes this code.`, `2. Then take the code that ${called(to)}'s tablet shows.`);
+    at("whole").hidden = kind === "invitation" || !is_desk(this.own);
+    at("whole").onclick = () => this.invite(to, true);
   }
 
   /**
@@ -116,6 +120,7 @@ export class Joining {
     const way = await link.answer(code.way);
     const answer = await letters_of_code({ kind: "answer", from: this.own, to: code.from, match: code.match, offer: code.offer, way });
     this.show(code.from, answer, `${capital(called(code.from))} takes this code: by the camera, or pasted.`, "");
+    at("whole").hidden = true;
   }
 
   /** Looks through the camera until a square is seen. */
@@ -144,16 +149,15 @@ export class Joining {
   list() {
     const { network, station } = this.playing;
     const all = this.playing.peers();
-    const news = all.filter(it => network.has(it) && !this.met.has(it));
-    news.forEach(it => this.met.add(it));
+    const news = all.filter(it => network.has(it) && !this.joined.has(it));
+    news.forEach(it => this.joined.add(it) && this.met.add(it));
     at("joined-to").replaceChildren(...all.filter(it => is_desk(it) || it === "1" || this.met.has("1")).map(it => {
-      const made = element("button", network.has(it) ? `${capital(called(it))}: joined` : `Code for ${called(it)}`);
-      made.disabled = network.has(it);
+      const made = element("button", network.has(it) ? `${capital(called(it))} is joined: new code` : `Code for ${it === "1" && !this.met.has("1") ? "a scoreboard" : called(it)}`);
       made.id = "code-for-" + it;
       made.onclick = () => this.invite(it);
       return made;
     }));
-    at("fingerprints").hidden = prints_of(station.errors) === "" || this.met.size === 0;
+    at("fingerprints").hidden = prints_of(station.errors) === "" || this.joined.size === 0;
     at("prints").textContent = prints_of(station.errors);
     if (this.shown_to && network.has(this.shown_to)) {
       this.shown_to = "";

@@ -55,9 +55,14 @@ export class Playing {
       this.is_shown = true;
       show_page(this.station, this.frame, secret && "#" + secret).catch(() => undefined);
       this.match.is_begun = true;
-      put_match(this.match.name, this.match).catch(() => undefined);
+      this.keep();
     }
     this.on_change();
+  }
+
+  /** Has this tablet remember how far the match is. */
+  keep() {
+    put_match(this.match.name, this.match).catch(() => undefined);
   }
 
   /** Why the station has ended, in words; nothing while it goes on. */
