@@ -75,6 +75,7 @@ export class Joining {
     put_if("take-step", next);
     at("shown-code").hidden = false;
     at("taking").hidden = next === "";
+    at("shown-code").scrollIntoView({ block: "nearest" });
   }
 
   /**

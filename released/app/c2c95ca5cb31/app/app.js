@@ -28,6 +28,15 @@ let playing = null;
 /** @type {Joining | null} */
 let joining = null;
 
+/** Whether what a code has can be packed as all pack it. */
+function can_pack() {
+  try {
+    return Boolean(new CompressionStream("deflate-raw"));
+  } catch {
+    return false;
+  }
+}
+
 /** What this browser lacks, in words. */
 function lacking() {
   if (!isSecureContext) return ["This page must come over https: a browser gives no store to any other."];
@@ -36,7 +45,7 @@ function lacking() {
     ["a service worker, which keeps the app (a private window has none)", "serviceWorker" in navigator],
     ["a private store of files", typeof navigator.storage?.getDirectory === "function"],
     ["a way to another tablet (WebRTC)", typeof RTCPeerConnection === "function"],
-    ["packing (CompressionStream)", typeof CompressionStream === "function"],
+    ["packing (CompressionStream)", can_pack()],
     ["locks", "locks" in navigator],
     ["a database", typeof indexedDB === "object"],
     ["WebAssembly", typeof WebAssembly === "object"],
@@ -66,6 +75,7 @@ function show_view(view) {
 function row_of(match) {
   const [row, name, go, away] = [element("li"), element("span", match.title, "name"), element("button", "Open"), element("button", "Remove")];
   name.append(element("small", `${capital(called(match.station))}, ${new Date(match.made).toLocaleString()}`));
+  go.className = "main";
   go.onclick = () => open_match(match);
   away.setAttribute("aria-label", "Remove " + match.title);
   away.onclick = async () => {

@@ -120,7 +120,8 @@ export class Pool {
         const into = new Uint8Array(count);
         return into.subarray(0, stored(() => handle.read(into, { at })));
       },
-      write: (bytes, at) => stored(() => handle.write(bytes, { at })),
+      // where nothing is written, the file doesn't grow
+      write: (bytes, at) => (bytes.length ? stored(() => handle.write(bytes, { at })) : 0),
       truncate: size => stored(() => handle.truncate(size)),
       sync: () => {
         stored(() => handle.flush());
