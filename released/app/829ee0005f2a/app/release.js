@@ -21,9 +21,23 @@ async function told_worker(what) {
   });
 }
 
+/**
+ * Waits until the app is kept, where it wasn't; a network that fails amid that leaves nothing kept.
+ * @param {ServiceWorkerRegistration} found
+ */
+async function kept_whole({ active, installing }) {
+  if (active || !installing) return;
+  await new Promise((resolve, reject) => {
+    installing.onstatechange = () => {
+      if (installing.state === "redundant") reject(new Error("not all of it came: open this page again in a network"));
+      if (installing.state === "activated") resolve(null);
+    };
+  });
+}
+
 /** Has the app be kept. It answers whether the page is loaded anew, so that it may share memory with its worker. */
 export async function keep_app() {
-  await navigator.serviceWorker.register("sw.js");
+  await kept_whole(await navigator.serviceWorker.register("sw.js"));
   await navigator.serviceWorker.ready;
   if (self.crossOriginIsolated || sessionStorage.getItem(RELOADED)) return false;
   if (!navigator.serviceWorker.controller) await new Promise(resolve => { navigator.serviceWorker.oncontrollerchange = resolve; });
