@@ -8,6 +8,7 @@ import { Unfit } from "./description.js";
 import { Joining, capital } from "./joining.js";
 import { begin_making, keep_match } from "./making.js";
 import { Playing } from "./playing.js";
+import { files_in } from "./pool.js";
 import { program_at } from "./program.js";
 import { keep_app, release, take_release, watch_releases } from "./release.js";
 import { read_sheet } from "./sheet.js";
@@ -73,7 +74,7 @@ function show_view(view) {
 
 /** @param {Match} match */
 function row_of(match) {
-  const [row, name, go, away] = [element("li"), element("span", match.title, "name"), element("button", "Open"), element("button", "Remove")];
+  const [row, name, go, away, hand] = [element("li"), element("span", match.title, "name"), element("button", "Open"), element("button", "Remove"), element("button", "Votes file")];
   name.append(element("small", `${capital(called(match.station))}, ${new Date(match.made).toLocaleString()}`));
   go.className = "main";
   go.onclick = () => open_match(match);
@@ -84,7 +85,10 @@ function row_of(match) {
     await (await navigator.storage.getDirectory()).removeEntry(match.name, { recursive: true }).catch(() => undefined);
     await list_matches();
   };
-  row.append(name, go, away);
+  hand.setAttribute("aria-label", "Save the votes file of " + match.title);
+  hand.hidden = !is_desk(match.station);
+  hand.onclick = () => save_file(match, ".votes");
+  row.append(name, go, hand, away);
   return row;
 }
 
@@ -178,18 +182,23 @@ function hide_panel() {
   at("panel").hidden = true;
 }
 
-/** The files that are handed out, by the names that the program gives them. */
-async function files_now() {
-  if (!playing) return [];
-  const { match, station } = playing;
-  const votes = await station.votes();
+/**
+ * The files of a match that are handed out, by the names that the program gives them.
+ * @param {Match} match
+ */
+async function files_of(match) {
+  const name = match.station + ".votes";
+  const votes = (await playing?.station.votes()) ?? (await files_in(match.name).catch(() => null))?.["/" + name];
   const sheet = new File([match.sheet], "sheet.toml", { type: "text/plain" });
-  return votes ? [new File([/** @type {any} */ (votes)], match.station + ".votes", { type: "application/octet-stream" }), sheet] : [sheet];
+  return votes ? [new File([/** @type {any} */ (votes)], name, { type: "application/octet-stream" }), sheet] : [sheet];
 }
 
-/** @param {string} name */
-async function save_file(name) {
-  const found = (await files_now()).find(it => it.name.endsWith(name));
+/**
+ * @param {Match} match
+ * @param {string} end what the file's name ends in
+ */
+async function save_file(match, end) {
+  const found = (await files_of(match)).find(it => it.name.endsWith(end));
   if (found) save(found.name, found);
   else put_if("told", "There is no votes file yet.");
 }
@@ -287,10 +296,10 @@ function press() {
   at("score").onclick = hide_panel;
   at("full").onclick = () => document.documentElement.requestFullscreen().catch(() => undefined);
   document.addEventListener("fullscreenchange", () => { at("bar").hidden = document.fullscreenElement !== null; });
-  at("save-votes").onclick = () => save_file(".votes");
-  at("save-sheet").onclick = () => save_file(".toml");
+  at("save-votes").onclick = () => playing && save_file(playing.match, ".votes");
+  at("save-sheet").onclick = () => playing && save_file(playing.match, ".toml");
   at("share-file").hidden = !navigator.canShare?.({ files: [new File(["x"], "a.votes", { type: "application/octet-stream" })] });
-  at("share-file").onclick = async () => navigator.share({ files: await files_now() }).catch(() => undefined);
+  at("share-file").onclick = async () => playing && navigator.share({ files: await files_of(playing.match) }).catch(() => undefined);
   at("take").onclick = async () => { if (!(await take_release())) put_if("told", "A match is open in another page: close that one first."); };
   // A page that comes back from a browser's memory has stopped its station.
   addEventListener("pageshow", ({ persisted }) => { if (persisted) location.reload(); });

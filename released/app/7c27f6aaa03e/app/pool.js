@@ -218,3 +218,28 @@ export async function open_pool(name) {
   for (let number = 0; number < FILES; number++) handles.push(await opened("file-" + number));
   return new Pool(names, handles);
 }
+
+/**
+ * The files of a store as they stand, to be handed out: also where no worker has it open.
+ * @param {string} name
+ */
+export async function files_in(name) {
+  const folder = await (await navigator.storage.getDirectory()).getDirectoryHandle(name);
+  /**
+   * @param {string} file
+   * @returns {Promise<Handle>}
+   */
+  const seen = async file => {
+    const bytes = new Uint8Array(await (await (await folder.getFileHandle(file)).getFile()).arrayBuffer());
+    const refuse = () => { throw failure("EROFS"); };
+    const read = (/** @type {Uint8Array} */ into, /** @type {{ at: number }} */ { at }) => {
+      const got = bytes.subarray(at, at + into.length);
+      into.set(got);
+      return got.length;
+    };
+    return { read, write: refuse, truncate: refuse, getSize: () => bytes.length, flush: refuse, close: () => undefined };
+  };
+  const names = await seen("names");
+  const files = await Promise.all(Array.from({ length: FILES }, (_, number) => seen("file-" + number)));
+  return new Pool(names, files).copies();
+}
