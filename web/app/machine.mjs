@@ -150,18 +150,6 @@ const open_folder = () => ({ kind: "folder", read: () => { throw failure("EISDIR
  * @returns {import("../kernel.mjs").Calls}
  */
 export function disk_calls(run, disk, note) {
-  /** @param {number} number */
-  const node_of = number => {
-    const { node } = /** @type {any} */ (run.file(number));
-    if (!node) throw failure("EINVAL");
-    return /** @type {Numbered} */ (node);
-  };
-  /** @param {number} number */
-  const sync = number => run.tried(() => {
-    note("fsync");
-    run.file(number).sync?.();
-    return 0;
-  });
   const path_at = (/** @type {bigint} */ at) => whole_path(run.text(at));
   return {
     open: (path, flags) => run.tried(() => {
@@ -170,6 +158,48 @@ export function disk_calls(run, disk, note) {
       if (stream !== undefined) return run.add(run.file(stream));
       return run.add(/** @type {any} */ (at === "/" ? open_folder() : open_file(disk.opened(at, flags))));
     }),
+    ...open_calls(run, note),
+    ...told_calls(run, disk, path_at),
+    unlink: path => run.tried(() => {
+      const name = path_at(path);
+      disk.existing(name);
+      disk.store_of(name).remove(name);
+      return 0;
+    }),
+    rename: (from, to) => run.tried(() => {
+      const [old, name] = [path_at(from), path_at(to)];
+      disk.existing(old);
+      disk.store_of(name);
+      disk.store_of(old).rename(old, name);
+      return 0;
+    }),
+  };
+}
+
+/**
+ * The calls of files that are open.
+ * @param {import("../kernel.mjs").Run} run
+ * @param {(call: string) => void} note
+ * @returns {import("../kernel.mjs").Calls}
+ */
+function open_calls(run, note) {
+  const file_of = (/** @type {number} */ number) => /** @type {any} */ (run.file(number));
+  /**
+   * @param {number} number
+   * @returns {Numbered}
+   */
+  const node_of = number => {
+    const { node } = file_of(number);
+    if (!node) throw failure("EINVAL");
+    return node;
+  };
+  /** @param {number} number */
+  const sync = number => run.tried(() => {
+    note("fsync");
+    file_of(number).sync?.();
+    return 0;
+  });
+  return {
     pwrite: (number, at, count, where) => BigInt(run.tried(() => {
       note("pwrite");
       return node_of(number).write(run.bytes(at, count), Number(where));
@@ -184,27 +214,26 @@ export function disk_calls(run, disk, note) {
     fchmod: () => 0,
     fchown: () => 0,
     flock: number => run.tried(() => {
-      if (/** @type {any} */ (run.file(number)).node?.is_taken) throw failure("EAGAIN");
+      if (file_of(number).node?.is_taken) throw failure("EAGAIN");
       return 0;
     }),
     lseek: (number, offset, how) => BigInt(run.tried(() => {
-      const file = /** @type {any} */ (run.file(number));
+      const file = file_of(number);
       if (!file.node) throw failure("ESPIPE");
       file.at = Number(offset) + [0, file.at, file.node.size()][how];
       return file.at;
     })),
-    ...name_calls(run, disk, path_at),
   };
 }
 
 /**
- * The calls of names.
+ * The calls that tell of files.
  * @param {import("../kernel.mjs").Run} run
  * @param {Disk} disk
  * @param {(at: bigint) => string} path_at
  * @returns {import("../kernel.mjs").Calls}
  */
-function name_calls(run, disk, path_at) {
+function told_calls(run, disk, path_at) {
   const is_folder = (/** @type {string} */ path) => path === "/";
   /**
    * @param {bigint} at
@@ -214,7 +243,8 @@ function name_calls(run, disk, path_at) {
    */
   const put = (at, mode, number, size) => {
     run.bytes(at, FACTS).fill(0);
-    put_facts(new DataView(run.buffer, Number(at), Number(FACTS)), { mode, size: BigInt(size), nlink: 1n, ino: BigInt(number), dev: 1n, blksize: 4096n, blocks: BigInt((size + 511) >> 9) });
+    const facts = { mode, size: BigInt(size), nlink: 1n, ino: BigInt(number), dev: 1n, blksize: 4096n, blocks: BigInt((size + 511) >> 9) };
+    put_facts(new DataView(run.buffer, Number(at), Number(FACTS)), facts);
     return 0;
   };
   return {
@@ -238,19 +268,6 @@ function name_calls(run, disk, path_at) {
       run.bytes(to, BigInt(text.length)).set(text);
       return to;
     },
-    unlink: path => run.tried(() => {
-      const name = path_at(path);
-      disk.existing(name);
-      disk.store_of(name).remove(name);
-      return 0;
-    }),
-    rename: (from, to) => run.tried(() => {
-      const [old, name] = [path_at(from), path_at(to)];
-      disk.existing(old);
-      disk.store_of(name);
-      disk.store_of(old).rename(old, name);
-      return 0;
-    }),
   };
 }
 
