@@ -20,6 +20,7 @@ const CODES = new BroadcastChannel("codes");
 const WAIT = 700;
 const QUERY = new URLSearchParams(location.search);
 const VIEWS = ["home", "making"];
+const MAY_GO = "The browser may throw away what is stored here when it runs out of room: install the app to the home screen, and save the votes file after each innings.";
 const BY_HAND = "Point the tablet's own camera app at the square: it opens this app with the code. Or paste the code here.";
 
 /** @type {WebAssembly.Module} */
@@ -104,7 +105,7 @@ async function list_matches() {
  */
 async function show_storage(is_asked) {
   const persists = is_asked ? await navigator.storage.persist() : await navigator.storage.persisted();
-  const told = persists ? "The browser keeps what is stored here." : "The browser may throw away what is stored here when it runs out of room: install the app to the home screen, and save the votes file after each innings.";
+  const told = persists ? "The browser keeps what is stored here." : MAY_GO;
   for (const it of ["storage", "storage-here"]) put_if(it, told);
 }
 

@@ -55,7 +55,8 @@ export class Joining {
     this.offers.set(to, offer);
     const kind = is_whole && is_desk(this.own) ? "invitation" : "offer";
     const code = { kind, from: this.own, to, match: await match_of(sheet, key), offer, way, sheet, key };
-    this.show(to, await letters_of_code(/** @type {Code} */ (code)), `1. ${capital(called(to))} points a camera at this square, or pastes this code.`, `2. Then take the code that ${called(to)}'s tablet shows.`);
+    const letters = await letters_of_code(/** @type {Code} */ (code));
+    this.show(to, letters, `1. ${capital(called(to))} points a camera at this square, or pastes this code.`, `2. Then take the code that ${called(to)}'s tablet shows.`);
     at("whole").hidden = kind === "invitation" || !is_desk(this.own);
     at("whole").onclick = () => this.invite(to, true);
   }
