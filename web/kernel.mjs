@@ -71,7 +71,7 @@ const OF_LINK = 0x100;
 // A plain file that its owner may read.
 const TO_BE_READ = 0o100400n;
 // How many bytes are told of a file, and which of it: all but where it is mounted.
-const FACTS = 256n;
+export const FACTS = 256n;
 const TOLD = 0xfff;
 // How many bytes of chance are had at once.
 const MOST_CHANCE = 256n;
@@ -157,7 +157,7 @@ export class Run {
  * @param {DataView} at
  * @param {FileFacts} facts
  */
-function put_facts(at, facts) {
+export function put_facts(at, facts) {
   const whole = (/** @type {number} */ where, /** @type {bigint | undefined} */ value) => at.setBigUint64(where, value ?? 0n, true);
   const half = (/** @type {number} */ where, /** @type {bigint | undefined} */ value) => at.setUint32(where, Number(BigInt.asUintN(32, value ?? 0n)), true);
   half(0, BigInt(TOLD));

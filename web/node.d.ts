@@ -12,6 +12,11 @@ declare module "node:url" {
 }
 declare const Buffer: { from(text: string, kind: string): Uint8Array };
 declare const process: { argv: string[]; exitCode: number };
+declare class CompressionStream {
+  constructor(kind: string);
+  readable: ReadableStream<Uint8Array>;
+  writable: WritableStream<Uint8Array>;
+}
 declare class DecompressionStream {
   constructor(kind: string);
   readable: ReadableStream<Uint8Array>;

@@ -72,15 +72,15 @@ def browse(folder, *words, budget=None):
 
 
 class Browser:
-    """A browser that stays, told what to do by its protocol, over pipes. Pictures go into a folder, where one is named."""
+    """A browser that stays, told what to do by its protocol, over pipes. Pictures go into a folder, where one is named. It is begun behind these words."""
 
     pictures = None
 
-    def __init__(self, folder):
+    def __init__(self, folder, before=()):
         ours, its = os.pipe(), os.pipe()
         words = [BROWSER, "--headless=new", *QUIET, f"--user-data-dir={folder}", "--remote-debugging-pipe", "about:blank"]
         command = 'exec 3<&"$1" 4>&"$2"; shift 2; exec "$@"'
-        self.ran = subprocess.Popen(["bash", "-c", command, "bash", str(ours[0]), str(its[1]), *words], pass_fds=(ours[0], its[1]),
+        self.ran = subprocess.Popen([*before, "bash", "-c", command, "bash", str(ours[0]), str(its[1]), *words], pass_fds=(ours[0], its[1]),
                                     stdin=subprocess.DEVNULL, stdout=subprocess.DEVNULL, stderr=subprocess.DEVNULL)
         os.close(ours[0]), os.close(its[1])
         self.to, self.of, self.held, self.number, self.wrong = ours[1], its[0], b"", 0, []
