@@ -17,10 +17,10 @@ use Rattle.headline.specs.DeskFaults.{LosesPower}
 use Rattle.headline.specs.declared.version.FileVersion.{FileVersion}
 use Rattle.headline.specs.declared.version.FileVersion.TheVariants.{New}
 use Rattle.live.specs.Boards as boards
-use Rattle.live.specs.Boards.{BoardTurn, board_kind}
+use Rattle.live.specs.Boards.{board_kind}
 use Rattle.live.specs.DeskLife as life
 use Rattle.live.specs.DeskLife.{BeginsOn, Follows, fresh}
-use Rattle.live.specs.Desks.{DeskCall, DeskProcess, DiskView, FitsLongest, desk_kind}
+use Rattle.live.specs.Desks.{DiskView, FitsLongest, desk_kind}
 use Rattle.live.specs.Runs as own
 use Rattle.live.specs.Runs.{Kind, Logs, Run}
 use Rattle.live.specs.Ticks.{unticked}

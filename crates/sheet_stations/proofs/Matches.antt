@@ -1,5 +1,5 @@
 -- What happens in a match of the program's stations is a flow.
-use Rattle.std.proofs.Common.{◌≡◌, ◌∙◌, ℕ, None, List, [], ap, refl, subst, sym}
+use Rattle.std.proofs.Common.{◌≡◌, ◌∙◌, ℕ, None, List, [], ap, refl, subst}
 use Rattle.std.specs.Prelude.{map}
 use Rattle.std.specs.List.{filter}
 use Rattle.agree_core.specs.declared.messages.DeskId.{DeskId}
