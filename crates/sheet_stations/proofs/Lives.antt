@@ -17,10 +17,10 @@ use Rattle.headline.specs.DeskFaults.{LosesPower}
 use Rattle.headline.specs.declared.version.FileVersion.{FileVersion}
 use Rattle.headline.specs.declared.version.FileVersion.TheVariants.{New}
 use Rattle.live.specs.Boards as boards
-use Rattle.live.specs.Boards.{BoardTurn, board_kind}
+use Rattle.live.specs.Boards.{board_kind}
 use Rattle.live.specs.DeskLife as life
-use Rattle.live.specs.DeskLife.{BeginsOn, Follows}
-use Rattle.live.specs.Desks.{DeskCall, DeskProcess, DiskView, FitsLongest}
+use Rattle.live.specs.DeskLife.{BeginsOn, Follows, fresh}
+use Rattle.live.specs.Desks.{DiskView, FitsLongest, desk_kind}
 use Rattle.live.specs.Runs as own
 use Rattle.live.specs.Runs.{Kind, Logs, Run}
 use Rattle.live.specs.Ticks.{unticked}
@@ -84,7 +84,7 @@ module _ (desk : DeskId) where
     runs : (k : DeskState DeskDisk) (begins : Begins (Opened k)) (f : Goes (Opened k))
         → RunsFrom sheet (views desk sheet.game x.version) faults_of sheet.game sheet.innings k (drop n (desks.calls_of (these (Opened k) begins f)))
     runs k begins f = subst (λ (z : FileVersion). RunsFrom sheet (views desk sheet.game z) faults_of sheet.game sheet.innings k (drop n f.3.moments)) (sym new)
-        (room version_2, cap_of disk, run_drop _ _ n f.3.moments f.3.run)
+        (room version_2, cap_of disk, run_drop (desk_kind sheet (views desk sheet.game New) (disks_of disk) sheet.game sheet.innings) (fresh k) n f.3.moments f.3.run)
 
     process : (votes : List Ballot) → x.process ≡ Down votes disk → (opening : Opening DeskDisk) (begins : Begins opening) (f : Goes opening)
         → LifeAt sheet.game sheet.innings x (process_stages sheet opening (drop n (desks.calls_of (these opening begins f))))
@@ -158,17 +158,18 @@ lived_board : (game innings : ℕ) (b : LifeOfBoard) → IsOfMatch game innings 
 lived_board game innings b of =
     let sheet = board_sheet b in
     let lives = b.kept.lives in
-    let fresh = b.kept.fresh in
+    let new = b.kept.fresh in
     let moments = lives.runs.goes.goes.moments in
     let Lives : ℕ → ℕ → BoardState → Type 0 = λ g i k.
     HandsBook sheet i k.book lives.first × BoardRuns g i sheet (boards.begun k 0 boards.unheard unticked [] lives.first) (drop b.unmade moments) in
     let begun : Lives (board.game_of b.kept.begun) (innings_in (board.book_of b.kept.begun)) (board.state_of entries_in b.kept.begun) = (
       elim lives.shows_first [ inl is ↦ inl is | inr none ↦ inr none.0 ],
-      run_drop _ _ b.unmade moments lives.runs.goes.goes.run,
+      run_drop (board_kind sheet (board.game_of b.kept.begun) (innings_in (board.book_of b.kept.begun)))
+      (boards.at_turn entries_in b.kept.begun 0 boards.unheard unticked [] lives.first) b.unmade moments lives.runs.goes.goes.run,
     ) in
-    subst (λ (g : ℕ). Lives g innings fresh_board) (fresh.game ∙ of.same_game)
-    (subst (λ (i : ℕ). Lives (board.game_of b.kept.begun) i fresh_board) (fresh.innings ∙ of.same_innings)
-    (subst (λ (k : BoardState). Lives (board.game_of b.kept.begun) (innings_in (board.book_of b.kept.begun)) k) fresh.state begun))
+    subst (λ (g : ℕ). Lives g innings fresh_board) (new.game ∙ of.same_game)
+    (subst (λ (i : ℕ). Lives (board.game_of b.kept.begun) i fresh_board) (new.innings ∙ of.same_innings)
+    (subst (λ (k : BoardState). Lives (board.game_of b.kept.begun) (innings_in (board.book_of b.kept.begun)) k) new.state begun))
 
 pub lived_boards : (game innings : ℕ) (bs : List LifeOfBoard) → All (λ (b : LifeOfBoard). IsOfMatch game innings (board_sheet b)) bs → IsBoardLife game innings (map board_process bs)
 lived_boards game innings [] all = tt

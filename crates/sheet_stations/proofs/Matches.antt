@@ -1,5 +1,5 @@
 -- What happens in a match of the program's stations is a flow.
-use Rattle.std.proofs.Common.{◌≡◌, ◌∙◌, ℕ, None, List, [], ap, refl, subst, sym}
+use Rattle.std.proofs.Common.{◌≡◌, ◌∙◌, ℕ, None, List, [], ap, refl, subst}
 use Rattle.std.specs.Prelude.{map}
 use Rattle.std.specs.List.{filter}
 use Rattle.agree_core.specs.declared.messages.DeskId.{DeskId}
@@ -56,7 +56,8 @@ module _ (m : Match) where
 pub lives_have_headline : LivesHaveHeadline
 lives_have_headline m hs w =
     let none = empty_files m.game in
-    let begin = ((desk_lives m A (w.disks A)).1, (desk_lives m B (w.disks B)).1) in
+    let begin : weaving.BothBegin file_of images_of faults_of (file_contents New) m.game m.innings (m.desks A).begun (m.desks B).begun =
+        ((desk_lives m A (w.disks A)).1, (desk_lives m B (w.disks B)).1) in
     let is = woven m hs w in
     let a = (m.desks A).begun in
     let b = (m.desks B).begun in
