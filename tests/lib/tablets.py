@@ -113,7 +113,8 @@ class Tablet:
         self.tab.picture(f"{name}-{self.size}")
 
     def end(self):
-        wrong = self.browser.wrong
+        # a press by script is none by hand, without which a page may not shake
+        wrong = [it for it in self.browser.wrong if "navigator.vibrate" not in it]
         self.browser.end()
         return wrong
 
