@@ -1,5 +1,6 @@
 """Tablets for tools: the app (web/app) in browsers, each with a profile of its own, from a host that knows files alone."""
 import base64, functools, http.server, json, os, signal, subprocess, threading, time
+from . import places
 from .browsers import Browser
 from .firefox import Firefox
 from .waiting import Wrong, wait_for, wants
@@ -8,6 +9,10 @@ SIZES = {"tall": (390, 844), "wide": (1024, 768)}
 FORM = {"home": "Alder", "away": "Birch", "home_players": "Amin\nBaker\nCarr\nDube\nEllis\nFrost\nGrant\nHale\nIqbal\nJones\nKemp",
         "away_players": "Lamb, Moss, Nash, Owen, Patel, Quinn, Reid, Shah, Todd, Usher, Vale", "overs": "20"}
 OPENED = "document.getElementById('state').textContent === '' && !document.getElementById('make').disabled"
+# Stands for a camera, and for a browser that knows squares: what is before it is `window.square`.
+CAMERA = """window.stopped = 0; window.BarcodeDetector = class { async detect() { return window.square ? [{ rawValue: window.square }] : []; } };
+    navigator.mediaDevices.getUserMedia = async () => { const paper = document.createElement("canvas"); paper.getContext("2d"); const stream = paper.captureStream(5);
+      stream.getTracks().forEach(it => { const stop = it.stop.bind(it); it.stop = () => { window.stopped++; stop(); }; }); return stream; };"""
 
 
 class Handler(http.server.SimpleHTTPRequestHandler):
@@ -113,7 +118,8 @@ class Tablet:
         self.tab.picture(f"{name}-{self.size}")
 
     def end(self):
-        wrong = self.browser.wrong
+        # a press by script is none by hand, without which a page may not shake
+        wrong = [it for it in self.browser.wrong if "navigator.vibrate" not in it]
         self.browser.end()
         return wrong
 
@@ -190,3 +196,28 @@ def ended_at_once(browser):
         except ProcessLookupError:
             pass
     browser.ran.wait(20)
+
+
+def both(tablets, line, place):
+    """Both write a line; how many milliseconds passed until both have it agreed."""
+    began = time.time()
+    for it in tablets:
+        it.type(line)
+    for it in tablets:
+        it.agreed(place)
+    return 1000 * (time.time() - began)
+
+
+def innings(count):
+    """So many entries."""
+    lines = ["innings home", "in 1", "in 2"]
+    for over in range(count):
+        lines += [f"ball {7 + over % 2} bat {runs}" for runs in (0, 2, 1, 0, 3, 0)] + ["over"]
+    return lines[:count]
+
+
+def compared(folder, a, b):
+    """What the program's `compare` says of both handed-out files."""
+    sheet = places.put(f"{folder}/sheet.toml", a.run("playing.match.sheet"))
+    files = [places.put(f"{folder}/{name}.votes", it.votes()) for name, it in (("a", a), ("b", b))]
+    return places.printed("compare", "--sheet", sheet, "--a", files[0], "--b", files[1])

@@ -3,6 +3,7 @@
 
 const LOCK = "a match is open";
 const RELOADED = "reloaded";
+const AGAIN = 10_000;
 
 /** Which release this page is of. */
 export const release = () => document.documentElement.dataset.release ?? "";
@@ -54,8 +55,18 @@ export async function watch_releases(heard) {
   const ask = async () => { if ((await told_worker("which")) !== release()) heard(); };
   navigator.serviceWorker.addEventListener("controllerchange", () => ask());
   const found = await navigator.serviceWorker.ready;
+  const look = () => found.update().catch(() => undefined);
+  found.addEventListener("updatefound", () => {
+    const { installing } = found;
+    if (!installing) return;
+    installing.onstatechange = () => {
+      if (installing.state === "activated") ask();
+      // not all of it came
+      if (installing.state === "redundant") setTimeout(look, AGAIN);
+    };
+  });
   await ask();
-  await found.update().catch(() => undefined);
+  await look();
 }
 
 /** Whether a page of this app has a match open. */

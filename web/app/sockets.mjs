@@ -26,6 +26,8 @@ const WRONG = 0x20;
 const HUNG_UP = 0x2000;
 const AT_EDGES = 0x80000000;
 const REMOVED = 2;
+// How many datagrams wait for the program; what comes then is lost.
+const MOST_WAITING = 1024;
 const ADDRESS = 16;
 const EVENT = 16;
 
@@ -60,7 +62,7 @@ export class Sockets {
    * @param {Uint8Array} bytes
    */
   take(port, bytes) {
-    if (!this.datagrams) return;
+    if (!this.datagrams || this.datagrams.inbox.length >= MOST_WAITING) return;
     this.datagrams.inbox.push({ port, bytes });
     this.datagrams.came++;
   }

@@ -1,6 +1,7 @@
 // @ts-check
 // Codes as they are shown, scanned and pasted: how this page is joined to another.
 import { at, element, field, put_if } from "../dom.js";
+import { offer_camera } from "./camera.js";
 import { code_in, letters_of_code, match_of, new_offer } from "./code.js";
 import { Unfit } from "./description.js";
 import { called, is_desk, prints_of } from "./words.js";
@@ -8,8 +9,6 @@ import { picture_of, square } from "./square.js";
 
 /** @typedef {import("./code.js").Code} Code */
 /** @typedef {import("./playing.js").Playing} Playing */
-
-const LOOKS = 200;
 
 /** What is put before a code's letters: the app's own address. */
 const before = () => location.origin + location.pathname + "#";
@@ -36,9 +35,7 @@ export class Joining {
     at("share-code").hidden = !navigator.share;
     at("share-code").onclick = () => navigator.share({ text: field("code-text").value }).catch(() => undefined);
     at("take-code").onclick = () => this.take_text(field("paste").value);
-    at("scan").hidden = !("BarcodeDetector" in window);
-    at("scan").onclick = () => this.scan().catch(() => put_if("by-camera", "The camera isn't allowed, or none is there: paste the code."));
-    put_if("by-camera", "BarcodeDetector" in window ? "" : "Point the tablet's own camera app at the other square: it opens this app with the code. Or paste the code here.");
+    offer_camera(text => this.take_text(text));
   }
 
   get own() {
@@ -123,28 +120,6 @@ export class Joining {
     const answer = await letters_of_code({ kind: "answer", from: this.own, to: code.from, match: code.match, offer: code.offer, way });
     this.show(code.from, answer, `${capital(called(code.from))} takes this code: by the camera, or pasted.`, "");
     at("whole").hidden = true;
-  }
-
-  /** Looks through the camera until a square is seen. */
-  async scan() {
-    const video = /** @type {HTMLVideoElement} */ (at("camera"));
-    const stream = await navigator.mediaDevices.getUserMedia({ video: { facingMode: "environment" } });
-    video.srcObject = stream;
-    video.hidden = false;
-    await video.play();
-    const detector = new /** @type {any} */ (window).BarcodeDetector({ formats: ["qr_code"] });
-    const look = async () => {
-      if (video.hidden || at("panel").hidden) return stop();
-      const [found] = await detector.detect(video).catch(() => []);
-      if (!found) return setTimeout(look, LOOKS);
-      stop();
-      return this.take_text(found.rawValue);
-    };
-    const stop = () => {
-      stream.getTracks().forEach(it => it.stop());
-      video.hidden = true;
-    };
-    look();
   }
 
   /** Shows who is joined, and what is read to each other. It answers whether somebody was joined just now. */

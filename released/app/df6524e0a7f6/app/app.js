@@ -2,6 +2,7 @@
 // The app's page: what the browser lacks, the matches of this tablet, and one of them open.
 import { has_wide_memory } from "../kernel.js";
 import { at, element, field, put_if, save } from "../dom.js";
+import { offer_camera } from "./camera.js";
 import { code_in, match_of } from "./code.js";
 import { all_matches, put_match } from "./database.js";
 import { Unfit } from "./description.js";
@@ -21,7 +22,6 @@ const WAIT = 700;
 const QUERY = new URLSearchParams(location.search);
 const VIEWS = ["home", "making"];
 const MAY_GO = "The browser may throw away what is stored here when it runs out of room: install the app to the home screen, and save the votes file after each innings.";
-const BY_HAND = "Point the tablet's own camera app at the square: it opens this app with the code. Or paste the code here.";
 
 /** @type {WebAssembly.Module} */
 let module;
@@ -274,7 +274,7 @@ function show_joining() {
   at("file").hidden = at("shown-code").hidden = at("fingerprints").hidden = true;
   at("panel-heading").textContent = "Join a match";
   put_if("take-step", "Take the code that the other tablet shows.");
-  put_if("by-camera", BY_HAND);
+  offer_camera(try_joining);
   at("taking").hidden = false;
   at("take-code").onclick = () => try_joining(field("paste").value);
   field("paste").focus();

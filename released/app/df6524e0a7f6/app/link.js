@@ -121,7 +121,7 @@ export class Link {
   watched(made) {
     made.votes.onopen = () => this.use(made);
     made.votes.onmessage = ({ data }) => this.take(new Uint8Array(data));
-    made.talk.onmessage = ({ data }) => this.talked(made, JSON.parse(data)).catch(() => undefined);
+    made.talk.onmessage = ({ data }) => this.talked(made, data).catch(() => undefined);
     made.peer.onconnectionstatechange = () => this.on_change();
     return made;
   }
@@ -151,9 +151,10 @@ export class Link {
 
   /**
    * @param {Connection} over
-   * @param {{ number: number, offer?: string, answer?: string }} it
+   * @param {string} text the number of a spare, with its offer or its answer
    */
-  async talked(over, { number, offer, answer }) {
+  async talked(over, text) {
+    const { number, offer, answer } = JSON.parse(text);
     if (offer) {
       const made = this.watched(new_connection());
       this.held.push(made);
