@@ -19,7 +19,7 @@ pub invariant_of-life-clause-kept : goal.invariant_of-life-clause-kept
 invariant_of-life-clause-kept g c =
     let ahead = c.keep-ended.new.outside.keys in
     let said = ap passed_of c.of-5.ensures ∙ c.passed.ensures in
-    let screen = c.end_screen in
+    let screen = c.end_screen-screen in
     ∣ record {
       disk = c.args.beginning.disk;
       log = (ahead.queue).log;
