@@ -10,7 +10,7 @@ returns-in_ok-token-in-Some c =
     let found = table_get c.get.result (codes "outcome") c.args.info.now.entries c.get.ensures.value in
     let is = sym found ∙ ap (option_map _) c.in-Some.is in
     on_ok_weaker c.put_value.result
-    (puts_ruled (table_view c.args.info.now) (view c.in-Some.outcome.now) c.args.out.now c.token-in-Some.new.self _ is c.in_ok-token-in-Some.ensures.ok) c.put_value.ensures
+    (puts_ruled (table_view c.args.info.now) (view c.in-Some.outcome.now) c.args.out.now c.token.new.self _ is c.in_ok-token-in-Some.ensures.ok) c.put_value.ensures
 
 pub returns-in-None : goal.returns-in-None
 returns-in-None c =
