@@ -165,7 +165,7 @@ lived_board game innings b of =
     let begun : Lives (board.game_of b.kept.begun) (innings_in (board.book_of b.kept.begun)) (board.state_of entries_in b.kept.begun) = (
       elim lives.shows_first [ inl is ↦ inl is | inr none ↦ inr none.0 ],
       run_drop (board_kind sheet (board.game_of b.kept.begun) (innings_in (board.book_of b.kept.begun)))
-      (boards.at_turn entries_in b.kept.begun 0 boards.unheard unticked [] lives.first) b.unmade moments lives.runs.goes.goes.run,
+          (boards.at_turn entries_in b.kept.begun 0 boards.unheard unticked [] lives.first) b.unmade moments lives.runs.goes.goes.run,
     ) in
     subst (λ (g : ℕ). Lives g innings fresh_board) (new.game ∙ of.same_game)
     (subst (λ (i : ℕ). Lives (board.game_of b.kept.begun) i fresh_board) (new.innings ∙ of.same_innings)

@@ -57,7 +57,7 @@ pub lives_have_headline : LivesHaveHeadline
 lives_have_headline m hs w =
     let none = empty_files m.game in
     let begin : weaving.BothBegin file_of images_of faults_of (file_contents New) m.game m.innings (m.desks A).begun (m.desks B).begun =
-        ((desk_lives m A (w.disks A)).1, (desk_lives m B (w.disks B)).1) in
+    ((desk_lives m A (w.disks A)).1, (desk_lives m B (w.disks B)).1) in
     let is = woven m hs w in
     let a = (m.desks A).begun in
     let b = (m.desks B).begun in
