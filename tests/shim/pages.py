@@ -1,5 +1,5 @@
 """Lives of a board that serves a page, under shim.c, in which a call for it fails: its viewer is played here."""
-import re, socket, time
+import os, re, socket, time
 from lib import ports
 from lib.waiting import wait_for
 from lives import BOARD, LONGEST, SHEET, Process, answer_board, has_book
@@ -107,7 +107,8 @@ def at_rest(served):
         words = ["board", "--sheet", SHEET, "--at", at, "--desk-a", where[0], "--desk-b", where[1], "--serve", place]
         with Process(words, ground.folder, "", "") as it:
             viewer = Viewer(place)
-            it.plays(lambda: not served or b"event: beat" in viewer.came, lambda: (viewer.work(), it.wait([], 0.02)))
+            begins = lambda: os.path.exists(f"{ground.top}/record") and (not served or b"event: beat" in viewer.came)
+            it.plays(begins, lambda: (viewer.work(), it.wait([], 0.02)))
             counted = lambda: [call.name for call in ground.calls()]
             before = counted()
             it.plays(lambda: counted().count("poll") >= before.count("poll") + 16, lambda: it.wait([], 0.1))
