@@ -52,7 +52,7 @@ function sheet_of({ meta, info, yermudosh }, has_outcome) {
   const [home, away] = info.teams;
   const { data_version: _, ...more } = meta;
   const own = Object.entries(info).slice(Object.keys(info).indexOf(LAST_OWN) + 1);
-  const { outcome } = "outcome" in yermudosh ? yermudosh : has_outcome ? info : {};
+  const outcome = "outcome" in yermudosh ? yermudosh.outcome : has_outcome ? info.outcome : undefined;
   const rest = { ...Object.fromEntries(own.filter(([key]) => key !== MAYBE)), ...(outcome === undefined ? {} : { outcome }) };
   const side = (/** @type {string} */ name) => ({ name, players: info.players[name] });
   return [
