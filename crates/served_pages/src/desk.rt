@@ -2,7 +2,7 @@
 
 /// What may be run and loaded in the page: its own style and script, and what it asks of its station.
 pub const POLICY: &[u8] =
-    b"default-src 'none'; script-src 'sha256-JDRAvrAQjPGzoiFw0s7KTeAmfVDig8fxlTb+QyQXM+U='; style-src 'sha256-fG+D0r1ggOak2xF6bZb012y2J1FY5fn76VrsA2XuLZs='; connect-src 'self'; img-src data:; base-uri 'none'; form-action 'none'; frame-ancestors 'none'";
+    b"default-src 'none'; script-src 'sha256-BBOe++ig9DHFaLQr5DHUS/ah+pcWD7KOzct0uIvze5E='; style-src 'sha256-fG+D0r1ggOak2xF6bZb012y2J1FY5fn76VrsA2XuLZs='; connect-src 'self'; img-src data:; base-uri 'none'; form-action 'none'; frame-ancestors 'none'";
 
 /// The page.
 pub const PAGE: &[u8] = b"<!DOCTYPE html>
@@ -1368,8 +1368,8 @@ function wholeOver(over) {
     plan(\"bowler \" + over.over + \" \" + number, \"Over \" + over.over + \", \" + text + \" bowled it\"));
 }
 
-// Of an over of the innings begun last, who bowled it all.
-const bowlerChoice = over => over.over !== null && over.innings === state.board.innings.length ? [[\"Bowler\", null, \"of the whole over\", \"second\"]] : [];
+// Of an over of the innings begun last, who bowled it all; not while the two differ, as each line then begins with \"again\".
+const bowlerChoice = over => !differs() && over.over !== null && over.innings === state.board.innings.length ? [[\"Bowler\", null, \"of the whole over\", \"second\"]] : [];
 
 // Which ball of which over was wrong, or which entry between balls.
 function earlier(beside) {
