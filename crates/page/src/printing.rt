@@ -1,45 +1,172 @@
-//! A page, printed.
+//! The page of a match.
 
-ghost use Rattle.std.specs.Prelude.{◌≡◌, ◌<◌, length, MatchOption, OnOk};
-ghost use Rattle.std.specs.List.{after_first, before_first, position_or_len};
-ghost use Rattle.streams.specs.Watched.{IsHandedOn, Prints, TellsFailure};
+ghost use Rattle.std.specs.Prelude.{◌≡◌, ◌++◌, IfOk, string_bytes};
+ghost use Rattle.corrections.specs.CleanList.{clean, history_of};
+ghost use Rattle.match_laws.specs.Stands.{ForEachHistory};
+ghost use Rattle.toml.specs.View.{table_view};
+ghost use Rattle.falls.specs.Falls.{falls_at};
+ghost use Rattle.archive_deliveries.specs.Names.{told_apart};
+ghost use Rattle.page.specs.Escapes.{Puts};
 ghost use Rattle.page.specs.Page as page;
+ghost use Rattle.page.specs.Title.{or_words};
 
-use crate::template::{BACK, FRONT};
-use streams::{Sink, Watched, WriteFailed};
+use crate::book_part::put_book;
+use crate::escapes::escaped;
+use crate::facts::facts_of;
+use crate::innings::put_innings;
+use crate::moments::moments_of;
+use crate::overs::put_overs;
+use crate::result::result_of;
+use crate::ruled::ruled_of;
+use crate::template::{END, FRONT, MAIN, STYLE};
+use crate::title::title_of;
+use archive_deliveries::{NamedSheet, Noted, notes_of};
+use cards::MatchSheet;
+use corrections::BookOf;
+use export::info_or;
+use falls::{FallAt, falls_at};
+use match_laws::Match;
+use std::alloc::{AllocError, Global};
+use toml::Table;
 
-/// What stands before the first `<`, and what stands after it.
-fn cut(text: &str) -> Option<(&str, &str)>
-    ensures { MatchOption result (position_or_len page.is_sign text.now ≡ length text.now)
-        (λ parts. (parts.0.now ≡ before_first page.is_sign text.now)
-        × (parts.1.now ≡ after_first page.is_sign text.now)
-        × (position_or_len page.is_sign text.now < length text.now)) }
+/// Puts the head of the file.
+fn put_front(out: &mut String, title: &str, words: &str) -> Result<(), AllocError>
+    ensures { Puts result out.old out.new (page.front_html title.now words.now) }
 {
-    text.split_once('<')
+    out.push_str(FRONT)?;
+    out.push_str(title)?;
+    out.push_str(": ")?;
+    out.push_str(words)?;
+    out.push_str(STYLE)
 }
 
-/// Prints a text with `\u003c` in the place of each `<`.
-fn print_escaped<W: Sink>(text: &str, out: &mut Watched<W>) -> Result<(), WriteFailed>
-    ensures text { OnOk result (Prints W.contents out.old out.new (page.escaped text.now)) }
-    ensures failed { TellsFailure result out.old out.new }
+/// Puts the result: what the umpires said, where they did, and what follows by the Laws.
+fn put_ruling(out: &mut String, ruled: &str, laws: &str) -> Result<(), AllocError>
+    ensures { Puts result out.old out.new (page.ruling_html ruled.now laws.now) }
 {
-    let mut rest = text;
-    while let Some((part, more)) = cut(rest) {
-        write!(out, "{part}\\u003c")?;
-        rest = more;
+    if ruled.is_empty() {
+        return write!(out, "<p id='result'>{laws}</p>\n");
     }
-    write!(out, "{rest}")
+    write!(
+        out,
+        "<p id='result'>{ruled}</p>\n<p id='laws'>By the Laws: {laws}</p>\n"
+    )
 }
 
-/// Prints the page of a book's value, which is the text of one JSON value. It fails only where a write fails; how much was
-/// written then isn't said.
-pub fn print_page<W: Sink>(value: &str, out: &mut Watched<W>) -> Result<(), WriteFailed>
-    ensures text { OnOk result (Prints W.contents out.old out.new (page.page_of value.now)) }
-    ensures failed { TellsFailure result out.old out.new }
-    ensures handed_on { OnOk result (IsHandedOn W.calls out.new) }
+/// Puts the head of the page.
+fn put_header(
+    out: &mut String,
+    title: &str,
+    facts: &str,
+    ruled: &str,
+    laws: &str,
+) -> Result<(), AllocError>
+    ensures { Puts result out.old out.new (page.header_html title.now facts.now ruled.now laws.now) }
 {
-    write!(out, "{}", FRONT)?;
-    print_escaped(value, out)?;
-    write!(out, "{}", BACK)?;
-    out.flush()
+    write!(out, "{title}</h1>\n<p id='facts'>{facts}</p>\n")?;
+    put_ruling(out, ruled, laws)?;
+    out.push_str(MAIN)
+}
+
+/// The one that isn't empty, if there is one.
+fn or_other<'a>(words: &'a str, other: &'a str) -> &'a str
+    ensures { result.now ≡ or_words words.now other.now }
+{
+    if words.is_empty() { other } else { words }
+}
+
+/// Puts both heads.
+fn put_head(
+    out: &mut String,
+    title: &str,
+    facts: &str,
+    ruled: &str,
+    laws: &str,
+) -> Result<(), AllocError>
+    ensures { Puts result out.old out.new (page.head_html title.now facts.now ruled.now laws.now) }
+{
+    put_front(out, title, or_other(ruled, laws))?;
+    put_header(out, title, facts, ruled, laws)
+}
+
+/// All innings that have begun, by the items of all and where their wickets fell.
+fn innings_of(
+    alloc: Global,
+    sheet: &NamedSheet<'_>,
+    score: &Match,
+    notes: &[Noted],
+    falls: &[FallAt],
+) -> Result<String, AllocError>
+    ensures { ForEachHistory score.now (λ n h. falls.now ≡ falls_at h → n ≡ sheet.now.innings →
+        IfOk result (λ text. string_bytes text ≡ page.all_innings sheet.now n h notes.now)) }
+{
+    let mut out = String::new(alloc);
+    for innings in 0..score.begun() {
+        put_innings(alloc, &mut out, sheet, score, notes, falls, innings)?;
+    }
+    Ok(out)
+}
+
+/// Puts these innings, or that there was no play.
+fn put_or_no_play(out: &mut String, innings: &str) -> Result<(), AllocError>
+    ensures { Puts result out.old out.new (page.or_no_play innings.now) }
+{
+    if innings.is_empty() {
+        out.push_str("<p>No play.</p>\n")
+    } else {
+        out.push_str(innings)
+    }
+}
+
+/// Puts what stands below the head of the page.
+fn put_main<B: BookOf>(
+    alloc: Global,
+    out: &mut String,
+    sheet: &NamedSheet<'_>,
+    book: &B,
+) -> Result<(), AllocError>
+    requires { B.innings_a_side book.now ≡ sheet.now.innings }
+    ensures { Puts result out.old out.new (page.main_html sheet.now sheet.now.innings (B.content book.now)) }
+{
+    let score = book.score();
+    let (notes, _) = notes_of(alloc, sheet.innings(), book)?;
+    let moments = moments_of(alloc, sheet.innings(), book)?;
+    let falls = falls_at(alloc, book)?;
+    let innings = innings_of(alloc, sheet, score, notes.as_slice(), falls.as_slice())?;
+    put_or_no_play(out, innings.as_str())?;
+    put_overs(alloc, out, sheet, score, moments.as_slice())?;
+    put_book(alloc, out, book)?;
+    out.push_str(END)
+}
+
+/// The page of a book, by a sheet and what its document hands on. The sides are told apart, as in an export.
+pub fn page_of<B: BookOf>(
+    alloc: Global,
+    sheet: &MatchSheet,
+    document: &Table,
+    book: &B,
+) -> Result<String, AllocError>
+    requires { B.innings_a_side book.now ≡ sheet.now.innings }
+    ensures { IfOk result (λ text.
+        string_bytes text ≡ page.page_text (told_apart sheet.now) (table_view document.now) (B.content book.now)) }
+{
+    let named = NamedSheet::new(alloc, sheet)?;
+    let empty = Table::new(alloc);
+    let info = info_or(document, &empty);
+    let title = title_of(alloc, &named, info)?;
+    let title = escaped(alloc, title.as_str())?;
+    let facts = facts_of(alloc, info)?;
+    let ruled = ruled_of(alloc, info)?;
+    let ruled = escaped(alloc, ruled.as_str())?;
+    let laws = result_of(alloc, &named, book.score())?;
+    let mut out = String::new(alloc);
+    put_head(
+        &mut out,
+        title.as_str(),
+        facts.as_str(),
+        ruled.as_str(),
+        laws.as_str(),
+    )?;
+    put_main(alloc, &mut out, &named, book)?;
+    Ok(out)
 }
