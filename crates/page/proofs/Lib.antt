@@ -1,3 +1,4 @@
+pub mod Causes
 pub mod Escaping
 pub mod Growing
 pub mod Momenting
