@@ -1,3 +1,4 @@
+pub mod Chains
 pub mod Escaping
 pub mod Growing
 pub mod Momenting
