@@ -1,4 +1,5 @@
 pub mod Causes
+pub mod Chains
 pub mod Escaping
 pub mod Growing
 pub mod Momenting

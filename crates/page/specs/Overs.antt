@@ -1,6 +1,6 @@
 -- Each over of an innings, ball by ball: s is the sheet, n the innings a side, h the history, i the innings, side the side that
 -- bats in it, and ms the items of the match.
-use Rattle.std.specs.Prelude.{ℕ, ◌+◌, ◌==◌, ◌&&◌, ◌||◌, not, nat_le, Bool, true, false, is_some, if◌then◌else◌, List, [], ◌∷◌, ◌++◌, Option, Some, None, codes, decimal}
+use Rattle.std.specs.Prelude.{ℕ, ◌+◌, ◌==◌, ◌&&◌, ◌||◌, not, nat_le, Bool, true, false, is_some, if◌then◌else◌, List, [], ◌++◌, length, Option, Some, None, codes, decimal}
 use Rattle.std.specs.List.{flat_map}
 use Rattle.notation.specs.declared.entry.{Ball.Ball, Kind.Kind, Leave.Leave, Plain.Plain, Side.Side}
 use Rattle.notation.specs.declared.entry.Kind.TheVariants.{Bat}
@@ -72,10 +72,15 @@ open_end m = if is_some m.over.bowler then codes "</ol>" ++ row_end m else []
 
 -- ---- what happens beside deliveries: among those of an over, or in a row of its own
 
+abbrev pub among_html : List ℕ → List ℕ
+among_html text = codes "<li class='aside'>" ++ text ++ codes "</li>"
+
+abbrev pub between_html : Moment → List ℕ → List ℕ
+between_html m text =
+    codes "<tr><th scope='row'></th><td class='words'><span class='note'>" ++ text ++ codes "</span></td><td>" ++ score_html m.total m.wickets
+
 abbrev pub aside_html : Moment → List ℕ → List ℕ
-aside_html m text =
-    if is_some m.over.bowler then codes "<li class='aside'>" ++ text ++ codes "</li>"
-    else codes "<tr><th scope='row'></th><td class='words'><span class='note'>" ++ text ++ codes "</span></td><td>" ++ score_html m.total m.wickets
+aside_html m text = if is_some m.over.bowler then among_html text else between_html m text
 
 abbrev pub gone_html : List ℕ → Leave → List ℕ
 gone_html name way = name_html name ++ codes " " ++ left_text way
@@ -96,16 +101,23 @@ moment_html s side i m = if (m.innings == i) && m.on then item_html s side m m.i
 
 -- ---- an innings, and all of them: nothing, where there is no row
 
+abbrev pub caption_html : List ℕ → List ℕ
+caption_html title = codes "<table><caption>" ++ title ++ HEADINGS.now
+
+abbrev pub table_html : List ℕ → List ℕ → List ℕ
+table_html title rows = caption_html title ++ rows ++ codes "</tbody></table>\n"
+
 abbrev pub in_table : List ℕ → List ℕ → List ℕ
-in_table title [] = []
-in_table title (b ∷ bs) = codes "<table><caption>" ++ title ++ HEADINGS.now ++ (b ∷ bs) ++ codes "</tbody></table>\n"
+in_table title rows = if length rows == 0 then [] else table_html title rows
 
 abbrev pub overs_html : Sheet → ℕ → History → List Moment → ℕ → List ℕ
 overs_html s n h ms i = in_table (title_html s n h i) (flat_map (moment_html s (side_of h i) i) ms)
 
+abbrev pub section_html : List ℕ → List ℕ
+section_html tables = OVERS.now ++ tables ++ codes "</div>\n</section>\n"
+
 abbrev pub in_section : List ℕ → List ℕ
-in_section [] = []
-in_section (b ∷ bs) = OVERS.now ++ (b ∷ bs) ++ codes "</div>\n</section>\n"
+in_section tables = if length tables == 0 then [] else section_html tables
 
 abbrev pub all_overs : Sheet → ℕ → History → List Moment → List ℕ
 all_overs s n h ms = up_to (overs_html s n h ms) (begun h)

@@ -186,11 +186,21 @@ fn put_open_end(out: &mut String, moment: &Moment) -> Result<(), AllocError>
 
 /// Puts what happened among the deliveries of an over.
 fn put_among(out: &mut String, text: &str) -> Result<(), AllocError>
-    ensures { Puts result out.old out.new (codes "<li class='aside'>" ++ text.now ++ codes "</li>") }
+    ensures { Puts result out.old out.new (laws.among_html text.now) }
 {
     out.push_str("<li class='aside'>")?;
     out.push_str(text)?;
     out.push_str("</li>")
+}
+
+/// Puts what happened between overs, and the score.
+fn put_between(out: &mut String, moment: &Moment, text: &str) -> Result<(), AllocError>
+    ensures { Puts result out.old out.new (laws.between_html moment.now text.now) }
+{
+    out.push_str("<tr><th scope='row'></th><td class='words'><span class='note'>")?;
+    out.push_str(text)?;
+    out.push_str("</span></td><td>")?;
+    put_score(out, moment.total, moment.wickets)
 }
 
 /// Puts what happened beside deliveries.
@@ -198,12 +208,10 @@ fn put_aside(out: &mut String, moment: &Moment, text: &str) -> Result<(), AllocE
     ensures { Puts result out.old out.new (laws.aside_html moment.now text.now) }
 {
     if moment.over.bowler.is_some() {
-        return put_among(out, text);
+        put_among(out, text)
+    } else {
+        put_between(out, moment, text)
     }
-    out.push_str("<tr><th scope='row'></th><td class='words'><span class='note'>")?;
-    out.push_str(text)?;
-    out.push_str("</span></td><td>")?;
-    put_score(out, moment.total, moment.wickets)
 }
 
 /// Who left, and how.
@@ -335,7 +343,40 @@ fn rows_of(
     Ok(out)
 }
 
-/// Puts the rows of an innings, if it has any.
+/// Puts what stands above the rows of an innings.
+fn put_caption(
+    out: &mut String,
+    sheet: &NamedSheet<'_>,
+    score: &Match,
+    innings: usize,
+) -> Result<(), AllocError>
+    requires { innings < begun_in score.now }
+    ensures { ForEachHistory score.now (λ n h.
+        Puts result out.old out.new (laws.caption_html (title_html sheet.now sheet.now.innings h innings))) }
+{
+    out.push_str("<table><caption>")?;
+    put_title(out, sheet, score, innings)?;
+    out.push_str(HEADINGS)
+}
+
+/// Puts the rows of an innings as a table.
+fn put_rows(
+    out: &mut String,
+    sheet: &NamedSheet<'_>,
+    score: &Match,
+    innings: usize,
+    rows: &str,
+) -> Result<(), AllocError>
+    requires { innings < begun_in score.now }
+    ensures { ForEachHistory score.now (λ n h.
+        Puts result out.old out.new (laws.table_html (title_html sheet.now sheet.now.innings h innings) rows.now)) }
+{
+    put_caption(out, sheet, score, innings)?;
+    out.push_str(rows)?;
+    out.push_str("</tbody></table>\n")
+}
+
+/// Puts them, if it has any.
 fn put_table(
     out: &mut String,
     sheet: &NamedSheet<'_>,
@@ -350,11 +391,7 @@ fn put_table(
     if rows.is_empty() {
         return Ok(());
     }
-    out.push_str("<table><caption>")?;
-    put_title(out, sheet, score, innings)?;
-    out.push_str(HEADINGS)?;
-    out.push_str(rows)?;
-    out.push_str("</tbody></table>\n")
+    put_rows(out, sheet, score, innings, rows)
 }
 
 /// Puts each over of an innings.
@@ -391,16 +428,23 @@ fn all_overs(
     Ok(out)
 }
 
-/// Puts these tables as a part, if there are any.
+/// Puts these tables as a part.
+fn put_part(out: &mut String, tables: &str) -> Result<(), AllocError>
+    ensures { Puts result out.old out.new (laws.section_html tables.now) }
+{
+    out.push_str(OVERS)?;
+    out.push_str(tables)?;
+    out.push_str("</div>\n</section>\n")
+}
+
+/// Puts them, if there are any.
 fn put_section(out: &mut String, tables: &str) -> Result<(), AllocError>
     ensures { Puts result out.old out.new (laws.in_section tables.now) }
 {
     if tables.is_empty() {
         return Ok(());
     }
-    out.push_str(OVERS)?;
-    out.push_str(tables)?;
-    out.push_str("</div>\n</section>\n")
+    put_part(out, tables)
 }
 
 /// Puts each over of a match.

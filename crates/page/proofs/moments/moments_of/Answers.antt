@@ -5,6 +5,7 @@ use Rattle.corrections.proofs.LegalLemmas.{scored_legal}
 use Rattle.cards.proofs.Slots.{all_at}
 use Rattle.cards.proofs.Pages.{kept_later, kept_next}
 use Rattle.page.specs.Moments.{behind}
+use Rattle.page.specs.declared.moments.OverSoFar.{OverSoFar}
 use Rattle.page.proofs.Momenting.{tells_none, tells_one, tells_all, taken_one}
 use Rattle.page.proofs.moments.moments_of.Goals as goal
 use Rattle.page.proofs.moments.moments_of.Goals.{then-not-is_void+in_ok-push, else-not-is_void}
@@ -14,8 +15,8 @@ unfolding clean
 loop-index-init g c = (
   rw (c.new-moments.ensures.items, c.clean_items-clean_items.ensures.value)
       (tells_none (scored_legal _ _ c.requires.legal) c.start-score.ensures c.no_over-over.ensures),
-  omega (arith, c.no_over-over.ensures),
-  omega (arith, c.no_over-over.ensures),
+  rw (ap (λ (over : OverSoFar). over.runs) c.no_over-over.ensures) (omega arith),
+  rw (ap (λ (over : OverSoFar). over.down) c.no_over-over.ensures) (omega arith),
 )
 
 pub take-requires : goal.take-requires
@@ -53,4 +54,4 @@ pub returns : goal.returns
 returns g c =
     let m = rw (drop_all _ _ c.loop-index-test.false) at c.loop-index.invariant.0 in
     let first = c.before-end.ensures _ m.history m.stands m.over_there in
-    tells_all m (c.behind.ensures _ m.history m.stands ∙ ap (λ b. behind b m.history) first) c.in_ok-push.ensures.items
+    tells_all m (c.behind-2.ensures _ m.history m.stands ∙ ap (λ b. behind b m.history) first) c.in_ok-push-2.ensures.items
