@@ -3,3 +3,4 @@ pub mod Chains
 pub mod Escaping
 pub mod Growing
 pub mod Momenting
+pub mod Standing

@@ -12,4 +12,5 @@ pub mod Moments
 pub mod Overs
 pub mod Page
 pub mod Ruled
+pub mod Stands
 pub mod Title

@@ -1,4 +1,4 @@
--- The page of a match: s is the sheet, n the innings a side, h the history, xs the items of all innings with where they stand.
+-- The page of a match: s is the sheet, n the innings a side, h the history, xs the items of the match.
 use Rattle.std.specs.Prelude.{ℕ, bytes_eq, if◌then◌else◌, List, [], ◌∷◌, ◌++◌, Option, Some, None, codes}
 use Rattle.notation.specs.declared.entry.Entry.{Entry}
 use Rattle.ball_laws.specs.History.{History}
@@ -9,8 +9,7 @@ use Rattle.cards.specs.Sheet.{Sheet}
 use Rattle.cards.specs.Results.{result_text}
 use Rattle.toml.specs.Data.{Members}
 use Rattle.json_fields.specs.Values.{up_to}
-use Rattle.archive_deliveries.specs.declared.notes.Noted.{Noted}
-use Rattle.archive_deliveries.specs.Notes.{notes}
+use Rattle.page.specs.declared.moments.Moment.{Moment}
 use Rattle.page.specs.Escapes.{escaped}
 use Rattle.page.specs.Facts.{facts_html}
 use Rattle.page.specs.Innings.{innings_html}
@@ -67,21 +66,28 @@ heads_html title facts ruled laws = window_html title ruled laws ++ header_html 
 abbrev pub head_html : List ℕ → List ℕ → List ℕ → List ℕ → List ℕ
 head_html title facts ruled laws = heads_html title facts (unless_same ruled laws) laws
 
-abbrev pub all_innings : Sheet → ℕ → History → List Noted → List ℕ
+abbrev pub all_innings : Sheet → ℕ → History → List Moment → List ℕ
 all_innings s n h xs = up_to (innings_html s n h xs) (begun h)
 
 abbrev pub or_no_play : List ℕ → List ℕ
 or_no_play [] = codes "<p>No play.</p>\n"
 or_no_play (b ∷ bs) = b ∷ bs
 
+abbrev pub cards_html : Sheet → ℕ → History → List Moment → List ℕ
+cards_html s n h xs = or_no_play (all_innings s n h xs)
+
 abbrev pub main_html : Sheet → ℕ → List Entry → List ℕ
-main_html s n book = or_no_play (all_innings s n (history_of book) (notes [] (clean book)))
+main_html s n book = cards_html s n (history_of book) (moments [] (clean book))
     ++ in_section (all_overs s n (history_of book) (moments [] (clean book)))
     ++ book_html book
     ++ END.now
 
+-- both heads by the sheet's table [info], with the result by the Laws in these words
+abbrev pub top_with : Sheet → Members → List ℕ → List ℕ
+top_with s info laws = head_html (escaped (title_text s info)) (facts_html info) (escaped (ruled_text info)) laws
+
+abbrev pub top_html : Sheet → Members → List Entry → List ℕ
+top_html s document book = top_with s (info_in document) (result_html s s.innings (history_of book))
+
 abbrev pub page_text : Sheet → Members → List Entry → List ℕ
-page_text s document book =
-    let info = info_in document in
-    head_html (escaped (title_text s info)) (facts_html info) (escaped (ruled_text info)) (result_html s s.innings (history_of book))
-    ++ main_html s s.innings book
+page_text s document book = top_html s document book ++ main_html s s.innings book

@@ -1,12 +1,11 @@
 //! An innings with its cards.
 
-ghost use Rattle.std.specs.Prelude.{◌≡◌, ◌+◌, ◌<◌, ◌≤◌, ◌++◌, codes};
+ghost use Rattle.std.specs.Prelude.{◌≡◌, ◌+◌, ◌<◌, ◌≤◌};
 ghost use Rattle.match_laws.specs.History.{side_eq};
 ghost use Rattle.match_laws.specs.Stands.{ForEachHistory, begun_in};
 ghost use Rattle.cards.specs.Batting.{earlier_innings};
 ghost use Rattle.export.specs.Innings.{needed_in};
 ghost use Rattle.falls.specs.Falls.{falls_at};
-ghost use Rattle.page.specs.Bowling.{bowling_html};
 ghost use Rattle.page.specs.Escapes.{Puts};
 ghost use Rattle.page.specs.Innings as laws;
 
@@ -15,32 +14,34 @@ use crate::bowling::put_bowling;
 use crate::escapes::put_escaped;
 use crate::fall_list::put_falls;
 use crate::idle::put_idle;
-use archive_deliveries::{NamedSheet, Noted, noted_at};
+use crate::moments::{Moment, moment_at};
+use crate::stands::put_partnerships;
+use archive_deliveries::NamedSheet;
 use falls::FallAt;
 use match_laws::{Match, opponent};
 use notation::{Cause, Plain, Side};
 use std::alloc::{AllocError, Global};
 
 /// Why an item ends an innings, if it does.
-fn end_in(innings: usize, noted: &Noted) -> Option<Cause>
-    ensures { result ≡ laws.end_in innings noted.now }
+fn end_in(innings: usize, moment: &Moment) -> Option<Cause>
+    ensures { result ≡ laws.end_in innings moment.now }
 {
-    if noted.innings != innings {
+    if moment.innings != innings {
         return None;
     }
-    match noted.item {
+    match moment.item {
         Plain::End(cause) => Some(cause),
         _ => None,
     }
 }
 
 /// Why an innings ended, where it has.
-pub fn cause_in(innings: usize, notes: &[Noted]) -> Option<Cause>
-    ensures { result ≡ laws.cause_in innings notes.now }
+fn cause_in(innings: usize, moments: &[Moment]) -> Option<Cause>
+    ensures { result ≡ laws.cause_in innings moments.now }
 {
-    for index in 0..notes.len() {
-        let noted = noted_at(notes, index);
-        let cause = end_in(innings, &noted);
+    for index in 0..moments.len() {
+        let moment = moment_at(moments, index);
+        let cause = end_in(innings, &moment);
         if cause.is_some() {
             return cause;
         }
@@ -172,19 +173,19 @@ fn put_heading(
     out: &mut String,
     sheet: &NamedSheet<'_>,
     score: &Match,
-    notes: &[Noted],
+    moments: &[Moment],
     innings: usize,
 ) -> Result<(), AllocError>
     requires { innings < begun_in score.now }
     ensures { ForEachHistory score.now (λ n h.
-        Puts result out.old out.new (laws.heading_html sheet.now sheet.now.innings h innings notes.now)) }
+        Puts result out.old out.new (laws.heading_html sheet.now sheet.now.innings h innings moments.now)) }
 {
     let begun = score.begun();
     prove!(innings < begun);
     put_section(out, innings + 1, side_word(score.side(innings)))?;
     put_title(out, sheet, score, innings)?;
     out.push_str(" ")?;
-    put_total(out, score, innings, cause_in(innings, notes))
+    put_total(out, score, innings, cause_in(innings, moments))
 }
 
 /// What the side that bats in the innings has to reach there.
@@ -195,6 +196,24 @@ fn needed_in(score: &Match, innings: usize) -> u32
     let side = score.side(innings);
     let before = score.side_total(side).saturating_sub(score.total(innings));
     (score.side_total(opponent(side)) + 1).saturating_sub(before)
+}
+
+/// Whether it is the last innings of a match.
+fn is_last(sheet: &NamedSheet<'_>, innings: usize) -> bool
+    requires { innings < 4 }
+    ensures { result ≡ laws.is_last sheet.now innings }
+{
+    innings as u32 + 1 == 2 * sheet.innings()
+}
+
+/// Puts what has to be reached, if it is the last innings.
+fn put_needed(out: &mut String, last: bool, needed: u32) -> Result<(), AllocError>
+    ensures { Puts result out.old out.new (laws.needed_html last needed) }
+{
+    if last {
+        return writeln!(out, "<p class='target'><b>Target: </b>{needed}</p>");
+    }
+    Ok(())
 }
 
 /// Puts what has to be reached, in the last innings of a match.
@@ -209,11 +228,8 @@ fn put_target(
 {
     let begun = score.begun();
     prove!(innings < begun);
-    if innings as u32 + 1 != 2 * sheet.innings() {
-        return Ok(());
-    }
-    let needed = needed_in(score, innings);
-    writeln!(out, "<p class='target'><b>Target: </b>{needed}</p>")
+    let last = is_last(sheet, innings);
+    put_needed(out, last, needed_in(score, innings))
 }
 
 /// Puts what the side that bats has, by where the wickets of all innings fell.
@@ -235,19 +251,21 @@ fn put_batting_part(
     put_falls(alloc, out, sheet, score, innings, falls)
 }
 
-/// Puts what the side that fields has, to the end of the part.
+/// Puts what the side that fields has, and the partnerships, to the end of the part.
 fn put_bowling_part(
+    alloc: Global,
     out: &mut String,
     sheet: &NamedSheet<'_>,
     score: &Match,
+    moments: &[Moment],
     innings: usize,
 ) -> Result<(), AllocError>
     requires { innings < begun_in score.now }
-    ensures { ForEachHistory score.now (λ n h. Puts result out.old out.new
-        (codes "</div><div>\n" ++ bowling_html sheet.now h innings ++ codes "</div></div></section>\n")) }
+    ensures { ForEachHistory score.now (λ n h. Puts result out.old out.new (laws.bowling_part sheet.now h moments.now innings)) }
 {
     out.push_str("</div><div>\n")?;
     put_bowling(out, sheet, score, innings)?;
+    put_partnerships(alloc, out, innings, moments)?;
     out.push_str("</div></div></section>\n")
 }
 
@@ -257,16 +275,16 @@ pub fn put_innings(
     out: &mut String,
     sheet: &NamedSheet<'_>,
     score: &Match,
-    notes: &[Noted],
+    moments: &[Moment],
     falls: &[FallAt],
     innings: usize,
 ) -> Result<(), AllocError>
     requires { innings < begun_in score.now }
     ensures { ForEachHistory score.now (λ n h. falls.now ≡ falls_at h → n ≡ sheet.now.innings →
-        Puts result out.old out.new (laws.innings_html sheet.now n h notes.now innings)) }
+        Puts result out.old out.new (laws.innings_html sheet.now n h moments.now innings)) }
 {
-    put_heading(out, sheet, score, notes, innings)?;
+    put_heading(out, sheet, score, moments, innings)?;
     out.push_str("<div class='both'><div>\n")?;
     put_batting_part(alloc, out, sheet, score, falls, innings)?;
-    put_bowling_part(out, sheet, score, innings)
+    put_bowling_part(alloc, out, sheet, score, moments, innings)
 }

@@ -16,6 +16,7 @@ mod overs;
 mod printing;
 mod result;
 mod ruled;
+mod stands;
 mod template;
 mod title;
 

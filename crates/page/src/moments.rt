@@ -174,6 +174,14 @@ fn placed_at(clean_items: &[Placed], index: usize) -> Placed
     clean_items[index]
 }
 
+/// The item at an index.
+pub fn moment_at(moments: &[Moment], index: usize) -> Moment
+    requires { index < length moments.now }
+    ensures { slice_get moments.now index ≡ Some result }
+{
+    moments[index]
+}
+
 /// The items of a book of one or two innings a side, and its end.
 pub fn moments_of<B: BookOf>(
     alloc: Global,

@@ -13,7 +13,7 @@ ghost use Rattle.page.specs.Overs as laws;
 use crate::dismissals::left_words;
 use crate::escapes::put_name;
 use crate::innings::put_title;
-use crate::moments::Moment;
+use crate::moments::{Moment, moment_at};
 use archive_deliveries::NamedSheet;
 use cards::{Mark, all_runs, dead_mark, mark_of};
 use match_laws::{Match, opponent};
@@ -315,14 +315,6 @@ fn put_moment(
         return put_item(alloc, out, sheet, side, moment);
     }
     Ok(())
-}
-
-/// The one at an index.
-fn moment_at(moments: &[Moment], index: usize) -> Moment
-    requires { index < length moments.now }
-    ensures { slice_get moments.now index ≡ Some result }
-{
-    moments[index]
 }
 
 /// The rows of an innings in which the side bats.

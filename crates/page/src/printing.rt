@@ -1,26 +1,30 @@
 //! The page of a match.
 
-ghost use Rattle.std.specs.Prelude.{◌≡◌, ◌++◌, IfOk, string_bytes};
+ghost use Rattle.std.specs.Prelude.{◌≡◌, [], IfOk, string_bytes};
 ghost use Rattle.corrections.specs.CleanList.{clean, history_of};
 ghost use Rattle.match_laws.specs.Stands.{ForEachHistory};
 ghost use Rattle.toml.specs.View.{table_view};
 ghost use Rattle.falls.specs.Falls.{falls_at};
 ghost use Rattle.archive_deliveries.specs.Names.{told_apart};
+ghost use Rattle.page.specs.Escapes as html;
 ghost use Rattle.page.specs.Escapes.{Puts};
+ghost use Rattle.page.specs.Moments.{moments};
+ghost use Rattle.page.specs.Overs.{all_overs, in_section};
 ghost use Rattle.page.specs.Page as page;
-ghost use Rattle.page.specs.Title.{or_words};
+ghost use Rattle.page.specs.Ruled.{ruled_text};
+ghost use Rattle.page.specs.Title.{or_words, title_text};
 
 use crate::book_part::put_book;
 use crate::escapes::escaped;
 use crate::facts::facts_of;
 use crate::innings::put_innings;
-use crate::moments::moments_of;
+use crate::moments::{Moment, moments_of};
 use crate::overs::put_overs;
 use crate::result::result_of;
 use crate::ruled::ruled_of;
 use crate::template::{END, FRONT, MAIN, STYLE};
 use crate::title::title_of;
-use archive_deliveries::{NamedSheet, Noted, notes_of};
+use archive_deliveries::NamedSheet;
 use cards::MatchSheet;
 use corrections::BookOf;
 use export::info_or;
@@ -138,15 +142,15 @@ fn innings_of(
     alloc: Global,
     sheet: &NamedSheet<'_>,
     score: &Match,
-    notes: &[Noted],
+    moments: &[Moment],
     falls: &[FallAt],
 ) -> Result<String, AllocError>
     ensures { ForEachHistory score.now (λ n h. falls.now ≡ falls_at h → n ≡ sheet.now.innings →
-        IfOk result (λ text. string_bytes text ≡ page.all_innings sheet.now n h notes.now)) }
+        IfOk result (λ text. string_bytes text ≡ page.all_innings sheet.now n h moments.now)) }
 {
     let mut out = String::new(alloc);
     for innings in 0..score.begun() {
-        put_innings(alloc, &mut out, sheet, score, notes, falls, innings)?;
+        put_innings(alloc, &mut out, sheet, score, moments, falls, innings)?;
     }
     Ok(out)
 }
@@ -162,6 +166,62 @@ fn put_or_no_play(out: &mut String, innings: &str) -> Result<(), AllocError>
     }
 }
 
+/// Puts all innings with their cards, by the items of all and where their wickets fell.
+fn put_cards(
+    alloc: Global,
+    out: &mut String,
+    sheet: &NamedSheet<'_>,
+    score: &Match,
+    moments: &[Moment],
+    falls: &[FallAt],
+) -> Result<(), AllocError>
+    ensures { ForEachHistory score.now (λ n h. falls.now ≡ falls_at h → n ≡ sheet.now.innings →
+        Puts result out.old out.new (page.cards_html sheet.now n h moments.now)) }
+{
+    let innings = innings_of(alloc, sheet, score, moments, falls)?;
+    put_or_no_play(out, innings.as_str())
+}
+
+/// Puts those of a book.
+fn put_cards_of<B: BookOf>(
+    alloc: Global,
+    out: &mut String,
+    sheet: &NamedSheet<'_>,
+    book: &B,
+) -> Result<(), AllocError>
+    requires { B.innings_a_side book.now ≡ sheet.now.innings }
+    ensures { Puts result out.old out.new
+        (page.cards_html sheet.now sheet.now.innings (history_of (B.content book.now)) (moments [] (clean (B.content book.now)))) }
+{
+    let score = book.score();
+    let moments = moments_of(alloc, sheet.innings(), book)?;
+    let falls = falls_at(alloc, book)?;
+    put_cards(
+        alloc,
+        out,
+        sheet,
+        score,
+        moments.as_slice(),
+        falls.as_slice(),
+    )
+}
+
+/// Puts each over of a book.
+fn put_overs_of<B: BookOf>(
+    alloc: Global,
+    out: &mut String,
+    sheet: &NamedSheet<'_>,
+    book: &B,
+) -> Result<(), AllocError>
+    requires { B.innings_a_side book.now ≡ sheet.now.innings }
+    ensures { Puts result out.old out.new (in_section
+        (all_overs sheet.now sheet.now.innings (history_of (B.content book.now)) (moments [] (clean (B.content book.now))))) }
+{
+    let score = book.score();
+    let moments = moments_of(alloc, sheet.innings(), book)?;
+    put_overs(alloc, out, sheet, score, moments.as_slice())
+}
+
 /// Puts what stands below the head of the page.
 fn put_main<B: BookOf>(
     alloc: Global,
@@ -172,15 +232,85 @@ fn put_main<B: BookOf>(
     requires { B.innings_a_side book.now ≡ sheet.now.innings }
     ensures { Puts result out.old out.new (page.main_html sheet.now sheet.now.innings (B.content book.now)) }
 {
-    let score = book.score();
-    let (notes, _) = notes_of(alloc, sheet.innings(), book)?;
-    let moments = moments_of(alloc, sheet.innings(), book)?;
-    let falls = falls_at(alloc, book)?;
-    let innings = innings_of(alloc, sheet, score, notes.as_slice(), falls.as_slice())?;
-    put_or_no_play(out, innings.as_str())?;
-    put_overs(alloc, out, sheet, score, moments.as_slice())?;
+    put_cards_of(alloc, out, sheet, book)?;
+    put_overs_of(alloc, out, sheet, book)?;
     put_book(alloc, out, book)?;
     out.push_str(END)
+}
+
+/// The title of the match as HTML shows it.
+fn shown_title(alloc: Global, sheet: &NamedSheet<'_>, info: &Table) -> Result<String, AllocError>
+    ensures { IfOk result (λ text. string_bytes text ≡ html.escaped (title_text sheet.now (table_view info.now))) }
+{
+    let title = title_of(alloc, sheet, info)?;
+    escaped(alloc, title.as_str())
+}
+
+/// What the umpires said of the result as HTML shows it.
+fn shown_ruling(alloc: Global, info: &Table) -> Result<String, AllocError>
+    ensures { IfOk result (λ text. string_bytes text ≡ html.escaped (ruled_text (table_view info.now))) }
+{
+    let ruled = ruled_of(alloc, info)?;
+    escaped(alloc, ruled.as_str())
+}
+
+/// Puts both heads, with the result in these words.
+fn put_top_with(
+    alloc: Global,
+    out: &mut String,
+    sheet: &NamedSheet<'_>,
+    info: &Table,
+    laws: &str,
+) -> Result<(), AllocError>
+    ensures { Puts result out.old out.new (page.top_with sheet.now (table_view info.now) laws.now) }
+{
+    let title = shown_title(alloc, sheet, info)?;
+    let facts = facts_of(alloc, info)?;
+    let ruled = shown_ruling(alloc, info)?;
+    put_head(out, title.as_str(), facts.as_str(), ruled.as_str(), laws)
+}
+
+/// The result by the Laws.
+fn laws_of<B: BookOf>(alloc: Global, sheet: &NamedSheet<'_>, book: &B) -> Result<String, AllocError>
+    requires { B.innings_a_side book.now ≡ sheet.now.innings }
+    ensures { IfOk result (λ text.
+        string_bytes text ≡ page.result_html sheet.now sheet.now.innings (history_of (B.content book.now))) }
+{
+    result_of(alloc, sheet, book.score())
+}
+
+/// Puts both heads of a book's page.
+fn put_top<B: BookOf>(
+    alloc: Global,
+    out: &mut String,
+    sheet: &NamedSheet<'_>,
+    document: &Table,
+    book: &B,
+) -> Result<(), AllocError>
+    requires { B.innings_a_side book.now ≡ sheet.now.innings }
+    ensures { Puts result out.old out.new (page.top_html sheet.now (table_view document.now) (B.content book.now)) }
+{
+    let laws = laws_of(alloc, sheet, book)?;
+    let empty = Table::new(alloc);
+    let info = info_or(document, &empty);
+    put_top_with(alloc, out, sheet, info, laws.as_str())
+}
+
+/// The page of a book, by a sheet whose sides are told apart.
+fn named_page<B: BookOf>(
+    alloc: Global,
+    sheet: &NamedSheet<'_>,
+    document: &Table,
+    book: &B,
+) -> Result<String, AllocError>
+    requires { B.innings_a_side book.now ≡ sheet.now.innings }
+    ensures { IfOk result (λ text.
+        string_bytes text ≡ page.page_text sheet.now (table_view document.now) (B.content book.now)) }
+{
+    let mut out = String::new(alloc);
+    put_top(alloc, &mut out, sheet, document, book)?;
+    put_main(alloc, &mut out, sheet, book)?;
+    Ok(out)
 }
 
 /// The page of a book, by a sheet and what its document hands on. The sides are told apart, as in an export.
@@ -195,22 +325,5 @@ pub fn page_of<B: BookOf>(
         string_bytes text ≡ page.page_text (told_apart sheet.now) (table_view document.now) (B.content book.now)) }
 {
     let named = NamedSheet::new(alloc, sheet)?;
-    let empty = Table::new(alloc);
-    let info = info_or(document, &empty);
-    let title = title_of(alloc, &named, info)?;
-    let title = escaped(alloc, title.as_str())?;
-    let facts = facts_of(alloc, info)?;
-    let ruled = ruled_of(alloc, info)?;
-    let ruled = escaped(alloc, ruled.as_str())?;
-    let laws = result_of(alloc, &named, book.score())?;
-    let mut out = String::new(alloc);
-    put_head(
-        &mut out,
-        title.as_str(),
-        facts.as_str(),
-        ruled.as_str(),
-        laws.as_str(),
-    )?;
-    put_main(alloc, &mut out, &named, book)?;
-    Ok(out)
+    named_page(alloc, &named, document, book)
 }

@@ -8,4 +8,4 @@ use Rattle.page.proofs.printing.innings_of.Given as goal
 
 abbrev pub invariant-loop-innings : goal.invariant-loop-innings
 invariant-loop-innings l = ForEachHistory l.score (λ n h. l.falls ≡ falls_at h → n ≡ l.sheet.innings →
-    string_bytes l.out ≡ up_to (innings_html l.sheet n h l.notes) l.innings)
+    string_bytes l.out ≡ up_to (innings_html l.sheet n h l.moments) l.innings)
