@@ -1,3 +1,4 @@
+pub mod Causes
 pub mod Chains
 pub mod Escaping
 pub mod Growing

@@ -28,10 +28,13 @@ correction_html book place (Write x) = []
 correction_html book place (Fix p x) = row_html book place (Fix p x) (codes "</td><td class='words'>entered as ") p
 correction_html book place (Late p x) = row_html book place (Late p x) (codes "</td><td class='words'>belongs after ") p
 
+abbrev pub rows_html : List ℕ → List ℕ
+rows_html rows = CORRECTIONS.now ++ rows ++ codes "</tbody></table></details>\n"
+
 -- in a fold, where there are any
 abbrev pub fold_html : List ℕ → List ℕ
 fold_html [] = codes "<p>None of them is a correction.</p>\n"
-fold_html (b ∷ bs) = CORRECTIONS.now ++ (b ∷ bs) ++ codes "</tbody></table></details>\n"
+fold_html (b ∷ bs) = rows_html (b ∷ bs)
 
 abbrev pub count_html : ℕ → List ℕ
 count_html lines = codes "<p>Lines: " ++ (decimal lines ++ codes "</p>\n")

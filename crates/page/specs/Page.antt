@@ -1,5 +1,5 @@
 -- The page of a match: s is the sheet, n the innings a side, h the history, xs the items of all innings with where they stand.
-use Rattle.std.specs.Prelude.{ℕ, List, [], ◌∷◌, ◌++◌, Option, Some, None, codes}
+use Rattle.std.specs.Prelude.{ℕ, bytes_eq, if◌then◌else◌, List, [], ◌∷◌, ◌++◌, Option, Some, None, codes}
 use Rattle.notation.specs.declared.entry.Entry.{Entry}
 use Rattle.ball_laws.specs.History.{History}
 use Rattle.match_laws.specs.History.{begun}
@@ -34,19 +34,38 @@ result_html s n h = escaped (result_or_none (result_text s (outcome n h)))
 abbrev pub front_html : List ℕ → List ℕ → List ℕ
 front_html title result = FRONT.now ++ title ++ codes ": " ++ result ++ STYLE.now
 
+abbrev pub result_line : List ℕ → List ℕ
+result_line words = codes "<p id='result'>" ++ (words ++ codes "</p>\n")
+
+abbrev pub laws_line : List ℕ → List ℕ
+laws_line words = codes "<p id='by-laws'>By the Laws: " ++ (words ++ codes "</p>\n")
+
 -- the result: what the umpires said, where they did, and then what follows by the Laws
 abbrev pub ruling_html : List ℕ → List ℕ → List ℕ
-ruling_html [] laws = codes "<p id='result'>" ++ laws ++ codes "</p>\n"
-ruling_html (b ∷ bs) laws = codes "<p id='result'>" ++ (b ∷ bs) ++ codes "</p>\n<p id='laws'>By the Laws: " ++ laws ++ codes "</p>\n"
+ruling_html [] laws = result_line laws
+ruling_html (b ∷ bs) laws = result_line (b ∷ bs) ++ laws_line laws
+
+abbrev pub title_html : List ℕ → List ℕ → List ℕ
+title_html title facts = title ++ (codes "</h1>\n<p id='facts'>" ++ (facts ++ codes "</p>\n"))
 
 -- what stands at the head of the page
 abbrev pub header_html : List ℕ → List ℕ → List ℕ → List ℕ → List ℕ
-header_html title facts ruled laws =
-    (title ++ codes "</h1>\n<p id='facts'>" ++ facts ++ codes "</p>\n") ++ ruling_html ruled laws ++ MAIN.now
+header_html title facts ruled laws = title_html title facts ++ ruling_html ruled laws ++ MAIN.now
 
--- both, by the sheet's table [info]
+-- what the umpires said, unless the Laws say the same
+abbrev pub unless_same : List ℕ → List ℕ → List ℕ
+unless_same ruled laws = if bytes_eq ruled laws then [] else ruled
+
+abbrev pub window_html : List ℕ → List ℕ → List ℕ → List ℕ
+window_html title ruled laws = front_html title (or_words ruled laws)
+
+-- both heads
+abbrev pub heads_html : List ℕ → List ℕ → List ℕ → List ℕ → List ℕ
+heads_html title facts ruled laws = window_html title ruled laws ++ header_html title facts ruled laws
+
+-- the same, by the sheet's table [info]
 abbrev pub head_html : List ℕ → List ℕ → List ℕ → List ℕ → List ℕ
-head_html title facts ruled laws = front_html title (or_words ruled laws) ++ header_html title facts ruled laws
+head_html title facts ruled laws = heads_html title facts (unless_same ruled laws) laws
 
 abbrev pub all_innings : Sheet → ℕ → History → List Noted → List ℕ
 all_innings s n h xs = up_to (innings_html s n h xs) (begun h)

@@ -25,17 +25,32 @@ abbrev pub behind_words : List ℕ → List ℕ → List ℕ → List ℕ
 behind_words before [] after = []
 behind_words before (b ∷ bs) after = before ++ (b ∷ bs) ++ after
 
+-- penalty runs, where the method is theirs, are the margin
+abbrev pub penalty_in : List ℕ → List ℕ
+penalty_in method = if bytes_eq method (codes "penalty runs") then method else []
+
+abbrev pub method_in : List ℕ → List ℕ
+method_in method = if bytes_eq method (codes "penalty runs") then [] else method
+
+-- a result in a match's words
+abbrev pub result_word : List ℕ → List ℕ
+result_word word =
+    if bytes_eq word (codes "draw") then codes "match drawn"
+    else (if bytes_eq word (codes "tie") then codes "match tied" else word)
+
 -- who won, by how much, and by which method; or that nobody did
 abbrev pub won_text : List ℕ → List ℕ → List ℕ → List ℕ
 won_text [] margin method = []
 won_text (b ∷ bs) margin method =
-    ((b ∷ bs) ++ codes " won") ++ behind_words (codes " by ") margin [] ++ behind_words (codes " (") method (codes ")")
+    ((b ∷ bs) ++ codes " won") ++ behind_words (codes " by ") margin []
+    ++ behind_words (codes " by ") (penalty_in method) []
+    ++ behind_words (codes " (") (method_in method) (codes ")")
 
 abbrev pub ruled_by : Members → List ℕ
 ruled_by outcome =
     or_words
     (won_text (told (codes "winner") outcome) (margin_text (table_in (codes "by") outcome)) (told (codes "method") outcome))
-    (told (codes "result") outcome)
+    (result_word (told (codes "result") outcome))
 
 abbrev pub ruled_or_none : Option Members → List ℕ
 ruled_or_none None = []

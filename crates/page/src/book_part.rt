@@ -17,7 +17,7 @@ pub const BOOK: &str =
 
 /// What stands above the corrections.
 pub const CORRECTIONS: &str =
-    "<details><summary>Corrections and late entries</summary><table><thead><tr><th scope='col' class='words'>Place</th>\
+    "<details open><summary>Corrections and late entries</summary><table><thead><tr><th scope='col' class='words'>Place</th>\
 <th scope='col' class='words'>Line</th><th scope='col' class='words'>What it names</th></tr></thead><tbody>\n";
 
 /// Puts the line of an entry.
@@ -109,6 +109,15 @@ fn rows_of<B: BookOf>(alloc: Global, book: &B) -> Result<String, AllocError>
     Ok(out)
 }
 
+/// Puts these rows in a fold.
+fn put_rows(out: &mut String, rows: &str) -> Result<(), AllocError>
+    ensures { Puts result out.old out.new (laws.rows_html rows.now) }
+{
+    out.push_str(CORRECTIONS)?;
+    out.push_str(rows)?;
+    out.push_str("</tbody></table></details>\n")
+}
+
 /// Puts these rows in a fold, where there are any.
 fn put_fold(out: &mut String, rows: &str) -> Result<(), AllocError>
     ensures { Puts result out.old out.new (laws.fold_html rows.now) }
@@ -116,9 +125,7 @@ fn put_fold(out: &mut String, rows: &str) -> Result<(), AllocError>
     if rows.is_empty() {
         return out.push_str("<p>None of them is a correction.</p>\n");
     }
-    out.push_str(CORRECTIONS)?;
-    out.push_str(rows)?;
-    out.push_str("</tbody></table></details>\n")
+    put_rows(out, rows)
 }
 
 fn put_count(out: &mut String, lines: u32) -> Result<(), AllocError>

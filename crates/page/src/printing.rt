@@ -40,17 +40,34 @@ fn put_front(out: &mut String, title: &str, words: &str) -> Result<(), AllocErro
     out.push_str(STYLE)
 }
 
+fn put_result(out: &mut String, words: &str) -> Result<(), AllocError>
+    ensures { Puts result out.old out.new (page.result_line words.now) }
+{
+    writeln!(out, "<p id='result'>{words}</p>")
+}
+
+fn put_laws(out: &mut String, words: &str) -> Result<(), AllocError>
+    ensures { Puts result out.old out.new (page.laws_line words.now) }
+{
+    writeln!(out, "<p id='by-laws'>By the Laws: {words}</p>")
+}
+
 /// Puts the result: what the umpires said, where they did, and what follows by the Laws.
 fn put_ruling(out: &mut String, ruled: &str, laws: &str) -> Result<(), AllocError>
     ensures { Puts result out.old out.new (page.ruling_html ruled.now laws.now) }
 {
     if ruled.is_empty() {
-        return write!(out, "<p id='result'>{laws}</p>\n");
+        return put_result(out, laws);
     }
-    write!(
-        out,
-        "<p id='result'>{ruled}</p>\n<p id='laws'>By the Laws: {laws}</p>\n"
-    )
+    put_result(out, ruled)?;
+    put_laws(out, laws)
+}
+
+/// Puts the title of the match, and what is told beside it.
+fn put_title(out: &mut String, title: &str, facts: &str) -> Result<(), AllocError>
+    ensures { Puts result out.old out.new (page.title_html title.now facts.now) }
+{
+    writeln!(out, "{title}</h1>\n<p id='facts'>{facts}</p>")
 }
 
 /// Puts the head of the page.
@@ -63,7 +80,7 @@ fn put_header(
 ) -> Result<(), AllocError>
     ensures { Puts result out.old out.new (page.header_html title.now facts.now ruled.now laws.now) }
 {
-    write!(out, "{title}</h1>\n<p id='facts'>{facts}</p>\n")?;
+    put_title(out, title, facts)?;
     put_ruling(out, ruled, laws)?;
     out.push_str(MAIN)
 }
@@ -75,7 +92,35 @@ fn or_other<'a>(words: &'a str, other: &'a str) -> &'a str
     if words.is_empty() { other } else { words }
 }
 
+/// What the umpires said, unless the Laws say the same.
+fn unless_same<'a>(ruled: &'a str, laws: &str) -> &'a str
+    ensures { result.now ≡ page.unless_same ruled.now laws.now }
+{
+    if ruled == laws { "" } else { ruled }
+}
+
+/// Puts the head of the file, by both results.
+fn put_window(out: &mut String, title: &str, ruled: &str, laws: &str) -> Result<(), AllocError>
+    ensures { Puts result out.old out.new (page.window_html title.now ruled.now laws.now) }
+{
+    put_front(out, title, or_other(ruled, laws))
+}
+
 /// Puts both heads.
+fn put_heads(
+    out: &mut String,
+    title: &str,
+    facts: &str,
+    ruled: &str,
+    laws: &str,
+) -> Result<(), AllocError>
+    ensures { Puts result out.old out.new (page.heads_html title.now facts.now ruled.now laws.now) }
+{
+    put_window(out, title, ruled, laws)?;
+    put_header(out, title, facts, ruled, laws)
+}
+
+/// Puts both heads, with what was ruled once.
 fn put_head(
     out: &mut String,
     title: &str,
@@ -85,8 +130,7 @@ fn put_head(
 ) -> Result<(), AllocError>
     ensures { Puts result out.old out.new (page.head_html title.now facts.now ruled.now laws.now) }
 {
-    put_front(out, title, or_other(ruled, laws))?;
-    put_header(out, title, facts, ruled, laws)
+    put_heads(out, title, facts, unless_same(ruled, laws), laws)
 }
 
 /// All innings that have begun, by the items of all and where their wickets fell.

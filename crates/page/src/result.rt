@@ -3,6 +3,7 @@
 ghost use Rattle.std.specs.Prelude.{◌≡◌, ◌==◌, ◌++◌, IfOk, codes, decimal, string_bytes, if◌then◌else◌};
 ghost use Rattle.match_laws.specs.Stands.{ForEachHistory};
 ghost use Rattle.cards.specs.Results.{counted as so_many, result_text};
+ghost use Rattle.page.specs.Escapes.{Puts};
 ghost use Rattle.page.specs.Page as page;
 
 use crate::escapes::escaped;
@@ -17,6 +18,19 @@ fn unit_of(count: u32, one: &'static str, many: &'static str) -> &'static str
     if count == 1 { one } else { many }
 }
 
+/// Puts so many of this.
+fn put_count(
+    out: &mut String,
+    count: u32,
+    one: &'static str,
+    many: &'static str,
+) -> Result<(), AllocError>
+    ensures { Puts result out.old out.new (so_many count one.now many.now) }
+{
+    write!(out, "{count} ")?;
+    out.push_str(unit_of(count, one, many))
+}
+
 /// A win by so many of this.
 fn win_by(
     alloc: Global,
@@ -28,8 +42,10 @@ fn win_by(
 ) -> Result<String, AllocError>
     ensures { IfOk result (λ text. string_bytes text ≡ side.now ++ how.now ++ so_many count one.now many.now) }
 {
-    let unit = unit_of(count, one, many);
-    format!(in alloc; "{side}{how}{count} {unit}")
+    let mut out = String::from_str(alloc, side)?;
+    out.push_str(how)?;
+    put_count(&mut out, count, one, many)?;
+    Ok(out)
 }
 
 /// The words of a result, or that there is none yet.

@@ -58,6 +58,33 @@ fn put_behind(out: &mut String, before: &str, words: &str, after: &str) -> Resul
     out.push_str(after)
 }
 
+/// Penalty runs, where the method is theirs: the margin.
+fn penalty_in<'a>(method: &'a str) -> &'a str
+    ensures { result.now ≡ laws.penalty_in method.now }
+{
+    if method == "penalty runs" { method } else { "" }
+}
+
+/// Any other method.
+fn method_in<'a>(method: &'a str) -> &'a str
+    ensures { result.now ≡ laws.method_in method.now }
+{
+    if method == "penalty runs" { "" } else { method }
+}
+
+/// The result in a match's words.
+fn result_word<'a>(word: &'a str) -> &'a str
+    ensures { result.now ≡ laws.result_word word.now }
+{
+    if word == "draw" {
+        "match drawn"
+    } else if word == "tie" {
+        "match tied"
+    } else {
+        word
+    }
+}
+
 /// Who won, by how much, and by which method.
 fn won_text(alloc: Global, winner: &str, margin: &str, method: &str) -> Result<String, AllocError>
     ensures { IfOk result (λ text. string_bytes text ≡ laws.won_text winner.now margin.now method.now) }
@@ -67,7 +94,8 @@ fn won_text(alloc: Global, winner: &str, margin: &str, method: &str) -> Result<S
     }
     let mut out = format!(in alloc; "{winner} won")?;
     put_behind(&mut out, " by ", margin, "")?;
-    put_behind(&mut out, " (", method, ")")?;
+    put_behind(&mut out, " by ", penalty_in(method), "")?;
+    put_behind(&mut out, " (", method_in(method), ")")?;
     Ok(out)
 }
 
@@ -80,7 +108,7 @@ fn ruled_by(alloc: Global, outcome: &Table) -> Result<String, AllocError>
     let method = told(alloc, outcome, "method")?;
     let won = won_text(alloc, winner.as_str(), margin.as_str(), method.as_str())?;
     let word = told(alloc, outcome, "result")?;
-    or_words(alloc, won, word.as_str())
+    or_words(alloc, won, result_word(word.as_str()))
 }
 
 /// What the umpires said of the result, if they did.

@@ -5,7 +5,7 @@ pub const FRONT: &str = "<!DOCTYPE html>
 <html lang='en'>
 <head>
 <meta charset='utf-8'>
-<meta http-equiv='Content-Security-Policy' content=\"default-src 'none'; img-src data:; base-uri 'none'; form-action 'none'; style-src 'sha256-jc1MP33ESM+B5FQlgG4xNa89GbBfXMbV77mQtk3/P58='\">
+<meta http-equiv='Content-Security-Policy' content=\"default-src 'none'; img-src data:; base-uri 'none'; form-action 'none'; style-src 'sha256-XSbJzLnD1n1MCHfdZqgC6xHVbGg82zNPku33apoJ3tE='\">
 <meta name='viewport' content='width=device-width, initial-scale=1'>
 <meta name='referrer' content='no-referrer'>
 <link rel='icon' href='data:,'>
@@ -28,6 +28,7 @@ h3 { font-size: 1.05rem; }
 #facts span { display: inline-block; margin-right: 1.2rem; }
 #result::first-letter { text-transform: uppercase; }
 #result { font-size: 1.25rem; font-weight: 700; margin-top: .25rem; }
+#by-laws { color: var(--quiet); }
 .name { white-space: pre; }
 .unseen { position: absolute; width: 1px; height: 1px; overflow: hidden; clip-path: inset(50%); white-space: nowrap; }
 [hidden] { display: none !important; }
@@ -99,8 +100,7 @@ code { font: inherit; font-family: 'DejaVu Sans Mono', 'Liberation Mono', Menlo,
   body { padding: 0; max-width: none; }
   h1 { font-size: 14pt; }
   h2 { font-size: 11pt; margin-top: 2.2mm; break-after: avoid; }
-  #result::first-letter { text-transform: uppercase; }
-#result { font-size: 10.5pt; }
+  #result { font-size: 10.5pt; }
   table, .both p, details, .legend { font-size: 8pt; }
   th, td { padding: .32mm .7mm; }
   caption, figcaption { padding: 1mm 0 .2mm; font-size: 8pt; }
@@ -116,7 +116,7 @@ code { font: inherit; font-family: 'DejaVu Sans Mono', 'Liberation Mono', Menlo,
   .marks li { min-width: 3.6mm; padding: 0 .3mm; border: 0; }
   .marks li.wicket { background: none; color: var(--ink); }
   .marks li.more { background: none; }
-  figure details { display: none; }
+  details::details-content { display: block; content-visibility: visible; }
   a, summary { color: inherit; }
 }
 </style>

@@ -8,7 +8,7 @@ returns-in-Some c =
     let found = table_get c.get.result c.args.key.now c.args.table.now.entries c.get.ensures.value in
     rw (← rw c.in-Some.is at found) c.words_of.ensures
 
-pub returns : goal.returns
-returns c =
+pub returns-in-None : goal.returns-in-None
+returns-in-None c =
     let found = table_get c.get.result c.args.key.now c.args.table.now.entries c.get.ensures.value in
     rw (← rw c.in-None.is at found) c.new.ensures.bytes
