@@ -54,13 +54,14 @@ abbrev pub score_html : ℕ → ℕ → List ℕ
 score_html total wickets = codes "</td><td>" ++ (decimal total ++ (codes "/" ++ (decimal wickets ++ codes "</td></tr>\n")))
 
 abbrev pub balls_word : ℕ → List ℕ
-balls_word balls = if balls == 1 then codes " ball</span>" else codes " balls</span>"
+balls_word balls = if balls == 1 then codes " ball)</span>" else codes " balls)</span>"
+
+abbrev pub counted_html : ℕ → List ℕ → List ℕ
+counted_html balls word = codes "</ol> <span class='note'>(" ++ (decimal balls ++ word)
 
 -- how many deliveries of an over count, unless they are six
 abbrev pub count_html : ℕ → List ℕ
-count_html balls =
-    if balls == 6 then codes "</ol>"
-    else codes "</ol> <span class='note'>" ++ (decimal balls ++ balls_word balls)
+count_html balls = if balls == 6 then codes "</ol>" else counted_html balls (balls_word balls)
 
 -- the runs of its deliveries, and the score
 abbrev pub row_end : Moment → List ℕ

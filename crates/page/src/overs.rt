@@ -148,10 +148,17 @@ fn balls_word(balls: u32) -> &'static str
     ensures { result.now ≡ laws.balls_word balls }
 {
     if balls == 1 {
-        " ball</span>"
+        " ball)</span>"
     } else {
-        " balls</span>"
+        " balls)</span>"
     }
+}
+
+/// Puts so many deliveries, with this word.
+fn put_counted(out: &mut String, balls: u32, word: &str) -> Result<(), AllocError>
+    ensures { Puts result out.old out.new (laws.counted_html balls word.now) }
+{
+    write!(out, "</ol> <span class='note'>({balls}{word}")
 }
 
 /// Puts how many deliveries of an over count, unless they are six.
@@ -159,10 +166,10 @@ fn put_count(out: &mut String, balls: u32) -> Result<(), AllocError>
     ensures { Puts result out.old out.new (laws.count_html balls) }
 {
     if balls == 6 {
-        return out.push_str("</ol>");
+        out.push_str("</ol>")
+    } else {
+        put_counted(out, balls, balls_word(balls))
     }
-    let word = balls_word(balls);
-    write!(out, "</ol> <span class='note'>{balls}{word}")
 }
 
 /// Puts the end of an over that was called.
