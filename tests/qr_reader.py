@@ -14,7 +14,7 @@ class Unreadable(Exception):
     pass
 
 
-def expect(holds, what):
+def needs(holds, what):
     if not holds:
         raise Unreadable(what)
 
@@ -36,16 +36,16 @@ def modules_of(printed):
     """The modules of a print by row and column, without the margin."""
     rows = []
     for line in printed.split("\n"):
-        expect(line.startswith(BLACK_ON_WHITE) and line.endswith(PLAIN), "colours")
+        needs(line.startswith(BLACK_ON_WHITE) and line.endswith(PLAIN), "colours")
         blocks = [MODULES[it] for it in line[len(BLACK_ON_WHITE) : -len(PLAIN)].replace(BOTH_BLACK, "█")]
-        expect(len(blocks) == SIDE + 2 * MARGIN, "columns")
+        needs(len(blocks) == SIDE + 2 * MARGIN, "columns")
         rows += [[upper for upper, _ in blocks], [lower for _, lower in blocks]]
-    expect(len(rows) == SIDE + 2 * (MARGIN - ROWS_LEFT_OUT) + 1, "rows")
+    needs(len(rows) == SIDE + 2 * (MARGIN - ROWS_LEFT_OUT) + 1, "rows")
     rows = ROWS_LEFT_OUT * [[0] * (SIDE + 2 * MARGIN)] + rows
     inner = range(MARGIN, MARGIN + SIDE)
     for r, row in enumerate(rows):
         for c, dark in enumerate(row):
-            expect(not dark or r in inner and c in inner, f"margin at {r}, {c}")
+            needs(not dark or r in inner and c in inner, f"margin at {r}, {c}")
     return [row[MARGIN : MARGIN + SIDE] for row in rows[MARGIN : MARGIN + SIDE]]
 
 
@@ -53,23 +53,23 @@ def codewords_of(modules):
     """All codewords, once each module that is no data, and those behind the last codeword, were found right."""
     fixed = patterns()
     for (r, c), dark in fixed.items():
-        expect(modules[r][c] == dark, f"pattern at {r}, {c}")
+        needs(modules[r][c] == dark, f"pattern at {r}, {c}")
     bits = "".join(str(modules[r][c] ^ ((r + c) % 2 == 0)) for r, c in data_places(fixed))
-    expect(len(bits) == 807 and bits[800:] == "0" * 7, "bits that are left")
+    needs(len(bits) == 807 and bits[800:] == "0" * 7, "bits that are left")
     return [int(bits[at : at + 8], 2) for at in range(0, 800, 8)]
 
 
 def text_of(codewords):
     """The bytes that the codewords say."""
-    expect(is_sound(codewords, 20), "check codewords")
+    needs(is_sound(codewords, 20), "check codewords")
     bits = "".join(f"{it:08b}" for it in codewords[:80])
-    expect(bits[:4] == "0100", "mode")
+    needs(bits[:4] == "0100", "mode")
     length = int(bits[4:12], 2)
     end = 12 + 8 * length
     text = bytes(int(bits[at : at + 8], 2) for at in range(12, end, 8))
-    expect(len(text) == length and bits[end : end + 4] == "0000", "end")
+    needs(len(text) == length and bits[end : end + 4] == "0000", "end")
     pads = [int(bits[at : at + 8], 2) for at in range(end + 4, 640, 8)]
-    expect(pads == [(0xEC, 0x11)[k % 2] for k in range(len(pads))], "pads")
+    needs(pads == [(0xEC, 0x11)[k % 2] for k in range(len(pads))], "pads")
     return text
 
 

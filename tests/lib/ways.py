@@ -81,4 +81,6 @@ RIGHT = [
     ([(LAST,), (K,), (C, "Run out"), (C, "0"), (C, "Other batter"), (C, "Owen"), (C, "No")], "fix 3 runout other 4"),
     ([*EARLIER, (C, "Over 1"), (C, "1.1"), ('#pads [data-line="2"]',)], "fix 3 2"),
     ([*EARLIER, (C, "Over 1"), (C, "Baker comes in"), (A, "Batter"), (C, "Ellis")], "fix 2 in 5"),
+    ([*EARLIER, (C, "Over 1"), (C, "Baker comes in"), (A, "Ends")], "late 2 swap"),
+    ([(LAST,), (A, "Striker")], "late 2 swap"),
 ]

@@ -1,5 +1,6 @@
 """Strangers who come to a station's page so often a second, until standard input ends, and stay for as long as they may: those
-that ask for nothing, those that watch, and those that ask by a byte at a time. It prints how many came.
+that ask for nothing, those that watch, and those that ask by a byte at a time. It prints a line once 300 came, or those of seven seconds, and
+at the end how many did.
 
 usage: assault.py HOST PORT (idle|watch|slow) RATE [FROM]
 """
@@ -8,6 +9,7 @@ import select, socket, sys, time
 sys.dont_write_bytecode = True
 place, kind, rate = (sys.argv[1], int(sys.argv[2])), sys.argv[3], float(sys.argv[4])
 source = (sys.argv[5], 0) if len(sys.argv) > 5 else None
+CROWD = round(min(300, 7 * rate))
 HEAD = f"GET /events HTTP/1.1\r\nHost: {place[0]}:{place[1]}\r\n\r\n".encode()
 
 
@@ -35,6 +37,8 @@ poll.register(sys.stdin, select.POLLIN)
 while True:
     if time.time() >= begun + count / rate:
         count += 1
+        if count == CROWD:
+            print("there", flush=True)
         try:
             it = come()
             here[it.fileno()] = (it, iter(HEAD))

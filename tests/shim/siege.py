@@ -1,5 +1,5 @@
 """Ill clients at a station's page, until standard input ends: those that ask for nothing, those that ask slowly, those that watch
-and never read, and those that send garbage. Who is let go comes again. It prints how often they came.
+and never read, and those that send garbage. Who is let go comes again. It prints a line once all came, and at the end how often they did.
 
 usage: siege.py HOST PORT COUNT
 """
@@ -79,6 +79,9 @@ class Siege:
 
 
 siege = Siege((sys.argv[1], int(sys.argv[2])), int(sys.argv[3]))
+while siege.came < len(siege.clients) and siege.turn():
+    pass
+print("there", flush=True)
 while siege.turn():
     pass
 print(siege.came)

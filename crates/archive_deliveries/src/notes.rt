@@ -175,7 +175,7 @@ pub fn items_in(alloc: Global, innings: usize, notes: &[Noted]) -> Result<Vec<No
 }
 
 /// The items from an index on, up to the next delivery.
-#[tactic(auto, using(cards::proofs::Slots::next, json_fields::proofs::Putting::json_parts))]
+#[tactic(auto, using(corrections::proofs::ListLemmas::next, json_fields::proofs::Putting::json_parts))]
 pub fn carried(alloc: Global, notes: &[Noted], from: usize) -> Result<Vec<Noted>, AllocError>
     ensures { IfOk result (λ items. items.items ≡ laws.carried (drop from notes.now)) }
 {

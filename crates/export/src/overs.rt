@@ -36,7 +36,7 @@ fn put_carrier(
 }
 
 /// Puts the deliveries of an over, from an index on, up to the first one of another over.
-#[tactic(auto, using(cards::proofs::Slots::next, json_fields::proofs::Putting::json_parts), unfolding(json_fields::specs::Values::values_tokens))]
+#[tactic(auto, using(corrections::proofs::ListLemmas::next, json_fields::proofs::Putting::json_parts), unfolding(json_fields::specs::Values::values_tokens))]
 fn put_deliveries(
     alloc: Global,
     out: &mut Pretty,

@@ -22,6 +22,10 @@ overs_text whole odd = decimal whole ++ codes "." ++ decimal odd
 abbrev pub is_closed : History → ℕ → Bool
 is_closed h i = not (is_open h && (begun h == i + 1))
 
+-- its ten wickets are down
+abbrev pub is_all_out : History → ℕ → Bool
+is_all_out h i = wickets h i == 10
+
 -- byes, leg byes, wide runs, no balls and penalty runs
 abbrev pub extras_value : Extras → Json
 extras_value x =
@@ -109,6 +113,7 @@ score_fields s h i =
     ++ number_field (codes "wickets") (wickets h i) ∷ []
     ++ overs_field h i ∷ []
     ++ (codes "closed", boolean (is_closed h i)) ∷ []
+    ++ (codes "all_out", boolean (is_all_out h i)) ∷ []
     ++ (codes "extras", extras_value (extras_of h i)) ∷ []
 
 -- the names of a side's eleven, in the order of their numbers

@@ -44,6 +44,13 @@ fn is_closed(innings: Innings<'_>) -> bool
     !(innings.score.is_open() && begun == innings.index + 1)
 }
 
+/// Whether ten wickets of an innings are down.
+fn is_all_out(innings: Innings<'_>) -> bool
+    ensures { ForInnings innings.entry (λ s h i. result ≡ laws.is_all_out h i) }
+{
+    innings.score.wickets(innings.index) == 10
+}
+
 /// Puts the side with its score.
 fn put_score(out: &mut Compact, alloc: Global, innings: Innings<'_>) -> Result<(), AllocError>
     ensures { ForInnings innings.entry (λ s h i.
@@ -55,6 +62,7 @@ fn put_score(out: &mut Compact, alloc: Global, innings: Innings<'_>) -> Result<(
     put_figure(out, "wickets", innings.score.wickets(innings.index))?;
     put_overs(out, alloc, called, since)?;
     put_bool(out, "closed", is_closed(innings))?;
+    put_bool(out, "all_out", is_all_out(innings))?;
     put_extras(out, &innings.score.extras(innings.index))
 }
 

@@ -2,7 +2,7 @@
 
 /// What may be run and loaded in the page: its own style and script, and what it asks of its station.
 pub const POLICY: &[u8] =
-    b"default-src 'none'; script-src 'sha256-0SXccSgwubo6Jg6riOtrK2q1UhEqrxLEEm0gk5BIsT8='; style-src 'sha256-fG+D0r1ggOak2xF6bZb012y2J1FY5fn76VrsA2XuLZs='; connect-src 'self'; img-src data:; base-uri 'none'; form-action 'none'; frame-ancestors 'none'";
+    b"default-src 'none'; script-src 'sha256-BBOe++ig9DHFaLQr5DHUS/ah+pcWD7KOzct0uIvze5E='; style-src 'sha256-fG+D0r1ggOak2xF6bZb012y2J1FY5fn76VrsA2XuLZs='; connect-src 'self'; img-src data:; base-uri 'none'; form-action 'none'; frame-ancestors 'none'";
 
 /// The page.
 pub const PAGE: &[u8] = b"<!DOCTYPE html>
@@ -570,6 +570,7 @@ function take(next) {
   if (isAnother) {
     if (isLive && !isFirst && differs()) shake(200, 100, 200);
     isAhead = false;
+    planned = null;
     settles = now() + SETTLE;
     if (state.wants !== \"bowler\") bowler = null;
   }
@@ -616,15 +617,30 @@ function heed(row) {
   const isWrong = WRONG.test(row) && !(told.differs && told.differs.dropped === row);
   const isMore = note && now() - note.since < 500 && (isWrong || row.startsWith(\"  \") && !THEIRS.test(row) || CHANGED.test(row));
   if (isMore) note.detail += \"\\n\" + row.trim();
-  else if (isWrong) tell(\"bad\", isAnswer(row, true) ? \"Not written: \" + sent.label : \"The desk says\", row);
+  else if (isWrong && isAnswer(row, true)) tell(\"bad\", \"Not written: \" + sent.label, row, PLANNED.test(sent.line) ? sent.line : null);
+  else if (isWrong) tell(\"bad\", \"The desk says\", row);
   else if (CHANGED.test(row) && told.correction) tell(\"ask\", told.correction + \". Read it first\", row);
   if (isAnswer(row, isWrong)) sent = null;
+}
+
+// A line that corrects or adds.
+const PLANNED = /^(fix|late) \\d+ /;
+
+// A row of the list that was asked for, or why there is none.
+function takePlanned(row) {
+  if (planned === null || UNASKED.test(row)) return;
+  if (PLANNED.test(row)) return planned.lines.push(row);
+  if (planned.lines.length > 0) return;
+  const { label } = planned;
+  planned = null;
+  tell(\"bad\", \"No lines: \" + label, row);
 }
 
 function hear(row) {
   told.rows.push(row);
   if (told.rows.length > ROWS) told.rows.shift();
   follow(row);
+  takePlanned(row);
   heed(row);
   hearAgain();
 }
@@ -710,7 +726,8 @@ let held = null;         // a tapped line that may be taken back
 let sent = null;         // a line of which the desk has told nothing yet
 let note = null;         // what is to be read
 let bowler = null;       // who was chosen to bowl; the next ball is written with it
-let amend = null;        // the place that is put right, or behind which an entry was left out
+let amend = null;        // the place that is put right, or behind which an entry was left out, and a correction with which it goes
+let planned = null;      // a list of lines that the desk was asked for: what it puts right, and those that came
 let isAhead = false;     // whether a line is written ahead of the other scorer
 let unwritten = [];      // what was tapped while the desk wasn't reached, in order: each with its place and round, and whether it was sent
 let settles = 0;         // until then nothing is taken
@@ -732,9 +749,9 @@ async function stayOn() {
   }
 }
 
-function tell(kind, head, detail) {
+function tell(kind, head, detail, line = null) {
   if (kind === \"bad\") shake(120, 60, 120);
-  note = { kind, head, detail, since: now() };
+  note = { kind, head, detail, line, since: now() };
   later();
 }
 
@@ -753,6 +770,7 @@ function write(line, label) {
   closeSheet();
   if (where !== position() || !mayWrite()) return tell(\"bad\", \"Not written: \" + label, isLost() ? UNREACHED : REFUSED[409]);
   const full = (differs() && line !== \"again\" ? \"again \" : \"\") + (amend ? amend.kind + \" \" + amend.place + \" \" : \"\") + line;
+  if (amend && amend.beside) return plan(amend.beside + \", \" + full, \"Both put right\");
   held = { line: full, label: (amend ? amended() + \": \" : \"\") + label, where, due: Date.now() + GRACE, timer: setTimeout(flush, GRACE) };
   at(\"clock\").style.animationDuration = GRACE + \"ms\";
   note = null;
@@ -793,6 +811,8 @@ function flush() {
 
 // ---- What is tapped while the desk isn't reached: kept in order, and each line sent once when it is back, at the place that its scorer saw.
 const ASIDE = \"unwritten\";
+const MOST_PLANNED = 24;  // as many as a desk holds
+const TOO_MANY = \"They are more than a desk holds. Strike out what came later, the last first, put it right, and write it again.\";
 
 function keepAside(lines) {
   unwritten = lines;
@@ -806,6 +826,15 @@ const nextPlace = () => state.place + (state.pending === null ? 0 : 1) + state.h
 function setAside(line, label) {
   const round = unwritten.length === 0 && state.pending === null ? state.round : 0;
   keepAside([...unwritten, { line, label, place: nextPlace() + unwritten.length, round, tapped: Date.now(), isSent: false }]);
+}
+
+// Lines that the desk planned: each is sent once the desk has the one before.
+function writePlanned() {
+  const { lines, label, where } = planned, first = nextPlace();
+  planned = null;
+  if (where !== position() || !mayWrite()) return tell(\"bad\", \"Not written: \" + label, REFUSED[409]);
+  keepAside(lines.map((line, n) => ({ line, label: inWords(line), place: first + n, round: n === 0 ? state.round : 0, tapped: Date.now(), isSent: false })));
+  deliver();
 }
 
 function dropAside(why) {
@@ -893,6 +922,14 @@ async function send(line, label, where, kept) {
     sent.since = now();
     sent.isTaken = true;
   }
+}
+
+// Asks the desk for the lines by which this holds. They are shown, and written once that is confirmed.
+function plan(words, label) {
+  closeSheet();
+  amend = null;
+  planned = { label, where: position(), lines: [] };
+  send(\"plan \" + words, label, position());
 }
 
 // What is asked of the desk writes nothing; its answer is among the rows.
@@ -1325,17 +1362,27 @@ function itemChoice(over, item) {
   return [item.over + \".\" + item.ball, item.place, who + (told ? \"\\n\" + told : \"\"), \"\", item.mark];
 }
 
+// Every ball of an over was another's.
+function wholeOver(over) {
+  askList(\"Who bowled over \" + over.over + \"?\", people(other(over.side), NUMBERS), (number, text) =>
+    plan(\"bowler \" + over.over + \" \" + number, \"Over \" + over.over + \", \" + text + \" bowled it\"));
+}
+
+// Of an over of the innings begun last, who bowled it all; not while the two differ, as each line then begins with \"again\".
+const bowlerChoice = over => !differs() && over.over !== null && over.innings === state.board.innings.length ? [[\"Bowler\", null, \"of the whole over\", \"second\"]] : [];
+
 // Which ball of which over was wrong, or which entry between balls.
-function earlier() {
+function earlier(beside) {
   if (!hasBook() || items().length === 0) {
     closeSheet();
     return hasBook() ? tell(\"ask\", \"Nothing stands yet\", \"\") : tell(\"bad\", \"The book isn't here yet\", \"Tap it again in a moment.\");
   }
   const all = overs();
   askList(\"Which over?\", overChoices(all), n =>
-    askList(\"Which ball\" + (all[n].over === null ? \"\" : \" of over \" + all[n].over) + \"?\", all[n].items.map(it => itemChoice(all[n], it)), place => {
+    askList(\"Which ball\" + (all[n].over === null ? \"\" : \" of over \" + all[n].over) + \"?\", [...all[n].items.map(it => itemChoice(all[n], it)), ...bowlerChoice(all[n])], place => {
+      if (place === null) return wholeOver(all[n]);
       closeSheet();
-      beginAmend(place, \"fix\");
+      beginAmend(place, \"fix\", beside);
     }));
 }
 
@@ -1349,7 +1396,7 @@ const MORE = {
   hurt: [\"Retired hurt\", \"\", () => leave(\"retiredhurt\")],
   swap: [\"Change ends\", \"by the umpires\", () => write(\"swap\", \"the batters change ends\")],
   penalty: [\"Penalty runs\", \"\", penalty],
-  earlier: [\"Put right\", \"any ball or entry\", earlier],
+  earlier: [\"Put right\", \"any ball or entry\", () => earlier()],
   undo: [\"Strike out\", \"the last entry\", () => write(\"undo\", \"the last entry is struck out\")],
   innings: [\"Innings\", \"begins\", askInnings],
   ending: [\"Innings\", \"ends\", askEnding],
@@ -1377,8 +1424,8 @@ function anotherBowler() {
 const PADS = { wide, noball: noBall, bye: () => byes(\"b\", \"Bye\"), legbye: () => byes(\"lb\", \"Leg bye\"), wicket, over, bowler: anotherBowler, more };
 
 // Puts an entry right: what is tapped next is what it was, or what was left out behind it.
-function beginAmend(place, kind) {
-  amend = { place, kind };
+function beginAmend(place, kind, beside) {
+  amend = { place, kind, beside };
   note = null;
   show();
 }
@@ -1421,8 +1468,23 @@ function heldView() {
   return sent ? { kind: sent.isQuestion ? \"\" : \"go\", head: (sent.isQuestion ? \"Asking: \" : \"Writing: \") + sent.label, detail: sent.isQuestion ? \"\" : sent.line } : null;
 }
 
+// What goes with a correction that the desk didn't take: others that the desk finds, or one that the scorer names.
+function companions({ line }) {
+  if (line === null || differs()) return [];
+  return [[\"The lines\", () => { note = null; plan(line, \"It put right\"); }, \"that go with it\"], [\"Another\", () => { note = null; earlier(line); }, \"to go with it\"]];
+}
+
 function noteView() {
-  return note ? { kind: note.kind, head: note.head, detail: note.detail, answers: [[\"OK\", () => { note = null; show(); }]] } : null;
+  return note ? { kind: note.kind, head: note.head, detail: note.detail, answers: [[\"OK\", () => { note = null; show(); }], ...companions(note)] } : null;
+}
+
+// The lines that the desk planned.
+function plannedView() {
+  if (planned === null || planned.lines.length === 0) return null;
+  const count = one(planned.lines.length, \"line\");
+  const cancel = [\"Cancel\", () => { planned = null; show(); }];
+  if (planned.lines.length > MOST_PLANNED) return { kind: \"bad\", head: planned.label + \": \" + count, detail: TOO_MANY, answers: [cancel] };
+  return { kind: \"wait\", head: planned.label + \": \" + count, detail: planned.lines.map(line => inWords(line)).join(\"\\n\"), answers: [[\"Write \" + count, writePlanned, \"\", \"main\"], cancel] };
 }
 
 // A desk that doubts its file writes nothing.
@@ -1450,20 +1512,34 @@ function differsView() {
 }
 
 // What may be tapped beside the pads where an entry is put right.
-function changes(line) {
-  if (line.startsWith(\"ball \")) return [[\"Bowler\", otherBowler, \"another\"]];
-  return line.startsWith(\"in \") ? [[\"Batter\", askComer, \"another\"]] : [];
+function changes(line, place) {
+  const before = placeBefore(place);
+  const faced = before === null ? [] : [[\"Striker\", () => swapAfter(before), \"the other\"]];
+  if (line.startsWith(\"ball \")) return [[\"Bowler\", otherBowler, \"another\"], ...faced];
+  return line.startsWith(\"in \") ? [[\"Batter\", askComer, \"another\"], [\"Ends\", () => swapAfter(place), \"change\"]] : [];
+}
+
+// The place of what stands before this, where a late entry may follow it: none, where it is one itself.
+function placeBefore(place) {
+  const before = items()[items().findIndex(it => it.place === place) - 1];
+  return before && before.place < place ? before.place : null;
+}
+
+// The batters were at each other's ends from there on.
+function swapAfter(place) {
+  amend = { ...amend, place, kind: \"late\" };
+  write(\"swap\", \"the batters change ends\");
 }
 
 function amendView() {
   if (!amend) return null;
-  const { place, kind } = amend;
+  const { place, kind, beside } = amend;
   const cancel = [\"Cancel\", endAmend];
   if (kind === \"late\") return { kind: \"wait\", head: \"Add: what was left out after \" + nameOf(place) + \"?\", detail: \"There stands: \" + entryWords(place) + \".\\nIt stays. Tap what came after it.\", answers: [cancel] };
   const it = itemAt(place);
   const gone = [\"Void\", () => write(\"void\", \"struck out\"), \"it was none\"];
-  const more = [\"Add\", () => beginAmend(place, \"late\"), \"one after\"];
-  const answers = [gone, more, ...changes(it ? it.line : \"\"), cancel];
+  const more = [\"Add\", () => beginAmend(place, \"late\", beside), \"one after\"];
+  const answers = [gone, more, ...changes(it ? it.line : \"\", place), cancel];
   return { kind: \"wait\", head: \"Put right: what was \" + nameOf(place) + \"?\", detail: \"There stands: \" + entryWords(place) + \".\\nTap what it was.\", answers };
 }
 
@@ -1595,7 +1671,7 @@ function unreached(view) {
   return { ...view, kind: \"wait\", head: (isLost() ? \"The desk isn't reached. \" : \"\") + capital(view.head), detail, answers: [...(view.answers || []), ...back] };
 }
 
-const VIEWS = [lostView, formatView, secretView, heldView, noteView, doubtView, pendingView, amendView, differsView, askedView, readyView];
+const VIEWS = [lostView, formatView, secretView, heldView, noteView, doubtView, pendingView, plannedView, amendView, differsView, askedView, readyView];
 
 // ---- Showing. Nothing is drawn anew under a finger: that would take the tap, or give it to something else.
 let isDown = false;      // a finger or a button is down

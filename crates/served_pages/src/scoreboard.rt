@@ -2,7 +2,7 @@
 
 /// What may be run and loaded in the page: its own style and script, and what it asks of its station.
 pub const POLICY: &[u8] =
-    b"default-src 'none'; script-src 'sha256-OmyhbeGYrbRPf7gVO+eSrCe91vlHiWYi1ndrhz0ZTGk='; style-src 'sha256-YB5SVarurR5oU1bpycpFCLpVKWc8RbGL+5rNLHyAfRg='; connect-src 'self'; img-src data:; base-uri 'none'; form-action 'none'; frame-ancestors 'none'";
+    b"default-src 'none'; script-src 'sha256-alJjrz+hFUPjFI7O+x9Xch1UhXhTaN2uvQkollwbX24='; style-src 'sha256-YB5SVarurR5oU1bpycpFCLpVKWc8RbGL+5rNLHyAfRg='; connect-src 'self'; img-src data:; base-uri 'none'; form-action 'none'; frame-ancestors 'none'";
 
 /// The page.
 pub const PAGE: &[u8] = b"<!DOCTYPE html>
@@ -337,13 +337,12 @@ function showWickets(innings, atRest) {
 
 // What is shown where nobody bats: each innings with its total, its highest scores and its best bowling, as many of each.
 const BEST = 3;
-const WICKETS = PLAYERS - 1;
 const isAtRest = board => board.innings.length > 0 && (board.now.result !== null || board.innings[board.innings.length - 1].closed);
 const highest = innings => innings.batting.slice().sort((one, other) => other.runs - one.runs || one.balls - other.balls).slice(0, BEST);
 const bestBowled = innings => innings.bowling.slice().sort((one, other) => other.wickets - one.wickets || one.runs - other.runs).slice(0, BEST);
 
 function total(innings) {
-  return innings.wickets === WICKETS ? innings.runs + \" all out\" : innings.runs + \"/\" + innings.wickets;
+  return innings.all_out ? innings.runs + \" all out\" : innings.runs + \"/\" + innings.wickets;
 }
 
 function figures(rows) {
