@@ -3,7 +3,7 @@ use Rattle.std.proofs.Common.{◌≡◌, ℕ, ◌+◌, true, false, List, Option
 use Rattle.std.specs.Prelude.{is_some, slice_get}
 use Rattle.notation.specs.declared.entry.Cause.{Cause}
 use Rattle.page.specs.declared.moments.Moment.{Moment}
-use Rattle.cards.proofs.Slots.{next}
+use Rattle.corrections.proofs.ListLemmas.{next}
 use Rattle.page.specs.Innings.{cause_in, end_in}
 
 pub passed : (i : ℕ) (xs : List Moment) (k : ℕ) (x : Moment) (cause : Option Cause) → slice_get xs k ≡ Some x →

@@ -1,7 +1,7 @@
 -- The partnerships of an innings, item by item.
 use Rattle.std.proofs.Common.{◌≡◌, ℕ, ◌+◌, List, ◌++◌, Option, Some, append_assoc, drop}
 use Rattle.std.specs.Prelude.{slice_get}
-use Rattle.cards.proofs.Slots.{next}
+use Rattle.corrections.proofs.ListLemmas.{next}
 use Rattle.page.specs.declared.{moments.Moment.Moment, stands.Stand.Stand, stands.Partnership.Partnership}
 use Rattle.page.specs.Stands.{ended_in, in_list, partnerships, partnerships_from, stand_in}
 

@@ -1,6 +1,6 @@
 use Rattle.std.proofs.Common.{append_assoc, append-nil}
 use Rattle.std.proofs.lemmas.List.{drop_all}
-use Rattle.cards.proofs.Slots.{next}
+use Rattle.corrections.proofs.ListLemmas.{next}
 use Rattle.page.proofs.book_part.rows_of.Goals as goal
 
 pub loop-place-preserved : goal.loop-place-preserved

@@ -1,5 +1,5 @@
 use Rattle.std.proofs.Common.{append_assoc}
-use Rattle.cards.proofs.Slots.{next}
+use Rattle.corrections.proofs.ListLemmas.{next}
 use Rattle.page.proofs.stands.rows_of.Goals as goal
 
 pub loop-index-preserved : goal.loop-index-preserved
