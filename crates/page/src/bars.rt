@@ -167,7 +167,12 @@ pub fn put_figure(out: &mut String, number: usize) -> Result<(), AllocError>
 }
 
 /// Puts where its picture begins, so wide and so high.
-pub fn put_picture(out: &mut String, number: usize, width: u64, height: u64) -> Result<(), AllocError>
+pub fn put_picture(
+    out: &mut String,
+    number: usize,
+    width: u64,
+    height: u64,
+) -> Result<(), AllocError>
     ensures { Puts result out.old out.new (laws.picture_front number width height) }
 {
     write!(
@@ -188,20 +193,8 @@ pub fn line_class(side: Side, innings: usize) -> &'static str
     ensures { result.now ≡ laws.line_class side innings }
 {
     match side {
-        Side::Home => {
-            if innings < 2 {
-                "s0"
-            } else {
-                "s2"
-            }
-        }
-        Side::Away => {
-            if innings < 2 {
-                "s1"
-            } else {
-                "s3"
-            }
-        }
+        Side::Home => { if innings < 2 { "s0" } else { "s2" } }
+        Side::Away => { if innings < 2 { "s1" } else { "s3" } }
     }
 }
 

@@ -7,8 +7,10 @@ ghost use Rattle.page.specs.Growth as laws;
 ghost use Rattle.page.specs.Escapes.{Puts};
 ghost use Rattle.page.specs.Innings.{title_html};
 
-use crate::bars::{is_drawn, line_class, moment_at, most_overs, put_figure, put_picture, put_ring, width_of};
-use crate::bars::larger;
+use crate::bars::{
+    is_drawn, larger, line_class, moment_at, most_overs, put_figure, put_picture, put_ring,
+    width_of,
+};
 use crate::innings::put_title;
 use crate::moments::Moment;
 use archive_deliveries::NamedSheet;
@@ -214,5 +216,11 @@ pub fn put_growth(
 {
     let keys = all_keys(alloc, sheet, score)?;
     let lines = all_lines(alloc, score, moments)?;
-    put_chart(out, most_overs(score), most_total(score), keys.as_str(), lines.as_str())
+    put_chart(
+        out,
+        most_overs(score),
+        most_total(score),
+        keys.as_str(),
+        lines.as_str(),
+    )
 }

@@ -14,5 +14,5 @@ loop-others-preserved c =
     let ring = wicket_svg c.args.overs c.args.runs in
     let k = c.loop-others.others in
     rw up_to-more (
-      grows_both (string_bytes c.args.out.now) (string_bytes c.loop-others.out) (string_bytes c.put_wicket.new.out) (up_to ring k) (ring k)
-      c.loop-others.invariant c.in_ok-put_wicket.ensures)
+    grows_both (string_bytes c.args.out.now) (string_bytes c.loop-others.out) (string_bytes c.put_wicket.new.out) (up_to ring k) (ring k)
+    c.loop-others.invariant c.in_ok-put_wicket.ensures)
