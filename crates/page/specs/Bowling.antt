@@ -1,5 +1,5 @@
 -- The bowling card of an innings, as a table: s is the sheet, h the history and i the innings. Each figure is the card's.
-use Rattle.std.specs.Prelude.{ℕ, List, [], ◌∷◌, ◌++◌, codes, decimal}
+use Rattle.std.specs.Prelude.{ℕ, List, ◌++◌, codes, decimal}
 use Rattle.notation.specs.declared.entry.Side.{Side}
 use Rattle.ball_laws.specs.History.{History}
 use Rattle.match_laws.specs.Figures.{bowling_order}

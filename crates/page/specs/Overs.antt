@@ -8,7 +8,7 @@ use Rattle.ball_laws.specs.History.{History}
 use Rattle.match_laws.specs.Figures.{runs_of}
 use Rattle.match_laws.specs.History.{begun, opponent, side_of}
 use Rattle.cards.specs.Dismissals.{left_text}
-use Rattle.cards.specs.Marks.{dead_mark, mark_of, wicket_mark}
+use Rattle.cards.specs.Marks.{dead_mark, mark_of}
 use Rattle.cards.specs.Sheet.{Sheet, name_of, player_of}
 use Rattle.json_fields.specs.Values.{up_to}
 use Rattle.page.specs.Escapes.{name_html}

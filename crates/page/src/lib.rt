@@ -1,13 +1,16 @@
 //! A match as one HTML page, which loads nothing and runs no script: its cards and falls, and its corrections.
 #![tactic(auto)]
 
+mod bars;
 mod batting;
 mod book_part;
 mod bowling;
+mod charts;
 mod dismissals;
 mod escapes;
 mod facts;
 mod fall_list;
+mod growth;
 mod idle;
 mod innings;
 mod laws;
