@@ -18,7 +18,7 @@ use Rattle.page.specs.Title.{or_words, title_text}
 use Rattle.export.specs.Given.{info_in}
 use Rattle.page.specs.Book.{book_html}
 use Rattle.page.specs.Moments.{moments}
-use Rattle.page.specs.Overs.{all_overs, in_section}
+use Rattle.page.specs.Charts.{course_html}
 use Rattle.page.specs.declared.template.TheConstants.{FRONT, STYLE, MAIN, END}
 
 -- a result in words, or that there is none yet
@@ -78,7 +78,7 @@ cards_html s n h xs = or_no_play (all_innings s n h xs)
 
 abbrev pub main_html : Sheet → ℕ → List Entry → List ℕ
 main_html s n book = cards_html s n (history_of book) (moments [] (clean book))
-    ++ in_section (all_overs s n (history_of book) (moments [] (clean book)))
+    ++ course_html s n (history_of book) (moments [] (clean book))
     ++ book_html book
     ++ END.now
 

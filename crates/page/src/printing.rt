@@ -6,20 +6,20 @@ ghost use Rattle.match_laws.specs.Stands.{ForEachHistory};
 ghost use Rattle.toml.specs.View.{table_view};
 ghost use Rattle.falls.specs.Falls.{falls_at};
 ghost use Rattle.archive_deliveries.specs.Names.{told_apart};
+ghost use Rattle.page.specs.Charts.{course_html};
 ghost use Rattle.page.specs.Escapes as html;
 ghost use Rattle.page.specs.Escapes.{Puts};
 ghost use Rattle.page.specs.Moments.{moments};
-ghost use Rattle.page.specs.Overs.{all_overs, in_section};
 ghost use Rattle.page.specs.Page as page;
 ghost use Rattle.page.specs.Ruled.{ruled_text};
 ghost use Rattle.page.specs.Title.{or_words, title_text};
 
 use crate::book_part::put_book;
+use crate::charts::put_course;
 use crate::escapes::escaped;
 use crate::facts::facts_of;
 use crate::innings::put_innings;
 use crate::moments::{Moment, moments_of};
-use crate::overs::put_overs;
 use crate::result::result_of;
 use crate::ruled::ruled_of;
 use crate::template::{END, FRONT, MAIN, STYLE};
@@ -206,7 +206,7 @@ fn put_cards_of<B: BookOf>(
     )
 }
 
-/// Puts each over of a book.
+/// Puts each over of a book, and its charts.
 fn put_overs_of<B: BookOf>(
     alloc: Global,
     out: &mut String,
@@ -214,12 +214,12 @@ fn put_overs_of<B: BookOf>(
     book: &B,
 ) -> Result<(), AllocError>
     requires { B.innings_a_side book.now ≡ sheet.now.innings }
-    ensures { Puts result out.old out.new (in_section
-        (all_overs sheet.now sheet.now.innings (history_of (B.content book.now)) (moments [] (clean (B.content book.now))))) }
+    ensures { Puts result out.old out.new
+        (course_html sheet.now sheet.now.innings (history_of (B.content book.now)) (moments [] (clean (B.content book.now)))) }
 {
     let score = book.score();
     let moments = moments_of(alloc, sheet.innings(), book)?;
-    put_overs(alloc, out, sheet, score, moments.as_slice())
+    put_course(alloc, out, sheet, score, moments.as_slice())
 }
 
 /// Puts what stands below the head of the page.

@@ -2,7 +2,7 @@ use Rattle.std.specs.Prelude.{[]}
 use Rattle.corrections.specs.CleanList.{clean, history_of}
 use Rattle.page.specs.Book.{book_html}
 use Rattle.page.specs.Moments.{moments}
-use Rattle.page.specs.Overs.{all_overs, in_section}
+use Rattle.page.specs.Charts.{course_html}
 use Rattle.page.specs.Page.{cards_html}
 use Rattle.page.specs.declared.template.TheConstants.{END}
 use Rattle.page.proofs.Chains.{puts_four, puts_last}
@@ -14,6 +14,6 @@ returns g c =
     let sheet = c.args.sheet.now in
     let items = moments [] (clean book) in
     puts_four c.push_str.result c.args.out.now c.put_cards_of.new.out c.put_overs_of.new.out c.put_book.new.out _
-    (cards_html sheet sheet.innings (history_of book) items) (in_section (all_overs sheet sheet.innings (history_of book) items)) (book_html book) _
+    (cards_html sheet sheet.innings (history_of book) items) (course_html sheet sheet.innings (history_of book) items) (book_html book) _
     c.in_ok-put_cards_of.ensures c.in_ok-put_overs_of.ensures c.in_ok-put_book.ensures
     (puts_last c.push_str.result c.put_book.new.out _ END.now c.push_str.ensures.bytes)
