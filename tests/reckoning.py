@@ -62,7 +62,7 @@ class Course:
     """The course of a match, line by line."""
 
     def __init__(self):
-        self.innings, self.side, self.all_overs, self.totals, self.falls = 0, None, [], {}, []
+        self.innings, self.side, self.all_overs, self.totals, self.falls, self.stands = 0, None, [], {}, [], []
         self.begin(False)
 
     def begin(self, is_open):
@@ -74,8 +74,9 @@ class Course:
         self.runs, self.balls, self.shares = 0, 0, {}
 
     def fall(self):
-        """A wicket falls: after so many overs, and at such a ball of the next one."""
+        """A wicket falls: after so many overs, and at such a ball of the next one. It ends a partnership."""
         self.falls[-1].append(f"{len(self.called)}.{sum(it for _, it, _ in self.over)}")
+        self.stands[-1].append([str(self.runs), str(self.balls)])
         self.part()
 
     def share(self, player):
@@ -100,6 +101,7 @@ class Course:
             self.innings, self.side = self.innings + 1, line[1]
             self.totals.setdefault(self.side, 0)
             self.falls.append([])
+            self.stands.append([])
         if word in ("innings", "end"):
             self.begin(word == "innings")
         elif word == "over":

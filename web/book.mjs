@@ -255,7 +255,7 @@ async function laid_out(text) {
   }
   const frame = element("iframe");
   frame.title = "The match's page";
-  frame.setAttribute("sandbox", "allow-scripts");
+  frame.setAttribute("sandbox", "");
   frame.srcdoc = text;
   return frame;
 }

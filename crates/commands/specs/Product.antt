@@ -12,7 +12,7 @@ use Rattle.books.specs.CardBook.{IsBookFrom, WhyNoBook}
 use Rattle.archive_deliveries.specs.Names.{told_apart}
 use Rattle.delivery_rows.specs.Table.{table_text}
 use Rattle.export.specs.Value.{IsExport}
-use Rattle.page.specs.Page.{page_of}
+use Rattle.page.specs.Page.{page_text}
 use Rattle.setup.specs.Fault.{IsOfStreams}
 use Rattle.setup.specs.declared.fault.StopFault.{StopFault}
 use Rattle.setup.specs.declared.fault.StopFault.TheVariants.{NoMemory, Write, Votes, BadVotes, Line}
@@ -25,7 +25,7 @@ abbrev pub IsTextOf : Product → Sheet → Members → List Entry → List ℕ 
 IsTextOf Cards s document book text = text ≡ card_text s book
 IsTextOf Lines s document book text = (text ≡ lines_text book) × IsBookFrom sources.Lines s text book
 IsTextOf Json s document book text = (value : List ℕ) × (IsExport (told_apart s) document book value × (text ≡ value ++ codes "\n"))
-IsTextOf Page s document book text = (value : List ℕ) × (IsExport (told_apart s) document book value × (text ≡ page_of value))
+IsTextOf Page s document book text = text ≡ page_text (told_apart s) document book
 IsTextOf (Rows table) s document book text = text ≡ table_text table (told_apart s) document book
 
 module _

@@ -14,7 +14,7 @@ use cards::MatchSheet;
 use corrections::CheckedBook;
 use delivery_rows::{Table, table_of};
 use export::text_of;
-use page::print_page;
+use page::page_of;
 use setup::StopFault;
 use std::alloc::Global;
 use streams::{Sink, Watched, WriteFailed};
@@ -30,7 +30,7 @@ pub enum Product {
     /// One JSON value: what happened ball by ball with the results of the Laws, each entry as it was penned, and what the
     /// sheet's document hands on.
     Json,
-    /// One HTML page: a template with that value in it.
+    /// One HTML page, to be looked at or printed: its cards, falls and overs, and its corrections.
     Page,
     /// A table of its deliveries or penalties, as CSV.
     Rows(Table),
@@ -80,8 +80,8 @@ pub fn print_product<W: Sink>(
             Ok(print_line(text.as_str(), out)?)
         }
         Product::Page => {
-            let text = text_of(alloc, sheet, document, book)?;
-            Ok(print_page(text.as_str(), out)?)
+            let text = page_of(alloc, sheet, document, book)?;
+            Ok(print_whole(text.as_str(), out)?)
         }
         Product::Rows(table) => {
             let text = table_of(alloc, table, sheet, document, book)?;

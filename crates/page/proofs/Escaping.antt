@@ -1,21 +1,46 @@
--- A text that is cut at its first `<`, and what is escaped of it.
-use Rattle.std.proofs.Common.{◌≡◌, ◌<◌, ℕ, List, [], ◌∷◌, ◌++◌, refl, arith, false, length}
-use Rattle.std.specs.Prelude.{codes}
-use Rattle.std.specs.List.{list_any, after_first, before_first, position_or_len}
-use Rattle.page.specs.Page.{escaped, is_sign}
+-- No byte of what stands for a text is markup.
+use Rattle.std.proofs.Common.{◌≡◌, ◌<◌, ◌≤◌, ℕ, suc, false, List, [], ◌∷◌, ◌++◌, length, get_or, inl, inr, refl, sym, arith, append-nil, chars, flat_map, encode_utf8, ne_eqb}
+use Rattle.std.specs.List.{list_any}
+use Rattle.std.proofs.lemmas.Bool.{cases_lt, cases_eq}
+use Rattle.std.proofs.lemmas.List.Folds.{list_any-append}
+use Rattle.std.proofs.lemmas.Str.{encode_ascii, inside_one}
+use Rattle.page.specs.Escapes.{escaped, escaped_char, is_markup}
 
--- what stands before the first one stays, and what follows it is escaped for itself
-pub escaped_at : (t : List ℕ) → position_or_len is_sign t < length t
-    → escaped t ≡ before_first is_sign t ++ (codes "\\u003c" ++ escaped (after_first is_sign t))
-escaped_at [] h = grind (arith)
-escaped_at (b ∷ t) h = grind (arith, escaped_at t)
+-- bytes from 128 on are none
+high : (xs : List ℕ) → ((k : ℕ) → k < length xs → 128 ≤ get_or xs k 0) → list_any is_markup xs ≡ false
+high [] h = refl
+high (x ∷ xs) h =
+    let far : 128 ≤ x = h 0 (omega arith) in
+    rw (ne_eqb x 60 (λ e. omega arith), ne_eqb x 62 (λ e. omega arith), ne_eqb x 34 (λ e. omega arith), ne_eqb x 39 (λ e. omega arith))
+    (high xs (λ k below. h (suc k) (omega arith)))
 
--- where there is none all of it stays
-pub escaped_none : (t : List ℕ) → position_or_len is_sign t ≡ length t → escaped t ≡ t
-escaped_none [] h = refl
-escaped_none (b ∷ t) h = grind (arith, escaped_none t)
+no_markup_char : (c : ℕ) → list_any is_markup (escaped_char c) ≡ false
+no_markup_char c = elim (cases_eq c 38) [
+  | inl same ↦ rw same refl
+  | inr n38 ↦ elim (cases_eq c 60) [
+    | inl same ↦ rw same refl
+    | inr n60 ↦
+        elim (cases_eq c 62) [
+          | inl same ↦ rw same refl
+          | inr n62 ↦ elim (cases_eq c 34) [
+            | inl same ↦ rw same refl
+            | inr n34 ↦
+                elim (cases_eq c 39) [
+                  | inl same ↦ rw same refl
+                  | inr n39 ↦
+                      rw (ne_eqb c 38 n38, ne_eqb c 60 n60, ne_eqb c 62 n62, ne_eqb c 34 n34, ne_eqb c 39 n39) (elim (cases_lt c 128) [
+                        | inl low ↦ rw (encode_ascii c low, ne_eqb c 60 n60, ne_eqb c 62 n62, ne_eqb c 34 n34, ne_eqb c 39 n39) refl
+                        | inr far ↦ high (encode_utf8 c) (λ k below. grind (arith, inside_one c [] (encode_utf8 c) k (sym (append-nil _)) below))
+                      ])
+                ]
+          ]
+        ]
+  ]
+]
 
--- nothing that is escaped has one
-pub no_sign : (t : List ℕ) → list_any is_sign (escaped t) ≡ false
-no_sign [] = refl
-no_sign (b ∷ t) = grind (arith, no_sign t)
+all_chars : (cs : List ℕ) → list_any is_markup (flat_map escaped_char cs) ≡ false
+all_chars [] = refl
+all_chars (c ∷ cs) = rw (list_any-append is_markup (escaped_char c) (flat_map escaped_char cs), no_markup_char c, all_chars cs) refl
+
+pub no_markup : (text : List ℕ) → list_any is_markup (escaped text) ≡ false
+no_markup text = all_chars (chars text)

@@ -1,17 +1,93 @@
--- The page of a match: a template, which is the same for each, and in it the text of the book's value.
-use Rattle.std.specs.Prelude.{ℕ, ◌==◌, Bool, if◌then◌else◌, List, [], ◌∷◌, ◌++◌, codes}
-use Rattle.std.specs.List.{flat_map}
-use Rattle.page.specs.declared.template.TheConstants.{FRONT, BACK}
+-- The page of a match: s is the sheet, n the innings a side, h the history, xs the items of the match.
+use Rattle.std.specs.Prelude.{ℕ, bytes_eq, if◌then◌else◌, List, [], ◌∷◌, ◌++◌, Option, Some, None, codes}
+use Rattle.notation.specs.declared.entry.Entry.{Entry}
+use Rattle.ball_laws.specs.History.{History}
+use Rattle.match_laws.specs.History.{begun}
+use Rattle.match_laws.specs.Result.{outcome}
+use Rattle.corrections.specs.CleanList.{clean, history_of}
+use Rattle.cards.specs.Sheet.{Sheet}
+use Rattle.cards.specs.Results.{result_text}
+use Rattle.toml.specs.Data.{Members}
+use Rattle.json_fields.specs.Values.{up_to}
+use Rattle.page.specs.declared.moments.Moment.{Moment}
+use Rattle.page.specs.Escapes.{escaped}
+use Rattle.page.specs.Facts.{facts_html}
+use Rattle.page.specs.Innings.{innings_html}
+use Rattle.page.specs.Ruled.{ruled_text}
+use Rattle.page.specs.Title.{or_words, title_text}
+use Rattle.export.specs.Given.{info_in}
+use Rattle.page.specs.Book.{book_html}
+use Rattle.page.specs.Moments.{moments}
+use Rattle.page.specs.Charts.{course_html}
+use Rattle.page.specs.declared.template.TheConstants.{FRONT, STYLE, MAIN, END}
 
--- the byte by which an element begins and ends
-abbrev pub is_sign : ℕ → Bool
-is_sign b = b == 60
+-- a result in words, or that there is none yet
+abbrev pub result_or_none : Option (List ℕ) → List ℕ
+result_or_none None = codes "no result yet"
+result_or_none (Some words) = words
 
--- a text of JSON with `\u003c` in the place of each `<`. In such a text `<` stands within strings alone, where both are the
--- same letter: so the value is the same
-abbrev pub escaped : List ℕ → List ℕ
-escaped text = flat_map (λ b. if is_sign b then codes "\\u003c" else b ∷ []) text
+abbrev pub result_html : Sheet → ℕ → History → List ℕ
+result_html s n h = escaped (result_or_none (result_text s (outcome n h)))
 
--- the page of a value
-abbrev pub page_of : List ℕ → List ℕ
-page_of value = FRONT.now ++ escaped value ++ BACK.now
+-- the head of the file, with the words of a window
+abbrev pub front_html : List ℕ → List ℕ → List ℕ
+front_html title result = FRONT.now ++ title ++ codes ": " ++ result ++ STYLE.now
+
+abbrev pub result_line : List ℕ → List ℕ
+result_line words = codes "<p id='result'>" ++ (words ++ codes "</p>\n")
+
+abbrev pub laws_line : List ℕ → List ℕ
+laws_line words = codes "<p id='by-laws'>By the Laws: " ++ (words ++ codes "</p>\n")
+
+-- the result: what the umpires said, where they did, and then what follows by the Laws
+abbrev pub ruling_html : List ℕ → List ℕ → List ℕ
+ruling_html [] laws = result_line laws
+ruling_html (b ∷ bs) laws = result_line (b ∷ bs) ++ laws_line laws
+
+abbrev pub title_html : List ℕ → List ℕ → List ℕ
+title_html title facts = title ++ (codes "</h1>\n<p id='facts'>" ++ (facts ++ codes "</p>\n"))
+
+-- what stands at the head of the page
+abbrev pub header_html : List ℕ → List ℕ → List ℕ → List ℕ → List ℕ
+header_html title facts ruled laws = title_html title facts ++ ruling_html ruled laws ++ MAIN.now
+
+-- what the umpires said, unless the Laws say the same
+abbrev pub unless_same : List ℕ → List ℕ → List ℕ
+unless_same ruled laws = if bytes_eq ruled laws then [] else ruled
+
+abbrev pub window_html : List ℕ → List ℕ → List ℕ → List ℕ
+window_html title ruled laws = front_html title (or_words ruled laws)
+
+-- both heads
+abbrev pub heads_html : List ℕ → List ℕ → List ℕ → List ℕ → List ℕ
+heads_html title facts ruled laws = window_html title ruled laws ++ header_html title facts ruled laws
+
+-- the same, by the sheet's table [info]
+abbrev pub head_html : List ℕ → List ℕ → List ℕ → List ℕ → List ℕ
+head_html title facts ruled laws = heads_html title facts (unless_same ruled laws) laws
+
+abbrev pub all_innings : Sheet → ℕ → History → List Moment → List ℕ
+all_innings s n h xs = up_to (innings_html s n h xs) (begun h)
+
+abbrev pub or_no_play : List ℕ → List ℕ
+or_no_play [] = codes "<p>No play.</p>\n"
+or_no_play (b ∷ bs) = b ∷ bs
+
+abbrev pub cards_html : Sheet → ℕ → History → List Moment → List ℕ
+cards_html s n h xs = or_no_play (all_innings s n h xs)
+
+abbrev pub main_html : Sheet → ℕ → List Entry → List ℕ
+main_html s n book = cards_html s n (history_of book) (moments [] (clean book))
+    ++ course_html s n (history_of book) (moments [] (clean book))
+    ++ book_html book
+    ++ END.now
+
+-- both heads by the sheet's table [info], with the result by the Laws in these words
+abbrev pub top_with : Sheet → Members → List ℕ → List ℕ
+top_with s info laws = head_html (escaped (title_text s info)) (facts_html info) (escaped (ruled_text info)) laws
+
+abbrev pub top_html : Sheet → Members → List Entry → List ℕ
+top_html s document book = top_with s (info_in document) (result_html s s.innings (history_of book))
+
+abbrev pub page_text : Sheet → Members → List Entry → List ℕ
+page_text s document book = top_html s document book ++ main_html s s.innings book

@@ -4,9 +4,9 @@
 
 ghost use Rattle.std.specs.Prelude.{◌≡◌, ℕ, List, false};
 ghost use Rattle.std.specs.List.{list_any};
-ghost use Rattle.page.specs.Page.{escaped, is_sign};
+ghost use Rattle.page.specs.Escapes.{escaped, is_markup};
 
-/// What stands in the page of a text has no `<`: so neither `</script` nor `<!--` begins there, and no element ends or begins.
-pub fn no_text_ends_its_element()
-    ensures { (text : List ℕ) → list_any is_sign (escaped text) ≡ false }
+/// What stands in the page for a text has no `<`, `>` and no quote: no element and no attribute begins or ends there.
+pub fn no_text_is_markup()
+    ensures { (text : List ℕ) → list_any is_markup (escaped text) ≡ false }
 {}

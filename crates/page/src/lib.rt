@@ -1,9 +1,27 @@
-//! A match as one HTML page, which loads nothing: a template, and the book's value in it as JSON.
+//! A match as one HTML page, which loads nothing and runs no script: its cards and falls, and its corrections.
 #![tactic(auto)]
 
+mod bars;
+mod batting;
+mod book_part;
+mod bowling;
+mod charts;
+mod dismissals;
+mod escapes;
+mod facts;
+mod fall_list;
+mod growth;
+mod idle;
+mod innings;
 mod laws;
+mod moments;
+mod overs;
 mod printing;
+mod result;
+mod ruled;
+mod stands;
 mod template;
+mod title;
 
-pub use laws::no_text_ends_its_element;
-pub use printing::print_page;
+pub use laws::no_text_is_markup;
+pub use printing::page_of;

@@ -1,45 +1,329 @@
-//! A page, printed.
+//! The page of a match.
 
-ghost use Rattle.std.specs.Prelude.{◌≡◌, ◌<◌, length, MatchOption, OnOk};
-ghost use Rattle.std.specs.List.{after_first, before_first, position_or_len};
-ghost use Rattle.streams.specs.Watched.{IsHandedOn, Prints, TellsFailure};
+ghost use Rattle.std.specs.Prelude.{◌≡◌, [], IfOk, string_bytes};
+ghost use Rattle.corrections.specs.CleanList.{clean, history_of};
+ghost use Rattle.match_laws.specs.Stands.{ForEachHistory};
+ghost use Rattle.toml.specs.View.{table_view};
+ghost use Rattle.falls.specs.Falls.{falls_at};
+ghost use Rattle.archive_deliveries.specs.Names.{told_apart};
+ghost use Rattle.page.specs.Charts.{course_html};
+ghost use Rattle.page.specs.Escapes as html;
+ghost use Rattle.page.specs.Escapes.{Puts};
+ghost use Rattle.page.specs.Moments.{moments};
 ghost use Rattle.page.specs.Page as page;
+ghost use Rattle.page.specs.Ruled.{ruled_text};
+ghost use Rattle.page.specs.Title.{or_words, title_text};
 
-use crate::template::{BACK, FRONT};
-use streams::{Sink, Watched, WriteFailed};
+use crate::book_part::put_book;
+use crate::charts::put_course;
+use crate::escapes::escaped;
+use crate::facts::facts_of;
+use crate::innings::put_innings;
+use crate::moments::{Moment, moments_of};
+use crate::result::result_of;
+use crate::ruled::ruled_of;
+use crate::template::{END, FRONT, MAIN, STYLE};
+use crate::title::title_of;
+use archive_deliveries::NamedSheet;
+use cards::MatchSheet;
+use corrections::BookOf;
+use export::info_or;
+use falls::{FallAt, falls_at};
+use match_laws::Match;
+use std::alloc::{AllocError, Global};
+use toml::Table;
 
-/// What stands before the first `<`, and what stands after it.
-fn cut(text: &str) -> Option<(&str, &str)>
-    ensures { MatchOption result (position_or_len page.is_sign text.now ≡ length text.now)
-        (λ parts. (parts.0.now ≡ before_first page.is_sign text.now)
-        × (parts.1.now ≡ after_first page.is_sign text.now)
-        × (position_or_len page.is_sign text.now < length text.now)) }
+/// Puts the head of the file.
+fn put_front(out: &mut String, title: &str, words: &str) -> Result<(), AllocError>
+    ensures { Puts result out.old out.new (page.front_html title.now words.now) }
 {
-    text.split_once('<')
+    out.push_str(FRONT)?;
+    out.push_str(title)?;
+    out.push_str(": ")?;
+    out.push_str(words)?;
+    out.push_str(STYLE)
 }
 
-/// Prints a text with `\u003c` in the place of each `<`.
-fn print_escaped<W: Sink>(text: &str, out: &mut Watched<W>) -> Result<(), WriteFailed>
-    ensures text { OnOk result (Prints W.contents out.old out.new (page.escaped text.now)) }
-    ensures failed { TellsFailure result out.old out.new }
+fn put_result(out: &mut String, words: &str) -> Result<(), AllocError>
+    ensures { Puts result out.old out.new (page.result_line words.now) }
 {
-    let mut rest = text;
-    while let Some((part, more)) = cut(rest) {
-        write!(out, "{part}\\u003c")?;
-        rest = more;
+    writeln!(out, "<p id='result'>{words}</p>")
+}
+
+fn put_laws(out: &mut String, words: &str) -> Result<(), AllocError>
+    ensures { Puts result out.old out.new (page.laws_line words.now) }
+{
+    writeln!(out, "<p id='by-laws'>By the Laws: {words}</p>")
+}
+
+/// Puts the result: what the umpires said, where they did, and what follows by the Laws.
+fn put_ruling(out: &mut String, ruled: &str, laws: &str) -> Result<(), AllocError>
+    ensures { Puts result out.old out.new (page.ruling_html ruled.now laws.now) }
+{
+    if ruled.is_empty() {
+        return put_result(out, laws);
     }
-    write!(out, "{rest}")
+    put_result(out, ruled)?;
+    put_laws(out, laws)
 }
 
-/// Prints the page of a book's value, which is the text of one JSON value. It fails only where a write fails; how much was
-/// written then isn't said.
-pub fn print_page<W: Sink>(value: &str, out: &mut Watched<W>) -> Result<(), WriteFailed>
-    ensures text { OnOk result (Prints W.contents out.old out.new (page.page_of value.now)) }
-    ensures failed { TellsFailure result out.old out.new }
-    ensures handed_on { OnOk result (IsHandedOn W.calls out.new) }
+/// Puts the title of the match, and what is told beside it.
+fn put_title(out: &mut String, title: &str, facts: &str) -> Result<(), AllocError>
+    ensures { Puts result out.old out.new (page.title_html title.now facts.now) }
 {
-    write!(out, "{}", FRONT)?;
-    print_escaped(value, out)?;
-    write!(out, "{}", BACK)?;
-    out.flush()
+    writeln!(out, "{title}</h1>\n<p id='facts'>{facts}</p>")
+}
+
+/// Puts the head of the page.
+fn put_header(
+    out: &mut String,
+    title: &str,
+    facts: &str,
+    ruled: &str,
+    laws: &str,
+) -> Result<(), AllocError>
+    ensures { Puts result out.old out.new (page.header_html title.now facts.now ruled.now laws.now) }
+{
+    put_title(out, title, facts)?;
+    put_ruling(out, ruled, laws)?;
+    out.push_str(MAIN)
+}
+
+/// The one that isn't empty, if there is one.
+fn or_other<'a>(words: &'a str, other: &'a str) -> &'a str
+    ensures { result.now ≡ or_words words.now other.now }
+{
+    if words.is_empty() { other } else { words }
+}
+
+/// What the umpires said, unless the Laws say the same.
+fn unless_same<'a>(ruled: &'a str, laws: &str) -> &'a str
+    ensures { result.now ≡ page.unless_same ruled.now laws.now }
+{
+    if ruled == laws { "" } else { ruled }
+}
+
+/// Puts the head of the file, by both results.
+fn put_window(out: &mut String, title: &str, ruled: &str, laws: &str) -> Result<(), AllocError>
+    ensures { Puts result out.old out.new (page.window_html title.now ruled.now laws.now) }
+{
+    put_front(out, title, or_other(ruled, laws))
+}
+
+/// Puts both heads.
+fn put_heads(
+    out: &mut String,
+    title: &str,
+    facts: &str,
+    ruled: &str,
+    laws: &str,
+) -> Result<(), AllocError>
+    ensures { Puts result out.old out.new (page.heads_html title.now facts.now ruled.now laws.now) }
+{
+    put_window(out, title, ruled, laws)?;
+    put_header(out, title, facts, ruled, laws)
+}
+
+/// Puts both heads, with what was ruled once.
+fn put_head(
+    out: &mut String,
+    title: &str,
+    facts: &str,
+    ruled: &str,
+    laws: &str,
+) -> Result<(), AllocError>
+    ensures { Puts result out.old out.new (page.head_html title.now facts.now ruled.now laws.now) }
+{
+    put_heads(out, title, facts, unless_same(ruled, laws), laws)
+}
+
+/// All innings that have begun, by the items of all and where their wickets fell.
+fn innings_of(
+    alloc: Global,
+    sheet: &NamedSheet<'_>,
+    score: &Match,
+    moments: &[Moment],
+    falls: &[FallAt],
+) -> Result<String, AllocError>
+    ensures { ForEachHistory score.now (λ n h. falls.now ≡ falls_at h → n ≡ sheet.now.innings →
+        IfOk result (λ text. string_bytes text ≡ page.all_innings sheet.now n h moments.now)) }
+{
+    let mut out = String::new(alloc);
+    for innings in 0..score.begun() {
+        put_innings(alloc, &mut out, sheet, score, moments, falls, innings)?;
+    }
+    Ok(out)
+}
+
+/// Puts these innings, or that there was no play.
+fn put_or_no_play(out: &mut String, innings: &str) -> Result<(), AllocError>
+    ensures { Puts result out.old out.new (page.or_no_play innings.now) }
+{
+    if innings.is_empty() {
+        out.push_str("<p>No play.</p>\n")
+    } else {
+        out.push_str(innings)
+    }
+}
+
+/// Puts all innings with their cards, by the items of all and where their wickets fell.
+fn put_cards(
+    alloc: Global,
+    out: &mut String,
+    sheet: &NamedSheet<'_>,
+    score: &Match,
+    moments: &[Moment],
+    falls: &[FallAt],
+) -> Result<(), AllocError>
+    ensures { ForEachHistory score.now (λ n h. falls.now ≡ falls_at h → n ≡ sheet.now.innings →
+        Puts result out.old out.new (page.cards_html sheet.now n h moments.now)) }
+{
+    let innings = innings_of(alloc, sheet, score, moments, falls)?;
+    put_or_no_play(out, innings.as_str())
+}
+
+/// Puts those of a book.
+fn put_cards_of<B: BookOf>(
+    alloc: Global,
+    out: &mut String,
+    sheet: &NamedSheet<'_>,
+    book: &B,
+) -> Result<(), AllocError>
+    requires { B.innings_a_side book.now ≡ sheet.now.innings }
+    ensures { Puts result out.old out.new
+        (page.cards_html sheet.now sheet.now.innings (history_of (B.content book.now)) (moments [] (clean (B.content book.now)))) }
+{
+    let score = book.score();
+    let moments = moments_of(alloc, sheet.innings(), book)?;
+    let falls = falls_at(alloc, book)?;
+    put_cards(
+        alloc,
+        out,
+        sheet,
+        score,
+        moments.as_slice(),
+        falls.as_slice(),
+    )
+}
+
+/// Puts each over of a book, and its charts.
+fn put_overs_of<B: BookOf>(
+    alloc: Global,
+    out: &mut String,
+    sheet: &NamedSheet<'_>,
+    book: &B,
+) -> Result<(), AllocError>
+    requires { B.innings_a_side book.now ≡ sheet.now.innings }
+    ensures { Puts result out.old out.new
+        (course_html sheet.now sheet.now.innings (history_of (B.content book.now)) (moments [] (clean (B.content book.now)))) }
+{
+    let score = book.score();
+    let moments = moments_of(alloc, sheet.innings(), book)?;
+    put_course(alloc, out, sheet, score, moments.as_slice())
+}
+
+/// Puts what stands below the head of the page.
+fn put_main<B: BookOf>(
+    alloc: Global,
+    out: &mut String,
+    sheet: &NamedSheet<'_>,
+    book: &B,
+) -> Result<(), AllocError>
+    requires { B.innings_a_side book.now ≡ sheet.now.innings }
+    ensures { Puts result out.old out.new (page.main_html sheet.now sheet.now.innings (B.content book.now)) }
+{
+    put_cards_of(alloc, out, sheet, book)?;
+    put_overs_of(alloc, out, sheet, book)?;
+    put_book(alloc, out, book)?;
+    out.push_str(END)
+}
+
+/// The title of the match as HTML shows it.
+fn shown_title(alloc: Global, sheet: &NamedSheet<'_>, info: &Table) -> Result<String, AllocError>
+    ensures { IfOk result (λ text. string_bytes text ≡ html.escaped (title_text sheet.now (table_view info.now))) }
+{
+    let title = title_of(alloc, sheet, info)?;
+    escaped(alloc, title.as_str())
+}
+
+/// What the umpires said of the result as HTML shows it.
+fn shown_ruling(alloc: Global, info: &Table) -> Result<String, AllocError>
+    ensures { IfOk result (λ text. string_bytes text ≡ html.escaped (ruled_text (table_view info.now))) }
+{
+    let ruled = ruled_of(alloc, info)?;
+    escaped(alloc, ruled.as_str())
+}
+
+/// Puts both heads, with the result in these words.
+fn put_top_with(
+    alloc: Global,
+    out: &mut String,
+    sheet: &NamedSheet<'_>,
+    info: &Table,
+    laws: &str,
+) -> Result<(), AllocError>
+    ensures { Puts result out.old out.new (page.top_with sheet.now (table_view info.now) laws.now) }
+{
+    let title = shown_title(alloc, sheet, info)?;
+    let facts = facts_of(alloc, info)?;
+    let ruled = shown_ruling(alloc, info)?;
+    put_head(out, title.as_str(), facts.as_str(), ruled.as_str(), laws)
+}
+
+/// The result by the Laws.
+fn laws_of<B: BookOf>(alloc: Global, sheet: &NamedSheet<'_>, book: &B) -> Result<String, AllocError>
+    requires { B.innings_a_side book.now ≡ sheet.now.innings }
+    ensures { IfOk result (λ text.
+        string_bytes text ≡ page.result_html sheet.now sheet.now.innings (history_of (B.content book.now))) }
+{
+    result_of(alloc, sheet, book.score())
+}
+
+/// Puts both heads of a book's page.
+fn put_top<B: BookOf>(
+    alloc: Global,
+    out: &mut String,
+    sheet: &NamedSheet<'_>,
+    document: &Table,
+    book: &B,
+) -> Result<(), AllocError>
+    requires { B.innings_a_side book.now ≡ sheet.now.innings }
+    ensures { Puts result out.old out.new (page.top_html sheet.now (table_view document.now) (B.content book.now)) }
+{
+    let laws = laws_of(alloc, sheet, book)?;
+    let empty = Table::new(alloc);
+    let info = info_or(document, &empty);
+    put_top_with(alloc, out, sheet, info, laws.as_str())
+}
+
+/// The page of a book, by a sheet whose sides are told apart.
+fn named_page<B: BookOf>(
+    alloc: Global,
+    sheet: &NamedSheet<'_>,
+    document: &Table,
+    book: &B,
+) -> Result<String, AllocError>
+    requires { B.innings_a_side book.now ≡ sheet.now.innings }
+    ensures { IfOk result (λ text.
+        string_bytes text ≡ page.page_text sheet.now (table_view document.now) (B.content book.now)) }
+{
+    let mut out = String::new(alloc);
+    put_top(alloc, &mut out, sheet, document, book)?;
+    put_main(alloc, &mut out, sheet, book)?;
+    Ok(out)
+}
+
+/// The page of a book, by a sheet and what its document hands on. The sides are told apart, as in an export.
+pub fn page_of<B: BookOf>(
+    alloc: Global,
+    sheet: &MatchSheet,
+    document: &Table,
+    book: &B,
+) -> Result<String, AllocError>
+    requires { B.innings_a_side book.now ≡ sheet.now.innings }
+    ensures { IfOk result (λ text.
+        string_bytes text ≡ page.page_text (told_apart sheet.now) (table_view document.now) (B.content book.now)) }
+{
+    let named = NamedSheet::new(alloc, sheet)?;
+    named_page(alloc, &named, document, book)
 }

@@ -1,0 +1,6 @@
+use Rattle.std.proofs.Common.{add-one}
+use Rattle.page.proofs.bars.most_overs.Goals as goal
+
+pub loop-innings-preserved : goal.loop-innings-preserved
+loop-innings-preserved c = λ n h s.
+    rw add-one (rw (c.loop-innings.invariant n h s, c.overs.ensures.called n h s) at c.larger-most.ensures)

@@ -1,0 +1,10 @@
+use Rattle.std.proofs.Common.{◌≡◌}
+use Rattle.std.specs.Prelude.{string_bytes}
+use Rattle.match_laws.specs.Stands.{ForEachHistory}
+use Rattle.json_fields.specs.Values.{up_to}
+use Rattle.page.specs.Overs.{overs_html}
+use Rattle.page.proofs.overs.all_overs.Given as goal
+
+abbrev pub invariant-loop-innings : goal.invariant-loop-innings
+invariant-loop-innings l = ForEachHistory l.score (λ n h.
+    string_bytes l.out ≡ up_to (overs_html l.sheet l.sheet.innings h l.moments) l.innings)
