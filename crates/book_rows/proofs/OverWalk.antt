@@ -18,55 +18,12 @@ use Rattle.corrections.specs.CleanList.{clean_items_of, history_of, kept}
 use Rattle.corrections.specs.inner.Scoring.{history_after}
 use Rattle.corrections.proofs.LegalLemmas.{history_of-clean_items}
 use Rattle.corrections.proofs.ScoringLemmas.{kept_first, kept_not}
-use Rattle.cards.proofs.Slots.{next}
+use Rattle.corrections.proofs.ListLemmas.{next}
+use Rattle.corrections.proofs.PlayedLemmas.{played_before}
 use Rattle.streams.proofs.Appending.{appends_none, appends_both}
 use Rattle.over_numbers.specs.declared.count.Count.{Count}
 use Rattle.over_numbers.specs.Counts.{counted}
 use Rattle.book_rows.specs.OverEntries.{lines_behind}
-
--- ---- nothing of what stands was refused
-
-played : (n : ℕ) (h : History) → IsLegal n h → IsPlayed h
-played n [] legal = tt
-played n (Void ∷ h) legal = (played n h legal.0, refl)
-played n (x ∷ h) legal = (played n h legal.0, (taken n h x refl legal.1).ball)
-
--- nor of what it began with
-played_before : (h : History) (xs : List Placed) → IsPlayed (history_after h xs) → IsPlayed h
-played_before h [] all = all
-played_before h (x ∷ xs) all = (played_before (x.item ∷ h) xs all).0
-
--- a history with the state of another one, which was played
-record IsLike (g h : History) : Type 0 where
-  pub state : state_after g ≡ state_after h
-  pub played : IsPlayed g
-
-like_void : (g h : History) (x : Plain) → is_void x ≡ true → IsLike g h → IsLike (x ∷ g) h
-like_void g h Void v e = record { state = e.state; played = (e.played, refl) }
-like_void g h x v e = absurd cc
-
-like_more : (g h : History) (x : Plain) → refusal (state_after h) x ≡ None → IsLike g h → IsLike (x ∷ g) (x ∷ h)
-like_more g h x taken e = record {
-  state = ap (λ s. after s x) e.state;
-  played = (e.played, ap (λ s. refusal s x) e.state ∙ taken);
-}
-
--- `void`s among them change nothing
-like_behind : (g h : History) (xs : List Placed) → IsLike g h → IsPlayed (history_after h (kept xs)) → IsPlayed (history_after g xs)
-like_behind g h [] e all = e.played
-like_behind g h (x ∷ xs) e all = elim (cases_Bool (is_void x.item)) [
-  | inl v ↦ like_behind (x.item ∷ g) h xs (like_void g h x.item v e) (rw (kept_not x xs v) at all)
-  | inr v ↦
-      let rest = rw (kept_first x xs v) at all in
-      like_behind (x.item ∷ g) (x.item ∷ h) xs (like_more g h x.item (played_before (x.item ∷ h) (kept xs) rest).1 e) rest
-]
-
-pub stands_played : (n : ℕ) (book : List Entry) → IsLegal n (history_of book) → IsPlayed (history_after [] (clean_items_of book))
-stands_played n book legal =
-    like_behind [] [] (clean_items_of book) (record { state = refl; played = tt })
-    (subst IsPlayed (sym (history_of-clean_items book)) (played n (history_of book) legal))
-
--- ---- item by item
 
 -- what was written so far, with the lines of what is left, is the lines of all; the crease and the count there
 pub record Telling (line : History → Placed → List ℕ) (items : List Placed) (k : ℕ) (there : Standing) (come : Count) (before behind : Option (List ℕ)) : Type 0 where

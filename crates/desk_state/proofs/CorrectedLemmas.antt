@@ -5,8 +5,8 @@ use Rattle.std.proofs.lemmas.Bool.Decides.{nat_tests}
 use Rattle.std.proofs.lemmas.List.{drop_all, get_or-replicate, get_or-set_other, get_or-set_same, length-replicate, length-set}
 use Rattle.notation.specs.declared.entry.Entry.{Entry}
 use Rattle.notation.specs.declared.entry.Entry.TheVariants.{Write, Fix, Late}
-use Rattle.cards.proofs.Slots.{next}
-use Rattle.book_rows.specs.Listing.{corrected_at, fix_or, last_fix}
+use Rattle.corrections.proofs.ListLemmas.{next}
+use Rattle.corrections.specs.Corrected.{corrected_at, fix_or, last_fix}
 use Rattle.desk_state.specs.inner.Corrected.{IsCorrectedBy, with_entry}
 
 -- what was noted of each place, with what the rest of the book says of it, is what the book says

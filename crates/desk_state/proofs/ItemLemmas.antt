@@ -9,12 +9,12 @@ use Rattle.ball_laws.specs.History.{History}
 use Rattle.ball_laws.specs.Laws.{IsPlayed, refusal, state_after}
 use Rattle.corrections.specs.declared.placed.Placed.{Placed}
 use Rattle.corrections.specs.inner.Scoring.{history_after}
-use Rattle.cards.proofs.Slots.{next}
+use Rattle.corrections.proofs.ListLemmas.{next}
 use Rattle.json.specs.Json.{Json}
 use Rattle.json.specs.Token.{Token}
 use Rattle.json_fields.specs.Values.{values_tokens}
 use Rattle.json_fields.proofs.Putting.{no_values, values_due}
-use Rattle.book_rows.specs.Listing.{corrected_at}
+use Rattle.corrections.specs.Corrected.{corrected_at}
 use Rattle.over_numbers.specs.declared.count.Count.{Count}
 use Rattle.over_numbers.specs.Counts.{counted}
 use Rattle.desk_state.specs.declared.before.Before.{Before}

@@ -17,7 +17,7 @@ use Rattle.corrections.proofs.CleanItemLemmas.{with_late-cons}
 use Rattle.corrections.proofs.LegalLemmas.{clean_items_of-push, is_named, slice_get-last}
 use Rattle.json.specs.Json.{Json}
 use Rattle.over_numbers.specs.Counts.{counted}
-use Rattle.book_rows.specs.Listing.{corrected_at, fix_or, last_fix}
+use Rattle.corrections.specs.Corrected.{corrected_at, fix_or, last_fix}
 use Rattle.desk_state.specs.Book.{book_items, first_new, index_of, item_value, news_from, touched_at, value_in, values_behind}
 
 -- ys goes as xs up to what was entered at place p

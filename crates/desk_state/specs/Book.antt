@@ -15,7 +15,7 @@ use Rattle.json.specs.Print.{print}
 use Rattle.json_fields.specs.Values.{Field, array_of, object_of, number_field, text_field}
 use Rattle.over_numbers.specs.declared.count.Count.{Count}
 use Rattle.over_numbers.specs.Counts.{counted}
-use Rattle.book_rows.specs.Listing.{corrected_at}
+use Rattle.corrections.specs.Corrected.{corrected_at}
 
 -- ---- an item, before which the innings had come so far, with this player at the end that is bowled to
 

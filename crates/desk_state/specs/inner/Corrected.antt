@@ -2,7 +2,7 @@
 use Rattle.std.specs.Prelude.{◌≡◌, ℕ, ◌<◌, List, Option, Some, None, length, get_or, slice_set}
 use Rattle.notation.specs.declared.entry.Entry.{Entry}
 use Rattle.notation.specs.declared.entry.Entry.TheVariants.{Write, Fix, Late}
-use Rattle.book_rows.specs.Listing.{corrected_at}
+use Rattle.corrections.specs.Corrected.{corrected_at}
 
 -- with an entry at place k
 abbrev pub with_entry : ℕ → Entry → List (Option ℕ) → List (Option ℕ)

@@ -1,6 +1,6 @@
 use Rattle.std.proofs.Common.{sym, ◌∙◌}
 use Rattle.std.proofs.lemmas.List.{drop_all}
-use Rattle.cards.proofs.Slots.{next}
+use Rattle.corrections.proofs.ListLemmas.{next}
 use Rattle.json_fields.proofs.Putting.{fields_due, no_fields}
 use Rattle.archive_deliveries.proofs.miscounts.put_each.Goals as goal
 use Rattle.archive_deliveries.proofs.miscounts.put_each.Goals.{then-is_miscounted+in_ok-put_miscount, else-is_miscounted}

@@ -1,6 +1,6 @@
 use Rattle.std.proofs.Common.{append_assoc}
 use Rattle.std.proofs.lemmas.Bool.{eq-eqb, ne_eqb}
-use Rattle.cards.proofs.Slots.{next}
+use Rattle.corrections.proofs.ListLemmas.{next}
 use Rattle.archive_deliveries.proofs.notes.items_in.Goals as goal
 use Rattle.archive_deliveries.proofs.notes.items_in.Goals.{then-noted-innings+in_ok-push, else-noted-innings}
 

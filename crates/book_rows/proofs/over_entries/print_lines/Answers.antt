@@ -6,7 +6,8 @@ use Rattle.corrections.specs.CleanList.{IsItemOf}
 use Rattle.cards.specs.Sheet.{Sheet}
 use Rattle.cards.proofs.Slots.{all_at}
 use Rattle.book_rows.specs.OverEntries.{lines_behind, over_line}
-use Rattle.book_rows.proofs.OverWalk.{stands_played, tells_none, tells_one, tells_taken, tells_all}
+use Rattle.corrections.proofs.PlayedLemmas.{stands_played}
+use Rattle.book_rows.proofs.OverWalk.{tells_none, tells_one, tells_taken, tells_all}
 use Rattle.book_rows.proofs.over_entries.print_lines.Goals as goal
 
 pub loop-index-init : goal.loop-index-init

@@ -1,6 +1,6 @@
 use Rattle.std.proofs.Common.{sym, ◌∙◌}
 use Rattle.std.proofs.lemmas.List.{drop_all}
-use Rattle.cards.proofs.Slots.{next}
+use Rattle.corrections.proofs.ListLemmas.{next}
 use Rattle.delivery_rows.proofs.cells.is_formula.Goals as goal
 
 pub returns-then-not-is_quote : goal.returns-then-not-is_quote

@@ -1,6 +1,6 @@
 use Rattle.std.proofs.Common.{sym, ◌∙◌}
 use Rattle.std.proofs.lemmas.List.{drop_all}
-use Rattle.cards.proofs.Slots.{next}
+use Rattle.corrections.proofs.ListLemmas.{next}
 use Rattle.delivery_rows.proofs.Putting.{no_rows, rows_due}
 use Rattle.delivery_rows.proofs.innings.put_rows.Goals as goal
 use Rattle.delivery_rows.proofs.innings.put_rows.Goals.{then-is_ball+in_ok-standing, else-is_ball}

@@ -1,7 +1,7 @@
 use Rattle.std.proofs.Common.{◌∙◌, None, get_or, sym, ap, arith}
 use Rattle.corrections.specs.CleanList.{IsItemOf}
 use Rattle.cards.proofs.Slots.{all_at}
-use Rattle.book_rows.proofs.OverWalk.{stands_played}
+use Rattle.corrections.proofs.PlayedLemmas.{stands_played}
 use Rattle.desk_state.proofs.ItemLemmas.{puts_none, puts_one, puts_all, same_value, takes, within_more}
 use Rattle.desk_state.proofs.items.put_items.Goals as goal
 
