@@ -54,7 +54,7 @@ fn push_letter(out: &mut String, letter: char) -> Result<(), AllocError>
 }
 
 /// A text as it is shown, without its quotes.
-fn shown(alloc: Global, text: &str) -> Result<String, AllocError>
+pub fn shown(alloc: Global, text: &str) -> Result<String, AllocError>
     ensures { IfOk result (λ shown. string_bytes shown ≡ letters.shown text.now) }
 {
     let mut out = String::new(alloc);

@@ -1,7 +1,9 @@
 //! What a match sheet has, and all that is wrong with one, in a scorer's words.
 #![tactic(auto)]
 
+mod addresses;
 mod faults;
+mod handed;
 mod laws;
 mod letters;
 mod limited;
@@ -12,7 +14,12 @@ mod sides;
 mod stations;
 mod twice;
 
-pub use laws::{fine_sheets_have_no_fault, first_fault_is_the_number};
+pub use addresses::is_address;
+pub use handed::{day_of, is_fine_document, meta_at, revision_of};
+pub use laws::{
+    fine_documents_have_no_fault, fine_sheets_have_no_fault, first_fault_is_the_number,
+};
+pub use letters::shown;
 pub use putting::Fault;
-pub use report::{faults_of, first_line, report_of};
+pub use report::{faults_of, first_line, handed_report_of, report_of};
 pub use sheet_rows::shown_sheet;

@@ -1,10 +1,14 @@
 //! All that is wrong with the text of a sheet.
 
-ghost use Rattle.std.specs.Prelude.{◌≡◌, map, string_bytes, IfOk};
+ghost use Rattle.std.specs.Prelude.{◌≡◌, List, map, string_bytes, IfOk};
 ghost use Rattle.toml.specs.View.{table_view};
-ghost use Rattle.sheet_check.specs.Reports.{IsReport, IsTomlLine, all_faults, begin_faults, fault_of, faults_in, told};
+ghost use Rattle.sheet_check.specs.Faults as faults;
+ghost use Rattle.sheet_check.specs.Handed.{handed_faults};
+ghost use Rattle.sheet_check.specs.Reports.{AreAllFaults, IsHandedReport, IsReport, IsTomlLine, begin_faults, fault_of, faults_in, told};
 
+use crate::addresses::put_addresses;
 use crate::faults::put_faults;
+use crate::handed::put_handed;
 use crate::limited::put_limits;
 use crate::putting::{Fault, push_number};
 use crate::stations::put_stations;
@@ -58,19 +62,44 @@ fn lines_of(alloc: Global, faults: &[Fault]) -> Result<String, AllocError>
 
 /// What is told of a sheet's table.
 fn table_report(alloc: Global, table: &Table) -> Result<String, AllocError>
-    ensures { IfOk result (λ report. string_bytes report ≡ told (all_faults (table_view table.now))) }
+    ensures { IfOk result (λ report. (all : List faults.Fault) × AreAllFaults (table_view table.now) all × (string_bytes report ≡ told all)) }
 {
     let mut faults = faults_of(alloc, table)?;
+    put_addresses(alloc, &mut faults, table)?;
     put_limits(alloc, &mut faults, table)?;
+    put_handed(alloc, &mut faults, table)?;
     lines_of(alloc, faults.as_slice())
 }
 
-/// All that is wrong with a sheet, its table of stations and what it limits, a line each; without a byte where that is nothing.
+/// What is told of what a sheet's table hands on.
+fn handed_report(alloc: Global, table: &Table) -> Result<String, AllocError>
+    ensures { IfOk result (λ report. string_bytes report ≡ told (handed_faults (table_view table.now))) }
+{
+    let mut faults = Vec::new(alloc);
+    put_handed(alloc, &mut faults, table)?;
+    lines_of(alloc, faults.as_slice())
+}
+
+/// All that is wrong with a sheet, its table of stations, what it limits and what it hands on, a line each; without a byte where
+/// that is nothing.
 pub fn report_of(alloc: Global, text: &[u8]) -> Result<String, AllocError>
     ensures { IfOk result (λ report. IsReport text.now (string_bytes report)) }
 {
     match toml::table_from_slice(alloc, text) {
         Ok(table) => table_report(alloc, &table),
+        Err(error) => match error.span() {
+            Some(span) => toml_line(alloc, line_at(text, span.start), error.message()),
+            None => Err(AllocError),
+        },
+    }
+}
+
+/// All that is wrong with what a sheet hands on to archives and pages, likewise.
+pub fn handed_report_of(alloc: Global, text: &[u8]) -> Result<String, AllocError>
+    ensures { IfOk result (λ report. IsHandedReport text.now (string_bytes report)) }
+{
+    match toml::table_from_slice(alloc, text) {
+        Ok(table) => handed_report(alloc, &table),
         Err(error) => match error.span() {
             Some(span) => toml_line(alloc, line_at(text, span.start), error.message()),
             None => Err(AllocError),

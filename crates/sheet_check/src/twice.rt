@@ -14,14 +14,14 @@ use std::alloc::{AllocError, Global};
 use toml::Table;
 
 /// The text at a key of the table.
-fn text_in<'a>(table: &'a Table, key: &str) -> Option<&'a str>
+pub fn text_in<'a>(table: &'a Table, key: &str) -> Option<&'a str>
     ensures { option_map (λ text. text.now) result ≡ twice.text_in key.now (table_view table.now) }
 {
     value_in(table, key)?.as_str()
 }
 
 /// The address of a board in it, counted from 0.
-fn board_in(table: &Table, index: usize) -> Option<&str>
+pub fn board_in(table: &Table, index: usize) -> Option<&str>
     ensures { option_map (λ text. text.now) result ≡ twice.board_in index (table_view table.now) }
 {
     value_in(table, "boards")?.get(index)?.as_str()

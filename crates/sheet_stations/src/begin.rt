@@ -12,6 +12,7 @@ use cards::SheetFault;
 use desk_command::{Ended as EndedDesk, start_desk};
 use machine::{Address, MOST_PEERS, addresses_in};
 use setup::{Stopped, tell_station};
+use sheet_check::is_address;
 use station_table::{
     BoardNames, BoardOptions, BoardSetting, DeskOptions, DeskSetting, Showing, board_begun,
     desk_begun,
@@ -28,20 +29,20 @@ const NO_ADDRESS: &str = "isn't an address with a port, such as 192.168.1.20:471
 /// What is told of addresses of which each is one.
 const NO_PEERS: &str = "these addresses are of two kinds, or one is nobody's";
 
-/// Whether a text is an address, if there is one.
-fn is_address(text: Option<&str>) -> bool {
+/// Whether a board that is named is an address.
+fn is_board(text: Option<&str>) -> bool {
     match text {
-        Some(text) => text.parse::<SocketAddr>().is_ok(),
+        Some(text) => is_address(text),
         None => true,
     }
 }
 
-/// Whether all boards that are named are addresses.
+/// Whether all boards that are named are.
 fn are_addresses(boards: BoardNames<'_>) -> bool {
-    is_address(boards.first)
-        && is_address(boards.second)
-        && is_address(boards.third)
-        && is_address(boards.fourth)
+    is_board(boards.first)
+        && is_board(boards.second)
+        && is_board(boards.third)
+        && is_board(boards.fourth)
 }
 
 /// A text that a station can't begin without, which has this place in the sheet.
@@ -67,7 +68,7 @@ fn address<'a>(
     text: Option<&'a str>,
 ) -> Result<&'a str, Stopped<'a>> {
     let text = present(rt, sheet, place, text)?;
-    if is_address(Some(text)) {
+    if is_address(text) {
         Ok(text)
     } else {
         Err(tell_station(rt, sheet, SheetFault::BadText, place, NO_ADDRESS))
