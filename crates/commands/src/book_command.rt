@@ -12,7 +12,7 @@ use books::{Source, book_from};
 use cards::MatchSheet;
 use export::document_of;
 use setup::{
-    SheetFile, StopFault, Stopped, card_sheet_at, open_input, output, short_sheet_at,
+    SheetFile, StopFault, Stopped, card_sheet_at, handed_fault, open_input, output, short_sheet_at,
     short_sheet_bytes, short_sheet_of,
 };
 use std::alloc::Global;
@@ -53,7 +53,7 @@ fn sheet_and_document<'a>(
     let sheet = short_sheet_of(rt, path, text.as_slice())?;
     match document_of(rt.alloc(), text.as_slice()) {
         Ok(document) => Ok((sheet, document)),
-        Err(why) => Err(Stopped::at(path, StopFault::from(why))),
+        Err(why) => Err(Stopped::at(path, handed_fault(rt, text.as_slice(), why))),
     }
 }
 
