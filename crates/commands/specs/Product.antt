@@ -44,7 +44,7 @@ module _
       pub text : List ℕ
       pub made : IsTextOf product s document book text
       pub written : Prints contents old new text
-      pub beside : told ≡ beside product s document book
+      pub is_told : told ≡ beside product s document book
 
     -- that of a book of which this is so
     pub record PrintsBook (IsBook : List Entry → Type 0) : Type 0 where
