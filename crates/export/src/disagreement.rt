@@ -92,19 +92,19 @@ fn winner_words(alloc: Global, name: Option<&str>) -> Result<String, AllocError>
 }
 
 /// What is told of two winners.
-fn differing(alloc: Global, told: Option<&str>, laws: Option<&str>) -> Result<String, AllocError>
+fn differing(alloc: Global, told: Option<&str>, winner: Option<&str>) -> Result<String, AllocError>
     ensures { IfOk result (λ words. string_bytes words
-        ≡ laws.differing (option_map (λ text. text.now) told.entry) (option_map (λ text. text.now) laws.entry)) }
+        ≡ laws.differing (option_map (λ text. text.now) told.entry) (option_map (λ text. text.now) winner.entry)) }
 {
-    if is_same(told, laws) {
+    if is_same(told, winner) {
         return Ok(String::new(alloc));
     }
     let told = winner_words(alloc, told)?;
-    let laws = winner_words(alloc, laws)?;
+    let winner = winner_words(alloc, winner)?;
     let mut words = String::from_str(alloc, "sheet: info.outcome says ")?;
     words.push_str(told.as_str())?;
     words.push_str(", the Laws say ")?;
-    words.push_str(laws.as_str())?;
+    words.push_str(winner.as_str())?;
     words.push_str("\n")?;
     Ok(words)
 }

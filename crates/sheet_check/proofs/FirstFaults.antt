@@ -1,14 +1,14 @@
 -- The first of all that is wrong with a sheet is that by whose number it is refused.
-use Rattle.std.proofs.Common.{◌≡◌, ℕ, ◌+◌, ◌==◌, nat_le, ◌&&◌, Bool, true, false, if◌then◌else◌, ℤ, pos, negsuc, List, [], ◌∷◌, ◌++◌, length, Option, Some, None, Result, Ok, Err, IfOk, codes, refl, decimal}
+use Rattle.std.proofs.Common.{◌≡◌, ℕ, ◌+◌, ◌==◌, nat_le, ◌&&◌, Bool, true, false, if◌then◌else◌, ℤ, pos, negsuc, List, [], ◌∷◌, ◌++◌, length, Option, Some, None, Result, Ok, Err, IfOk, codes, refl}
 use Rattle.std.specs.List.{list_all}
 use Rattle.toml.specs.Data.{Data, Items, no_items, item, Members, get_member, as_str, as_integer, as_array, as_table}
 use Rattle.limits.specs.Reading.{limits_in}
 use Rattle.cards.specs.Reading as reads
 use Rattle.cards.specs.Reading.{◌>>=◌, checked_names, checked_number, checked_text, count_of, eleven_names, greatest_game, of_kind, sheet_from, team_from}
-use Rattle.cards.specs.Sheet.{Sheet, Team, is_name, is_printable, is_text, longest_name, longest_title, usual_columns}
+use Rattle.cards.specs.Sheet.{Sheet, Team, is_name, is_printable, longest_name, longest_title, usual_columns}
 use Rattle.cards.specs.declared.fault.SheetFault.{SheetFault}
-use Rattle.cards.specs.declared.fault.SheetFault.TheVariants.{BadNumber, BadText, MissingKey, NotEleven, WrongKind}
-use Rattle.sheet_check.specs.Faults.{Fault, at, count_faults, faults, first_of, is_from, kind_faults, kinds_from, name_faults, names_from, number_at, number_or_kind, player, players, players_at, players_or_kind, side_at, side_or_kind, text_at, text_faults, text_or_kind, unless}
+use Rattle.cards.specs.declared.fault.SheetFault.TheVariants.{BadNumber, BadText, MissingKey, NotEleven}
+use Rattle.sheet_check.specs.Faults.{Fault, at, faults, first_of, kind_faults, kinds_from, name_faults, names_from, number_at, number_or_kind, player, players, players_at, players_or_kind, side_at, side_or_kind, text_at, text_faults, text_or_kind, unless}
 use Rattle.sheet_check.specs.Reports.{why_of}
 
 -- the first of two

@@ -1,5 +1,5 @@
 -- What stands twice in a sheet's table of stations: an address of two stations, and a desk's copy that is another of the desks' files.
-use Rattle.std.specs.Prelude.{ℕ, ◌||◌, not, Bool, true, false, List, [], ◌∷◌, ◌++◌, Option, Some, None, option_and_then, codes, bytes_eq}
+use Rattle.std.specs.Prelude.{ℕ, ◌||◌, not, Bool, false, List, [], ◌∷◌, ◌++◌, Option, Some, None, option_and_then, codes, bytes_eq}
 use Rattle.toml.specs.Data.{Members, at as item_at, get_member, as_str}
 use Rattle.cards.specs.declared.fault.SheetFault.TheVariants.{BadText}
 use Rattle.sheet_check.specs.Faults.{Fault, at, unless}

@@ -1,4 +1,4 @@
-use Rattle.std.proofs.Common.{◌≡◌, [], ◌∷◌, ◌++◌, string_bytes, append_assoc, append-nil, rules, sym, ◌∙◌}
+use Rattle.std.proofs.Common.{◌≡◌, ◌∷◌, ◌++◌, string_bytes, append_assoc, append-nil, rules, sym, ◌∙◌}
 use Rattle.toml.specs.View.{view, members_view}
 use Rattle.toml.proofs.Views.{Entry}
 use Rattle.sheet_check.specs.Reports.{faults_in}
