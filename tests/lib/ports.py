@@ -18,7 +18,9 @@ class Range:
                 self.lock.bind(f"\0ports of yermudosh's tests {number}")
             except OSError:
                 continue
-            self.ports = itertools.cycle(range(FIRST + SIZE * number, FIRST + SIZE * (number + 1)))
+            # not from the same port on as the process that had this range before: a station of that may still send to one
+            shift = self.owner // COUNT * 37 % SIZE
+            self.ports = itertools.cycle([FIRST + SIZE * number + (shift + it) % SIZE for it in range(SIZE)])
             return
         raise Wrong("no range of ports is free")
 
