@@ -8,7 +8,7 @@ use crate::fault::{StopFault, Stopped};
 use crate::opening::bytes_at;
 use crate::twins::told_sheet_of;
 use cards::{MatchSheet, SheetFault};
-use sheet_check::{faults_of, first_line, report_of};
+use sheet_check::{faults_of, first_line, handed_report_of, report_of};
 use std::io::Write;
 use std::snapshot::Snapshot;
 use toml::Table;
@@ -52,6 +52,15 @@ fn fault_in_words(rt: &HostRuntime, text: &[u8], why: SheetFault) -> StopFault {
     match report_of(rt.alloc(), text) {
         Ok(report) => tell_fault(rt, why, first_line(report.as_str())),
         Err(_) => StopFault::Sheet(why),
+    }
+}
+
+/// Why a sheet of this text isn't handed on to archives and pages. Standard error is told which key of `[info]` or `[meta]` it is
+/// refused for, and what is wrong with it.
+pub fn handed_fault(rt: &HostRuntime, text: &[u8], why: SheetFault) -> StopFault {
+    match handed_report_of(rt.alloc(), text) {
+        Ok(report) => tell_fault(rt, why, first_line(report.as_str())),
+        Err(_) => StopFault::from(why),
     }
 }
 
