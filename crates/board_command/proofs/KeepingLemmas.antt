@@ -9,7 +9,7 @@ use Rattle.station_texts.specs.declared.notices.Notice.{Notice}
 use Rattle.streams.specs.declared.watched.WriteFailed.{WriteFailed}
 use Rattle.board_command.specs.Keeping.{MatchBoard, entries_in, innings_in}
 
--- the same told otherwise: of its sheet, what passed, what was written, its notices, and what it handed over to be shown
+-- the board lives on with an equal sheet and equal logs too
 pub lives_so : {sheet same : Sheet} {begun last : MatchBoard} {p q m n : List Passed} {before after : List ℕ} {s t u v : Option (List ℕ)} {turns : ℕ}
     {a b c d : List Notice} {e f g h : List Sight} {ended : Result (Unit {0}) WriteFailed}
     → same ≡ sheet → q ≡ p → n ≡ m → t ≡ s → v ≡ u → b ≡ a → d ≡ c → f ≡ e → h ≡ g
@@ -17,7 +17,7 @@ pub lives_so : {sheet same : Sheet} {begun last : MatchBoard} {p q m n : List Pa
     → BoardLives entries_in innings_in same begun last (untyped q before t) (untyped n after v) turns b d f h ended
 lives_so i j k l m n o p q lives = rw (i, j, k, l, m, n, o, p, q) lives
 
--- where an answer has no fault, its board ended without one
+-- if an answer has no fault, its board ended without one
 pub answered : {E : Type 0} (answer : Result Bool E) {ended life : Result (Unit {0}) WriteFailed} → ended ≡ life
     → IfOk answer (λ refused. (refused ≡ false) × IsOk ended) → IfOk answer (λ refused. (refused ≡ false) × IsOk life)
 answered (Ok refused) same holds = (holds.0, rw same at holds.1)

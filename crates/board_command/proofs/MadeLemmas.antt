@@ -1,4 +1,4 @@
--- What was made for all that is due was made for each.
+-- Texts that were made for all that is due were made for each.
 use Rattle.std.specs.Prelude.{◌≡◌, ℕ, Bool, true, ◌||◌, List, Option, Result, Vec}
 use Rattle.std.specs.declared.alloc.Global.{Global}
 use Rattle.std.proofs.Common.{arith}

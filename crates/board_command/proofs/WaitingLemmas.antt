@@ -1,4 +1,4 @@
--- Where a text stands in another one for the last time.
+-- Where a text occurs in another one for the last time.
 use Rattle.std.proofs.Common.{[], IfOk, Result, Ok, Err, ◌≡◌, ◌∙◌, ℕ, ◌+◌, ◌-◌, ◌<◌, ◌≤◌, List, ◌++◌, length, take, drop, ap, arith, sym, refl}
 use Rattle.std.proofs.lemmas.List.{drop-drop, drop_at, length-append, length-drop, take-append-drop}
 use Rattle.std.specs.Str.Iter.{HasSubslice}
@@ -17,11 +17,11 @@ cut_at n s p j none at some = (
       (sym (drop-drop (length h.0) j s) ∙ ap (drop (length h.0)) h.2 ∙ drop_at h.0 (n ++ h.1) (length h.0) refl),
 )
 
--- what follows of an answer
+-- what an answer implies
 pub of_ok : {A E : Type 0} {P Q : A → Type 0} → ((a : A) → P a → Q a) → (r : Result A E) → IfOk r P → IfOk r Q
 of_ok f (Ok a) p = f a p
 of_ok f (Err e) p = tt
 
--- two parts, put into what was empty
+-- two parts, appended to an empty text
 pub joined : {x y z before front end text : List ℕ} → x ≡ [] → y ≡ x ++ before → before ≡ front → z ≡ y ++ end → end ≡ text → z ≡ front ++ text
 joined i j k l m = rw (l, m, j, i, k) refl

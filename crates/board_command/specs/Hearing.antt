@@ -1,4 +1,4 @@
--- When a board heard its desks, and what it tells of that.
+-- When a board heard its desks, and what it tells of their silence.
 use Rattle.std.specs.Prelude.{ℕ, ◌-◌, ◌/◌, ◌&&◌, ◌||◌, Bool, true, false, nat_le, is_some, Option, Some, None, Ok}
 use Rattle.agree_core.specs.declared.messages.{Asker.Asker, DeskId.DeskId, Message.Message}
 use Rattle.links.specs.declared.link.Arrival.{Arrival}
@@ -6,7 +6,7 @@ use Rattle.scoreboard.specs.declared.value.LastHeard.{LastHeard}
 use Rattle.board_command.specs.declared.hearing.{HeardAt.HeardAt, News.News}
 use Rattle.board_command.specs.declared.hearing.TheConstants.{LONGEST_SILENCE}
 
--- which desk says a message, if one does
+-- which desk sends a message, if a desk does
 abbrev pub asking_desk : Asker → Option DeskId
 asking_desk Asker.A = Some DeskId.A
 asking_desk Asker.B = Some DeskId.B
@@ -22,7 +22,7 @@ heard_from None old now = old
 heard_from (Some DeskId.A) old now = record old { a = Some now }
 heard_from (Some DeskId.B) old now = record old { b = Some now }
 
--- so it is where what came opens and is a message of the match; nothing else is heard
+-- the desk that sent a datagram is heard if that opens and is a message of the match; nothing else is heard
 abbrev pub heard_by : Arrival → HeardAt → ℕ → HeardAt
 heard_by (Arrival.Datagram count (Ok message)) old now = heard_from (desk_of message) old now
 heard_by arrival old now = old
@@ -31,7 +31,7 @@ heard_by arrival old now = old
 abbrev pub is_heard : HeardAt → Bool
 is_heard h = is_some h.a || is_some h.b
 
--- it was so long ago that nobody is heard, if ever
+-- this time, if it ever was, was so long ago that nobody is heard
 abbrev pub is_long_ago : ℕ → ℕ → Bool
 is_long_ago at now = nat_le LONGEST_SILENCE (now - at)
 
@@ -39,11 +39,11 @@ abbrev pub was_long_ago : Option ℕ → ℕ → Bool
 was_long_ago None now = true
 was_long_ago (Some at) now = is_long_ago at now
 
--- the board began so long ago, and heard neither desk since
+-- the board began that long ago, and has heard neither desk for as long
 abbrev pub is_silent : HeardAt → ℕ → Bool
 is_silent h now = is_long_ago h.begun now && (was_long_ago h.a now && was_long_ago h.b now)
 
--- how many whole seconds ago each was heard
+-- how many whole seconds ago each desk was heard
 abbrev pub seconds_since : Option ℕ → ℕ → Option ℕ
 seconds_since None now = None
 seconds_since (Some at) now = Some ((now - at) / 1000)
@@ -51,7 +51,7 @@ seconds_since (Some at) now = Some ((now - at) / 1000)
 abbrev pub last_heard : HeardAt → ℕ → LastHeard
 last_heard h now = record { a = seconds_since h.a now; b = seconds_since h.b now }
 
--- what is told where it was told or not that neither desk is heard, and it is so or not now
+-- the news, by whether silence was told before, and whether the desks are silent now
 abbrev pub news_of : Bool → Bool → Option News
 news_of false true = Some News.Silent
 news_of true false = Some News.HeardAgain

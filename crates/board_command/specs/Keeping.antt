@@ -25,8 +25,8 @@ use Rattle.station_texts.specs.declared.{notice_log.NoticeLog.NoticeLog, notices
 use Rattle.station_texts.specs.NoticeLogs.{notices_of}
 use Rattle.streams.specs.declared.watched.WriteFailed.{WriteFailed}
 
--- the sheet of its match, what it said and heard, what passed for that at its socket, what was written to its screen, the notices
--- that it told, the books that it handed to be shown, and how it ended
+-- the sheet of its match, what its link said and heard, what its socket carried for that, what was written to its screen, the
+-- notices that it told, the books that it handed to its displays, and how it ended
 pub record Traces : Type 0 where
   pub sheet : Sheet
   pub passed : List Passed
@@ -36,14 +36,14 @@ pub record Traces : Type 0 where
   pub shown : List Sight
   pub ended : Result (Unit {0}) WriteFailed
 
--- what a checked book has
+-- the entries and innings a side of a checked book
 abbrev pub entries_in : Contents → List Entry
 entries_in book = book.entries
 
 abbrev pub innings_in : Contents → ℕ
 innings_in book = book.innings_a_side
 
--- the same by the logs of each
+-- the traces that these logs hold
 abbrev pub traces_of :
     Sheet → Log → CarriedLog → Written → NoticeLog → SightLog CheckedBook → Result (Unit {0}) WriteFailed → Traces
 traces_of sheet passed carried told notices shown ended = record {
@@ -56,7 +56,7 @@ traces_of sheet passed carried told notices shown ended = record {
   ended = ended;
 }
 
--- with a checked book
+-- a board with a checked book
 abbrev pub MatchBoard : Type 0
 MatchBoard = Board CheckedBook book_impl.ghosts
 
@@ -66,8 +66,8 @@ pub record IsFresh (sheet : Sheet) (board : MatchBoard) : Type 0 where
   pub game : game_of board ≡ sheet.game
   pub innings : innings_in (book_of board) ≡ sheet.innings
 
--- A board was kept, from when nothing had passed or was told, until just this had passed at its socket, was written to its
--- screen, was told and was shown, and it ended so.
+-- A board was kept, from before anything had passed or was told, until exactly this had passed at its socket, been written to
+-- its screen, been told and been shown, and it ended so.
 pub record WasKept (traces : Traces) : Type 0 where
   pub begun : MatchBoard
   pub last : MatchBoard

@@ -8,52 +8,52 @@ use Rattle.scoreboard.specs.Value.{board_text}
 use Rattle.scoreboard.specs.declared.value.LastHeard.{LastHeard}
 use Rattle.board_command.specs.declared.waiting.Waiting.{Waiting}
 
--- how a state of the match with this number begins
+-- the head of a state of the match with this number
 abbrev pub head_of : ℕ → List ℕ
 head_of game = codes "{\"format\":\"yermudosh board 1\",\"match\":\"" ++ (decimal game ++ codes "\",")
 
--- a line is a board's state of this match: a value of JSON that begins so
+-- a line is a board's state of this match: a JSON value with this head
 pub record IsStateOf (game : ℕ) (line : List ℕ) : Type 0 where
   pub rest : List ℕ
   pub begins : line ≡ head_of game ++ rest
   pub value : IsSome (document line)
 
--- where a state begins to tell when its desks were heard
+-- the mark in a state where the times when the desks were heard begin
 abbrev pub heard_mark : List ℕ
 heard_mark = codes ",\"heard\":{"
 
--- how a state ends where neither was heard, and nothing keeps the board from going on
+-- the end of a state if neither desk was heard, and the board has no trouble
 abbrev pub unheard_end : List ℕ
 unheard_end = codes ",\"heard\":{\"a\":null,\"b\":null},\"trouble\":null}\n"
 
--- so many bytes of a state tell of its book: those in front of where it begins to tell, for the last time, when its desks were
--- heard; and of one that doesn't all but its last brace
+-- count bytes of a state tell of its book: those before its last mark of when the desks were heard; or all but its last brace,
+-- if it has no such mark
 abbrev pub TellsOfBook : List ℕ → ℕ → Type 0
 TellsOfBook line count =
     ((rest : List ℕ) × (line ≡ take count line ++ (heard_mark ++ rest)) × ¬ (HasSubslice rest heard_mark))
     ⊎ (¬ (HasSubslice line heard_mark) × (count ≡ length line - 1))
 
--- the state of a board that heard neither desk, with the book of this one
+-- the state of a board that has heard neither desk, with the book of this state
 pub record IsUnheard (line state : List ℕ) : Type 0 where
   pub count : ℕ
   pub tells : TellsOfBook line count
   pub state_is : state ≡ take count line ++ unheard_end
 
--- a file has a board's state of this match, alone in its line, and this one is made of it
+-- a file has a board's state of this match, alone on its line, and the shown state is made from it
 pub record IsKept (game : ℕ) (file state : List ℕ) : Type 0 where
   pub line : List ℕ
   pub is_line : file ≡ line ++ codes "\n"
   pub state_of : IsStateOf game line
   pub unheard : IsUnheard line state
 
--- the file of which it is made, if it is made of one
+-- the file that the shown state is made from, if any
 abbrev pub file_of : Waiting → Option (List ℕ)
 file_of waiting = option_map (λ text. text.value.items) waiting.file
 
 abbrev pub nobody : LastHeard
 nobody = record { a = None; b = None }
 
--- what is shown is made of a file, or it is the state of this book, of a board that heard neither desk
+-- the shown state is made from a file, or it is that of a board with this book that has heard neither desk
 abbrev pub IsOfFile : Sheet → ℕ → List Entry → Option (List ℕ) → List ℕ → Type 0
 IsOfFile s n book (Some file) state = IsKept s.game file state
 IsOfFile s n book None state = state ≡ board_text s n book nobody None

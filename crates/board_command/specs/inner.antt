@@ -1,2 +1,2 @@
--- What serves private functions and proofs only.
+-- Specs for private functions and proofs only.
 pub mod Due

@@ -22,13 +22,13 @@ use std::cell::RefCell;
 use std::rt::Stderr;
 use streams::{Watched, WriteFailed};
 
-/// Where a board tells what it can't take, and which file it can't write.
+/// Where a board tells which datagrams it can't take, and which file it can't write.
 pub type Told<'s, 'a> = Shared<'s, Pieces<StandardStream<'a, Stderr>>>;
 
 /// A board's files on this machine.
 type BoardFiles<'s, 'a> = Files<'a, WholeText<TextFile<'a>>, Told<'s, 'a>, CheckedBook>;
 
-/// What names a board's files, and what they may not take the place of.
+/// The paths of a board's files, and of the files that they may not replace.
 #[derive(Clone, Copy)]
 struct Paths<'a> {
     sheet: &'a str,
@@ -39,7 +39,7 @@ struct Paths<'a> {
 }
 
 impl<'a> Paths<'a> {
-    /// The file of this name, where there is one, if both it and the one beside it may be written.
+    /// Returns the file of this path, if there is one. Refuses a path if the file or the one beside it may not be written.
     fn file_at(
         &self,
         rt: &'a HostRuntime,
@@ -56,7 +56,7 @@ impl<'a> Paths<'a> {
         }
     }
 
-    /// A board's files, where these are named.
+    /// Returns a board's files, as far as they are named. Refuses two that are one file.
     fn files<'s>(
         &self,
         rt: &'a HostRuntime,
@@ -77,7 +77,7 @@ impl<'a> Paths<'a> {
     }
 }
 
-/// Asks that two of a board's files aren't one, of which the second has this path.
+/// Refuses two of a board's files that are one file, or may be. `path` is the path of the second.
 fn expect_two<'a>(
     one: &Option<TextFile<'a>>,
     other: &Option<TextFile<'a>>,
@@ -96,7 +96,7 @@ fn expect_two<'a>(
     }
 }
 
-/// A file of this path, where there is one, that is written whatever became of it before.
+/// Returns the file of this path, if there is one, as one that is written again whatever became of earlier writes.
 fn kept<'s, 'a>(
     file: Option<TextFile<'a>>,
     path: Option<&'a str>,
@@ -105,7 +105,7 @@ fn kept<'s, 'a>(
     Some(Kept::new(WholeText::new(file?), path?, Shared::of(errors)))
 }
 
-/// A board of the sheet's match, whose book is empty.
+/// Makes a board of the sheet's match, with an empty book.
 fn board_of(rt: &HostRuntime, sheet: &MatchSheet) -> Result<Board<CheckedBook>, Stopped<'static>>
     ensures { IfOk result (IsFresh sheet.now) }
 {
@@ -115,7 +115,7 @@ fn board_of(rt: &HostRuntime, sheet: &MatchSheet) -> Result<Board<CheckedBook>, 
     }
 }
 
-/// What a board remembers of the rounds that it has heard: nothing yet.
+/// Makes a board's memory of the rounds that it has heard: empty as yet.
 fn witness_of(rt: &HostRuntime) -> Result<Witness, Stopped<'static>>
     ensures { IfOk result (λ witness. witness ≡ []) }
 {
@@ -125,14 +125,14 @@ fn witness_of(rt: &HostRuntime) -> Result<Witness, Stopped<'static>>
     }
 }
 
-/// What comes of a board that was kept: its life, and its command's answer.
+/// A board that was kept: its life, and its command's answer.
 #[derive(Drop)]
 pub struct Ended<'a> {
     pub life: BoardLife<'a>,
     pub answer: Result<bool, Stopped<'a>>,
 }
 
-/// The command's answer, by how its board ended.
+/// Returns the command's answer, from how its board ended.
 fn answer_of<'a>(ended: Result<(), WriteFailed>) -> Result<bool, Stopped<'a>>
     ensures { IfOk result (λ refused. (refused ≡ false) × IsOk ended) }
 {
@@ -142,11 +142,11 @@ fn answer_of<'a>(ended: Result<(), WriteFailed>) -> Result<bool, Stopped<'a>>
     }
 }
 
-/// `ground board`: keeps a board that listens at an address, shows its six lines at the start and whenever they
-/// change, and tells standard error what it can't take, and that no desk is heard. Its text is also put into a file, its state
-/// as JSON into another one, and the same as a script into a third, where they are named, once it has heard a desk; a failed
-/// write of these ends no board. A page shows text and state at an address, where one is given. Its datagrams are sealed with
-/// the sheet and the key in a file, where one is named. Where it is refused before it begins, there is no life.
+/// `ground board`: keeps a board that listens at an address, shows its six lines at the start and whenever they change, and
+/// tells standard error what it can't take, and when no desk is heard. Once it has heard a desk, it also writes its text, its
+/// state as JSON, and that JSON as a script to a file each, if they are named; a failed write of one ends no board. A page at
+/// an address, if one is given, shows text and state. Its datagrams are sealed with the sheet, and with the key in a file if
+/// one is named. If it is refused before it begins, there is no life.
 #[inline(never)]
 pub fn start_board<'a>(
     rt: &'a HostRuntime,

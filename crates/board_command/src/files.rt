@@ -1,4 +1,5 @@
-//! What a board shows: its files, which others read, with its text, its state, and that as a script; and its page.
+//! What a board shows: its files, which other programs read, with its text, its state, and that state as a script; and its
+//! page.
 
 ghost use Rattle.std.specs.Prelude.{◌≡◌, ℕ, List, Some, is_err, false, length, IfOk};
 ghost use Rattle.corrections.specs.CleanList.{history_of};
@@ -31,8 +32,7 @@ use streams::{Sink, Watched, WriteFailed};
 /// A text stands as long as its book does.
 const FOREVER: u64 = u64::MAX;
 
-/// What a board hands its book over at: how many entries that has, what keeps it from going on, when it heard its desks, and the
-/// time.
+/// What a board hands over with its book: its number of entries, the board's trouble, when the desks were heard, and the time.
 #[derive(Clone, Copy)]
 struct Moment {
     entries: u32,
@@ -50,14 +50,14 @@ impl Moment {
     }
 }
 
-/// Whether both are so, or neither.
+/// Whether both are true, or both false.
 fn same(one: bool, other: bool) -> bool
     ensures { result ≡ given.same one other }
 {
     one == other
 }
 
-/// Whether a board doesn't go on for one reason.
+/// Whether two reasons that keep a board from going on are the same.
 fn same_why(one: Why, other: Why) -> bool
     ensures { result ≡ given.same_why one other }
 {
@@ -68,7 +68,7 @@ fn same_why(one: Why, other: Why) -> bool
     }
 }
 
-/// Whether one thing keeps a board from going on, or nothing both times.
+/// Whether the same trouble keeps a board from going on both times, or none does.
 fn same_trouble(one: Option<Trouble>, other: Option<Trouble>) -> bool
     ensures { result ≡ given.same_trouble one other }
 {
@@ -79,8 +79,8 @@ fn same_trouble(one: Option<Trouble>, other: Option<Trouble>) -> bool
     }
 }
 
-/// When a file was written, or couldn't be, how many entries the book had, what kept its board from going on, and whether the
-/// desks were silent.
+/// The last try to write a file: the book's number of entries, the board's trouble, whether the desks were silent, the time,
+/// and whether it failed.
 #[derive(Clone, Copy)]
 struct Tried {
     entries: u32,
@@ -94,7 +94,7 @@ impl Tried {
     ghost use Rattle.std.specs.Prelude.{◌-◌, nat_le};
     ghost use Rattle.board_command.specs.Files.{has_all, wait_of};
 
-    /// Whether it has what there is to tell at this moment.
+    /// Whether the file has all that there is to tell at this moment.
     fn is_of(self, moment: Moment) -> bool
         ensures { result ≡ has_all self moment }
     {
@@ -103,8 +103,8 @@ impl Tried {
             && same(self.is_silent, moment.is_silent())
     }
 
-    /// Whether a file that stands so long at most is to be written at this moment: the last time it couldn't be, the book has
-    /// grown, something else is to be told, or the file becomes old.
+    /// Whether a file that stands at most `longest` milliseconds is due at this moment: the last write failed, the book has
+    /// grown, something else is to be told, or the file gets old.
     fn is_past(self, moment: Moment, longest: u64) -> bool
         ensures { result ≡ nat_le (wait_of self moment longest) (moment.now - self.at) }
     {
@@ -119,8 +119,8 @@ impl Tried {
     }
 }
 
-/// A file that is written whenever that is due, whatever became of it before. Standard error is told that it can't be,
-/// once until it is written again; that it can't be told is no fault.
+/// A file that is written whenever it is due, whatever became of earlier writes. Standard error is told of a failed write, once
+/// until a write succeeds again; not being able to tell it is no fault.
 #[derive(Drop)]
 pub struct Kept<'a, T, E> {
     file: T,
@@ -132,7 +132,7 @@ pub struct Kept<'a, T, E> {
 impl<'a, T: Replaces, E: Sink> Kept<'a, T, E> {
     ghost use Rattle.board_command.specs.Files.{is_due, tried_at};
 
-    /// This file of this path, which wasn't written yet.
+    /// Makes a file of this path that hasn't been written yet.
     pub fn new(file: T, path: &'a str, errors: E) -> Kept<'a, T, E> {
         Kept {
             file,
@@ -142,7 +142,7 @@ impl<'a, T: Replaces, E: Sink> Kept<'a, T, E> {
         }
     }
 
-    /// Whether it is to be written: not before a desk was heard.
+    /// Whether the file is due: never before a desk was heard.
     fn is_due(&self, moment: Moment, longest: u64) -> bool
         ensures { result ≡ is_due self.now.tried moment longest }
     {
@@ -155,7 +155,7 @@ impl<'a, T: Replaces, E: Sink> Kept<'a, T, E> {
         }
     }
 
-    /// Notes that it was written, or couldn't be.
+    /// Notes whether the file could be written.
     fn note(&mut self, written: Result<(), StopFault>, moment: Moment)
         ensures tried { self.new.tried ≡ Some (tried_at moment (is_err written)) }
         ensures file { self.new.file ≡ self.old.file }
@@ -179,7 +179,7 @@ impl<'a, T: Replaces, E: Sink> Kept<'a, T, E> {
     }
 }
 
-/// Whether there is a file that is to be written.
+/// Whether there is a file, and it is due.
 fn is_due<T: Replaces, E: Sink>(file: &Option<Kept<'_, T, E>>, moment: Moment, longest: u64) -> bool
     ensures { result ≡ due.is_due longest moment file.now }
 {
@@ -198,7 +198,7 @@ struct Due {
 }
 
 impl Due {
-    /// Those that are due here or there.
+    /// Returns the texts that are due by either.
     fn or(self, other: Due) -> Due
         ensures { result ≡ due.either self other }
     {
@@ -210,10 +210,10 @@ impl Due {
     }
 }
 
-/// What is made of a text: it, or that memory was refused for it; nothing where it isn't due.
+/// A text that was made, or that memory ran out for it; nothing if it isn't due.
 type Made = Option<Result<Vec<u8>, AllocError>>;
 
-/// The six lines of a board with this book.
+/// Returns the six lines of a board with this book.
 fn lines_of<B: BookOf>(alloc: Global, sheet: &MatchSheet, book: &B) -> Result<Vec<u8>, AllocError>
     ensures { IfOk result (λ text.
         text.items ≡ texts.board sheet.now (B.innings_a_side book.now) (history_of (B.content book.now))) }
@@ -225,7 +225,7 @@ fn lines_of<B: BookOf>(alloc: Global, sheet: &MatchSheet, book: &B) -> Result<Ve
     }
 }
 
-/// The state of a board with this book, as JSON.
+/// Returns the state of a board with this book, as JSON.
 fn state_of<B: BookOf>(
     alloc: Global,
     sheet: &MatchSheet,
@@ -239,7 +239,7 @@ fn state_of<B: BookOf>(
     board_text(alloc, sheet, book, heard, moment.trouble)
 }
 
-/// The script of a state that was made.
+/// Returns the script of a state that was made.
 fn script_of(alloc: Global, state: &Made) -> Result<Vec<u8>, AllocError>
     ensures { (text : List ℕ) → IsText text state.now → IfOk result (λ script. script.items ≡ given.script_with text) }
 {
@@ -252,7 +252,7 @@ fn script_of(alloc: Global, state: &Made) -> Result<Vec<u8>, AllocError>
     Ok(script)
 }
 
-/// A board's texts of a moment, each made once for all that are to be given it.
+/// A board's texts at one moment, each made once for its file and its page.
 #[derive(Drop)]
 struct Texts {
     lines: Made,
@@ -260,7 +260,7 @@ struct Texts {
     script: Made,
 }
 
-/// The lines of a board with this book, where they are due.
+/// Returns the lines of a board with this book, if they are due.
 fn lines_due<B: BookOf>(alloc: Global, sheet: &MatchSheet, book: &B, is_due: bool) -> Made
     ensures { IsMadeWhere is_due (texts.board sheet.now (B.innings_a_side book.now) (history_of (B.content book.now))) result }
 {
@@ -271,7 +271,7 @@ fn lines_due<B: BookOf>(alloc: Global, sheet: &MatchSheet, book: &B, is_due: boo
     }
 }
 
-/// Its state, where that or the script is due.
+/// Returns the state of a board with this book, if the state or its script is due.
 fn state_due<B: BookOf>(
     alloc: Global,
     sheet: &MatchSheet,
@@ -290,7 +290,7 @@ fn state_due<B: BookOf>(
     }
 }
 
-/// The script of a state that was made, where it is due.
+/// Returns the script of a state that was made, if it is due.
 fn script_due(alloc: Global, state: &Made, is_due: bool) -> Made
     ensures { (text : List ℕ) → IsText text state.now → IsMadeWhere is_due (given.script_with text) result }
 {
@@ -301,7 +301,7 @@ fn script_due(alloc: Global, state: &Made, is_due: bool) -> Made
     }
 }
 
-/// The texts of this book that are due.
+/// Returns the texts of this book that are due.
 fn texts_due<B: BookOf>(
     alloc: Global,
     sheet: &MatchSheet,
@@ -324,7 +324,7 @@ fn texts_due<B: BookOf>(
     }
 }
 
-/// Puts a text that was made into a file.
+/// Writes a text that was made to a file.
 fn put_text<T: Replaces>(file: &mut T, made: &Result<Vec<u8>, AllocError>) -> Result<(), StopFault>
     ensures { (text : List ℕ) → IfOk made.now (λ bytes. bytes.items ≡ text) →
         Takes result (T.given file.old) (T.given file.new) text }
@@ -338,7 +338,7 @@ fn put_text<T: Replaces>(file: &mut T, made: &Result<Vec<u8>, AllocError>) -> Re
     }
 }
 
-/// Puts a text that was made into its file, where there is one that is due, and notes whether that could be.
+/// Writes a text that was made to its file, if there is one and it is due, and notes whether it could be written.
 fn put<T: Replaces, E: Sink>(
     file: &mut Option<Kept<'_, T, E>>,
     made: &Made,
@@ -357,7 +357,7 @@ fn put<T: Replaces, E: Sink>(
     }
 }
 
-/// The files of a board, where there are some: each holds a text that the board had, whole.
+/// The files of a board, as far as it has them: each holds a whole text that the board had.
 #[derive(Drop)]
 pub struct Files<'a, T, E, B> {
     alloc: Global,
@@ -368,7 +368,7 @@ pub struct Files<'a, T, E, B> {
 }
 
 impl<'a, T: Replaces, E: Sink, B: BookOf> Files<'a, T, E, B> {
-    /// These files, of which none was written yet.
+    /// Makes a board's files, none of them written yet.
     pub fn new(
         alloc: Global,
         text: Option<Kept<'a, T, E>>,
@@ -391,7 +391,7 @@ impl<T: Replaces, E: Sink, B: BookOf + Drop> Files<'_, T, E, B> {
     ghost use Rattle.live.specs.SightLogs.{sights_of};
     ghost use Rattle.board_command.specs.Files.{FilesGoOn};
 
-    /// Which of them are to be written.
+    /// Returns which of the files are due.
     fn due(&self, moment: Moment) -> Due
         ensures { result ≡ due.due_of self.now moment }
     {
@@ -402,10 +402,10 @@ impl<T: Replaces, E: Sink, B: BookOf + Drop> Files<'_, T, E, B> {
         }
     }
 
-    /// Writes each once a desk was heard, then where the book has grown, where something begins or ceases to keep the board from
-    /// going on, or where a silence of the desks has begun or ended, at most ten times a second, and where it couldn't be written,
-    /// once a second. State and script are otherwise written anew before ten seconds are over. A file that can't be written ends
-    /// no board. What is due of the texts was made.
+    /// Writes each file once a desk was heard, and again when the book has grown, when the board's trouble begins or ends, or
+    /// when a silence of the desks begins or ends, at most ten times a second; after a failed write it tries once a second.
+    /// State and script are written again within ten seconds in any case. A file that can't be written ends no board. The texts
+    /// that are due have been made.
     fn show(&mut self, sheet: &MatchSheet, book: &B, moment: Moment, made: &Texts)
         requires made { AreMade (due.due_of self.old moment)
             (given.lines_of (sight_of sheet.now (B.innings_a_side book.now) (B.content book.now) moment.trouble))
@@ -424,21 +424,21 @@ impl<T: Replaces, E: Sink, B: BookOf + Drop> Files<'_, T, E, B> {
     }
 }
 
-/// All that a board shows at the end of a turn: its files and its page, each handed the same books, of which neither keeps the
-/// other from being written, and at standard error that its desks are silent. What waits for that and for who looks at its page
-/// is handed on, as far as it is taken.
+/// All that a board shows at the end of a turn: its files and its page, which get the same books and don't keep each other from
+/// being written; and at standard error that its desks are silent. What waits for standard error and for the page's viewers is
+/// handed on, as far as it is taken.
 #[derive(Drop)]
 pub struct Displays<'e, 'v, 'a, F, P> {
     pub files: F,
     pub page: P,
     pub errors: &'e RefCell<Errors<'a>>,
     pub audience: Audience<'v>,
-    /// What was read last of when the desks were heard, and what was told of their silence.
+    /// When the desks were heard, as last read, and what was told of their silence.
     pub heard: HeardAt,
     pub silence: Silence,
 }
 
-/// Sees to who looks at a page, where there is one, and tells them what it shows now.
+/// Serves a page's viewers, if there is a page, and sends them what it shows now.
 fn attend(audience: Audience<'_>, now: u64) {
     if let Some(page) = audience.page
         && let Ok(mut page) = page.try_borrow_mut()

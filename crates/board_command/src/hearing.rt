@@ -1,4 +1,4 @@
-//! When a board heard its desks: a link that notes it, and what is told of it.
+//! When a board heard its desks: a link that notes the times, and what is told of silence.
 
 ghost use Rattle.std.specs.Prelude.{◌≡◌, ◌-◌, nat_le};
 ghost use Rattle.board_command.specs.Hearing as laws;
@@ -11,11 +11,11 @@ use std::cell::Cell;
 use std::io::Write;
 use wire::MessageBytes;
 
-/// For how many milliseconds neither desk is heard before a board says so.
-/// A desk says something every two seconds at least, so that many datagrams were lost, or nobody is there.
+/// The time in milliseconds without word from either desk after which a board says so. A desk says something at least every two
+/// seconds, so many datagrams were lost, or nobody is there.
 const LONGEST_SILENCE: u64 = 10_000;
 
-/// When a board began, and when it heard each desk last since then, in milliseconds since some moment.
+/// When a board began, and when it last heard each desk since then, in milliseconds on one clock.
 #[derive(Clone, Copy)]
 pub struct HeardAt {
     begun: u64,
@@ -23,7 +23,7 @@ pub struct HeardAt {
     b: Option<u64>,
 }
 
-/// The desk that asks, if one does.
+/// Returns the desk that asks, if a desk does.
 fn asking_desk(asker: Asker) -> Option<DeskId>
     ensures { result ≡ laws.asking_desk asker }
 {
@@ -34,7 +34,7 @@ fn asking_desk(asker: Asker) -> Option<DeskId>
     }
 }
 
-/// The desk that says a message, if one does.
+/// Returns the desk that sends a message, if a desk does.
 fn desk_of(message: &Message) -> Option<DeskId>
     ensures { result ≡ laws.desk_of message.now }
 {
@@ -44,14 +44,14 @@ fn desk_of(message: &Message) -> Option<DeskId>
     }
 }
 
-/// Whether that was so long ago that nobody is heard.
+/// Whether this time was so long ago that nobody is heard.
 fn is_long_ago(at: u64, now: u64) -> bool
     ensures { result ≡ laws.is_long_ago at now }
 {
     now.saturating_sub(at) >= LONGEST_SILENCE
 }
 
-/// Whether it was so long ago, or never.
+/// Whether this time was so long ago, or never.
 fn was_long_ago(at: Option<u64>, now: u64) -> bool
     ensures { result ≡ laws.was_long_ago at now }
 {
@@ -61,7 +61,7 @@ fn was_long_ago(at: Option<u64>, now: u64) -> bool
     }
 }
 
-/// How many seconds ago that was, if it ever was.
+/// Returns how many whole seconds ago this time was, if it ever was.
 fn seconds_since(at: Option<u64>, now: u64) -> Option<u64>
     ensures { result ≡ laws.seconds_since at now }
 {
@@ -72,7 +72,7 @@ fn seconds_since(at: Option<u64>, now: u64) -> Option<u64>
 }
 
 impl HeardAt {
-    /// A board begins at this time, and heard no desk yet.
+    /// A board that begins at this time, and has heard no desk yet.
     pub fn begun(now: u64) -> HeardAt {
         HeardAt {
             begun: now,
@@ -81,7 +81,7 @@ impl HeardAt {
         }
     }
 
-    /// A desk is heard now, if one is.
+    /// Notes that a desk is heard now, if one is.
     fn heard_from(self, desk: Option<DeskId>, now: u64) -> HeardAt
         ensures { result ≡ laws.heard_from desk self now }
     {
@@ -98,7 +98,7 @@ impl HeardAt {
         }
     }
 
-    /// This came now.
+    /// Notes the desk that is heard by this arrival, if it is a message of one.
     fn heard_by(self, arrival: &Arrival, now: u64) -> HeardAt
         ensures { result ≡ laws.heard_by arrival.now self now }
     {
@@ -115,14 +115,14 @@ impl HeardAt {
         self.a.is_some() || self.b.is_some()
     }
 
-    /// Whether neither desk was heard for long, nor had the board begun by then.
+    /// Whether the board began long ago, and has heard neither desk for as long.
     pub fn is_silent(self, now: u64) -> bool
         ensures { result ≡ laws.is_silent self now }
     {
         is_long_ago(self.begun, now) && was_long_ago(self.a, now) && was_long_ago(self.b, now)
     }
 
-    /// How many seconds ago each was heard last.
+    /// Returns how many seconds ago each desk was last heard.
     pub fn last(self, now: u64) -> LastHeard
         ensures { result ≡ laws.last_heard self now }
     {
@@ -133,7 +133,7 @@ impl HeardAt {
     }
 }
 
-/// A link as another is. It notes when a desk was heard by what comes, and shows it.
+/// A link that works as another does, and notes and shows when its messages let a desk be heard.
 #[derive(Drop)]
 pub struct Listening<'h, L, C> {
     link: L,
@@ -143,7 +143,7 @@ pub struct Listening<'h, L, C> {
 }
 
 impl<'h, L: Link, C: Clock> Listening<'h, L, C> {
-    /// Of this link, by this clock, shown here. The board begins.
+    /// Makes a link over this one, with this clock, that shows the times in `shown`. The board begins now.
     pub fn over(link: L, clock: C, shown: &'h Cell<HeardAt>) -> Listening<'h, L, C>
         ensures { result.link ≡ link }
     {
@@ -158,7 +158,7 @@ impl<'h, L: Link, C: Clock> Listening<'h, L, C> {
         }
     }
 
-    /// The link itself.
+    /// Returns the link itself.
     pub fn link(&self) -> &L
         ensures { result.now ≡ self.now.link }
     {
@@ -185,7 +185,7 @@ impl<L: Link, C: Clock> Link for Listening<'_, L, C> {
         self.link.reply(bytes);
     }
 
-    // nothing is read here, and so nobody heard
+    // no message is read here, and so no desk is heard
     fn take(&mut self, buffer: &mut DatagramBuffer, wait: u64) -> Taken {
         self.link.take(buffer, wait)
     }
@@ -202,26 +202,26 @@ impl<L: Link, C: Clock> Link for Listening<'_, L, C> {
     }
 }
 
-/// What is told of a board's desks.
+/// News of a board's desks.
 #[derive(Clone, Copy)]
 pub enum News {
-    /// Neither was heard for ten seconds.
+    /// Neither desk was heard for ten seconds.
     Silent,
-    /// One was heard since that was told.
+    /// A desk was heard again after that was told.
     HeardAgain,
 }
 
-/// Whether it was told that neither desk is heard.
+/// Whether it was last told that neither desk is heard.
 #[derive(Clone, Copy)]
 pub struct Silence {
     is_told: bool,
 }
 
 impl Silence {
-    /// Nothing was told.
+    /// Nothing has been told.
     pub const NOTHING: Silence = Silence { is_told: false };
 
-    /// What is news at this time, once.
+    /// Returns the news at this time, each piece once.
     fn take_news(&mut self, heard: HeardAt, now: u64) -> Option<News>
         ensures news { result ≡ laws.news_of self.old.is_told (laws.is_silent heard now) }
         ensures told { self.new.is_told ≡ laws.is_silent heard now }
@@ -235,7 +235,7 @@ impl Silence {
         }
     }
 
-    /// Tells what is news. That it can't be told is no fault.
+    /// Tells the news, if any. Not being able to tell it is no fault.
     pub fn tell<E: Write>(&mut self, heard: HeardAt, now: u64, errors: &mut E)
         ensures { self.new.is_told ≡ laws.is_silent heard now }
     {

@@ -1,4 +1,4 @@
-//! The command of the program that begins a board on this machine.
+//! The command of the program that starts a board on this machine.
 #![tactic(auto)]
 
 mod begin;

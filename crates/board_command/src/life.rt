@@ -1,4 +1,4 @@
-//! The process of a board on this machine: there is a life of a board only where its process was kept.
+//! The process of a board on this machine: a board has a life only if its process was kept.
 
 ghost use Rattle.std.specs.Prelude.{◌≡◌, []};
 ghost use Rattle.setup.specs.SheetText.{IsSheetOf};
@@ -22,9 +22,9 @@ use std::io::Write;
 use std::snapshot::Snapshot;
 use streams::{Sink, WriteFailed};
 
-/// The life of a board: the path of its sheet, and how it ended. Of what it had to do with clauses alone read: the bytes of its
-/// sheet, what was read of them, what it said and heard, what passed for that at its socket, what was written to its screen, the
-/// notices that it told, and the books that it handed to be shown.
+/// The life of a board: the path of its sheet, and how it ended. Only clauses read the rest: the bytes of its sheet and the
+/// sheet read from them, what its link said and heard, what its socket carried for that, what was written to its screen, the
+/// notices that it told, and the books that it handed to its displays.
 #[derive(Drop)]
 pub struct BoardLife<'a> {
     sheet_path: &'a str,
@@ -41,7 +41,7 @@ pub struct BoardLife<'a> {
 }
 
 impl BoardLife<'_> {
-    /// How it ended.
+    /// Returns how the life ended.
     pub fn ended(&self) -> Result<(), WriteFailed>
         ensures { result ≡ self.now.ended }
     {
@@ -49,7 +49,7 @@ impl BoardLife<'_> {
     }
 }
 
-/// What shows a board's book, with all that it was handed.
+/// The displays of a board's book, with a log of the books that were handed to them.
 #[derive(Drop)]
 struct Noted<S> {
     shows: S,
@@ -80,7 +80,8 @@ impl<S: Shows<CheckedBook>> Shows<CheckedBook> for Noted<S> {
     }
 }
 
-/// Keeps a board that has heard nothing, over a link at which nothing passed, until a write to its screen fails: its life.
+/// Keeps a board that has heard nothing, over a link that has passed nothing, until a write to its screen fails. Returns its
+/// life.
 #[inline(never)]
 pub fn keep_on<
     'a,

@@ -1,11 +1,11 @@
-//! What a board tells at standard error.
+//! What a board tells standard error.
 
 use board::Witness;
 use live::Watch;
 use station_texts::{Notice, NoticeLog, Notices, print_notice};
 use streams::{Sink, Watched};
 
-/// A writer to which a board's notices are written, each at once.
+/// A writer for a board's notices, each of which is written at once.
 #[derive(Drop)]
 pub struct Notes<E> {
     errors: Watched<E>,
@@ -16,7 +16,7 @@ impl<E: Sink + Drop> Notes<E> {
     ghost use Rattle.std.specs.Prelude.{◌≡◌, []};
     ghost use Rattle.station_texts.specs.NoticeLogs.{notices_of};
 
-    /// Nothing was told yet.
+    /// Makes a writer that hasn't told any notice yet.
     pub fn new(errors: E) -> Notes<E>
         ensures { notices_of result.log ≡ [] }
     {
@@ -26,14 +26,14 @@ impl<E: Sink + Drop> Notes<E> {
         }
     }
 
-    /// What was told, which clauses alone read.
+    /// Returns the notices that were told. Only clauses read them.
     pub fn log(&self) -> &NoticeLog
         ensures { result.now ≡ self.now.log }
     {
         &self.log
     }
 
-    /// Nothing was told yet by a board that remembers so much.
+    /// Makes the watch of a board that remembers this much and hasn't told any notice yet.
     pub fn watching(witness: Witness, errors: E) -> Watch<Notes<E>>
         ensures witness { result.witness ≡ witness }
         ensures untold { notices_of (result.notices).log ≡ [] }

@@ -17,29 +17,29 @@ use std::io::Write;
 use std::os::fd::RawFd;
 use viewers::{Station, Viewers, reached_at};
 
-/// What a page shows of a board, as its files do.
+/// The texts that a page shows of a board, kept as its files are.
 type Panes<'v, 's, 'a> = Files<'a, Pane<'v>, Told<'s, 'a>, CheckedBook>;
 
-/// A page at an address, with all who look at it.
+/// A page at an address, with all its viewers.
 #[derive(Drop)]
 struct Served<'a> {
     at: Address<'a>,
-    /// What ends a wait where somebody looks at it.
+    /// The descriptor that ends a wait when a viewer comes.
     ends: RawFd,
     page: RefCell<BoardPage>,
 }
 
-/// The page of a board, where there is one.
+/// The page of a board, if there is one.
 #[derive(Drop)]
 pub struct Page<'a> {
     served: Option<Served<'a>>,
     /// When the board's link heard the desks.
     hearing: Cell<HeardAt>,
-    /// Whether somebody came or asks there: so it is at first.
+    /// Whether a viewer came or asks at the page: true at first.
     called: Cell<bool>,
 }
 
-/// The page, if there is one; when the board's link heard the desks; and whether somebody came or asks at the page.
+/// The page, if there is one; when the board's link heard the desks; and whether a viewer came or asks at the page.
 #[derive(Clone, Copy)]
 pub struct Audience<'v> {
     pub page: Option<&'v RefCell<BoardPage>>,
@@ -48,7 +48,7 @@ pub struct Audience<'v> {
 }
 
 impl<'a> Page<'a> {
-    /// The page at an address, where one is given.
+    /// Opens the page at an address, if one is given.
     pub fn at(rt: &HostRuntime, at: Option<Address<'a>>) -> Result<Page<'a>, Stopped<'a>> {
         let Some(at) = at else {
             return Ok(Page {
@@ -74,17 +74,17 @@ impl<'a> Page<'a> {
         }
     }
 
-    /// Where its board's link shows when it heard the desks.
+    /// Returns the cell in which the board's link notes when it heard the desks.
     pub fn hearing(&self) -> &Cell<HeardAt> {
         &self.hearing
     }
 
-    /// Where it is noted that somebody came or asks there.
+    /// Returns the cell that says whether a viewer came or asks at the page.
     pub fn called(&self) -> &Cell<bool> {
         &self.called
     }
 
-    /// What is seen to, and both.
+    /// Returns the page, if there is one, with both cells.
     pub fn audience(&self) -> Audience<'_> {
         Audience {
             page: self.shown(),
@@ -93,7 +93,7 @@ impl<'a> Page<'a> {
         }
     }
 
-    /// What is shown there.
+    /// Returns the page itself, if there is one.
     fn shown(&self) -> Option<&RefCell<BoardPage>> {
         match &self.served {
             Some(served) => Some(&served.page),
@@ -101,7 +101,7 @@ impl<'a> Page<'a> {
         }
     }
 
-    /// What ends a board's waits where somebody looks at its page.
+    /// Returns what ends a board's waits: the page's viewers, if there is a page.
     pub fn wait_ends(&self) -> WaitEnds {
         WaitEnds {
             keyboard: None,
@@ -109,7 +109,7 @@ impl<'a> Page<'a> {
         }
     }
 
-    /// Tells where it is. That it can't be told is no fault.
+    /// Tells the page's address. Not being able to tell it is no fault.
     pub fn tell<W: Write>(&self, rt: &HostRuntime, errors: &mut W) {
         if let Some(served) = &self.served {
             let at = reached_at(rt, served.at.socket);
@@ -117,8 +117,8 @@ impl<'a> Page<'a> {
         }
     }
 
-    /// Shows that the desks are waited for: what the file of the board's state has of the match, if there is one, and otherwise
-    /// this book. Where memory is refused nothing is shown yet.
+    /// Shows that the board waits for the desks: the match as the board's state file has it, if there is one, and otherwise
+    /// this book. If memory runs out, nothing is shown yet.
     pub fn wait(
         &self,
         rt: &HostRuntime,
@@ -136,7 +136,7 @@ impl<'a> Page<'a> {
         }
     }
 
-    /// What it is given of a board: nothing yet.
+    /// Returns the texts that the page shows of a board, none given yet.
     pub fn panes<'v, 's>(
         &'v self,
         alloc: Global,

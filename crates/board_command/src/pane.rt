@@ -1,4 +1,4 @@
-//! What a page shows of a board.
+//! A text that a board's page shows.
 
 ghost use Rattle.std.specs.Prelude.{◌≡◌, [], IfOk, Some};
 ghost use Rattle.station_pages.specs.Handed.{texts_in};
@@ -8,14 +8,14 @@ use station_pages::{BoardPage, HandedLog};
 use std::alloc::{AllocError, Global};
 use std::cell::RefCell;
 
-/// Which of a board's texts it is.
+/// Which of a board's texts a pane shows.
 #[derive(Clone, Copy)]
 pub enum Kind {
     Lines,
     State,
 }
 
-/// One of the texts that a page shows: the newest one that it was given.
+/// One of the texts that a page shows: the newest one that the pane was given.
 #[derive(Drop)]
 pub struct Pane<'v> {
     alloc: Global,
@@ -24,7 +24,7 @@ pub struct Pane<'v> {
     log: HandedLog,
 }
 
-/// A copy of a text.
+/// Returns a copy of a text.
 pub fn copy_of(alloc: Global, text: &[u8]) -> Result<Vec<u8>, AllocError>
     ensures { IfOk result (λ copy. copy.items ≡ text.now) }
 {
@@ -33,7 +33,7 @@ pub fn copy_of(alloc: Global, text: &[u8]) -> Result<Vec<u8>, AllocError>
     Ok(copy)
 }
 
-/// That a text can't be shown, and why.
+/// Returns the fault of a text that can't be shown.
 fn fault(why: Cause) -> WriteFault {
     WriteFault {
         name: Name::Own,
@@ -42,7 +42,7 @@ fn fault(why: Cause) -> WriteFault {
 }
 
 impl<'v> Pane<'v> {
-    /// Of this page, which wasn't given any yet.
+    /// Makes a pane of this page, which hasn't been given a text yet.
     pub fn of(alloc: Global, page: &'v RefCell<BoardPage>, kind: Kind) -> Pane<'v>
         ensures { texts_in result.log ≡ [] }
     {

@@ -1,13 +1,12 @@
-//! How long what is in a board's files stands.
+//! How long the contents of a board's files stand.
 
-/// How many milliseconds what was written to a board's file stands at least before the next.
-/// A board that catches up writes ten times a second.
+/// The least time in milliseconds between two writes of a board's file. A board that catches up writes ten times a second.
 pub const SHORTEST_FILE_AGE: u64 = 100;
 
-/// How many milliseconds a board's file that couldn't be written is left alone.
-/// It is tried each second, since a display has nobody to start it again.
+/// The time in milliseconds after which a failed write of a board's file is tried again. It is tried each second, since nobody
+/// is at a display to start it again.
 pub const FILE_RETRY_WAIT: u64 = 1_000;
 
-/// How many milliseconds a board's state stands at most.
-/// Less than ten seconds, by more than a turn takes: whoever sees when the file was written knows whether its board lives.
+/// The longest time in milliseconds that a board's state stands. It is less than ten seconds by more than a turn takes: the
+/// time of the last write shows whether the board lives.
 pub const LONGEST_STATE_AGE: u64 = 9_400;

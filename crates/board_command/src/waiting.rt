@@ -11,17 +11,18 @@ use setup::bytes_at;
 use std::alloc::{AllocError, Global};
 use std::snapshot::Snapshot;
 
-/// What the lines are then.
+/// The lines that a page shows before a desk is heard.
 pub const LINES: &[u8] = b"waiting for the desks\n";
 
-/// The state that is shown then, and the bytes of the file of which it is made, if it is made of one: clauses alone read these.
+/// The state that a page shows before a desk is heard, and the bytes of the file that it is made from, if any: only clauses
+/// read those.
 #[derive(Drop)]
 pub struct Waiting {
     pub state: Vec<u8>,
     file: Option<Snapshot<Vec<u8>>>,
 }
 
-/// Whether a line is a board's state of this match.
+/// Whether a line is a board's state of this match: a JSON value with the right head.
 fn is_state(alloc: Global, line: &str, game: u64) -> Result<bool, AllocError>
     ensures { IfOk result (λ is. IsTrue is → IsStateOf game line.now) }
 {
@@ -32,8 +33,8 @@ fn is_state(alloc: Global, line: &str, game: u64) -> Result<bool, AllocError>
     is_valid(line, &mut Scratch::new(alloc))
 }
 
-/// How many bytes of a state, which is one line, tell of its book: those in front of when the desks were heard, where it tells
-/// that. A name can't look like that, as its quotes are escaped.
+/// Returns how many bytes of a state, which is one line, tell of its book: those before the time when the desks were heard, if
+/// the state has it, and otherwise all but the last. A name can't look like that mark, as its quotes are escaped.
 fn book_len(line: &str) -> usize
     ensures book { TellsOfBook line.now result }
     ensures within { result ≤ length line.now }
@@ -44,7 +45,7 @@ fn book_len(line: &str) -> usize
     }
 }
 
-/// The state of a board that heard no desk, with the book of this one.
+/// Returns the state of a board that has heard no desk, with the book of this state.
 fn unheard(alloc: Global, line: &str) -> Result<Vec<u8>, AllocError>
     ensures { IfOk result (λ state. IsUnheard line.now state.items) }
 {
@@ -56,7 +57,8 @@ fn unheard(alloc: Global, line: &str) -> Result<Vec<u8>, AllocError>
     Ok(state)
 }
 
-/// What a file has of this match, if it is the state of a board, as that of a board that heard no desk.
+/// Returns the state in a file as that of a board that has heard no desk, or `None` if the file has no board's state of this
+/// match.
 fn kept_state(alloc: Global, bytes: &[u8], game: u64) -> Result<Option<Vec<u8>>, AllocError>
     ensures { IfOk result (λ kept. IfSome kept (λ state. IsKept game bytes.now state.items)) }
 {
@@ -72,7 +74,7 @@ fn kept_state(alloc: Global, bytes: &[u8], game: u64) -> Result<Option<Vec<u8>>,
     Ok(Some(unheard(alloc, line)?))
 }
 
-/// What a file of these bytes has of this match.
+/// Returns the state in a file of these bytes, with those bytes, or `None` if they have no board's state of this match.
 fn kept_of(alloc: Global, bytes: &Vec<u8>, game: u64) -> Result<Option<Waiting>, AllocError>
     ensures { IfOk result (λ kept. IfSome kept (λ waiting.
         (file_of waiting ≡ Some bytes.now.items) × IsKept game bytes.now.items waiting.state.items)) }
@@ -86,7 +88,7 @@ fn kept_of(alloc: Global, bytes: &Vec<u8>, game: u64) -> Result<Option<Waiting>,
     }
 }
 
-/// The state of a board that heard no desk, with this book.
+/// Returns the state of a board that has heard no desk, with this book.
 fn begun_state(alloc: Global, sheet: &MatchSheet, book: &CheckedBook) -> Result<Waiting, AllocError>
     ensures { IfOk result (IsWaiting sheet.now book.now.innings_a_side book.now.entries) }
 {
@@ -95,7 +97,8 @@ fn begun_state(alloc: Global, sheet: &MatchSheet, book: &CheckedBook) -> Result<
     Ok(Waiting { state, file: None })
 }
 
-/// The state of a board that heard no desk: with what the file of this path has of the match, and otherwise with this book.
+/// Returns the state of a board that has heard no desk: from the file of this path if it has one of the match, and otherwise
+/// with this book.
 pub fn waiting_state(
     rt: &HostRuntime,
     sheet: &MatchSheet,

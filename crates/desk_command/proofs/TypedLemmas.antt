@@ -22,7 +22,7 @@ module _
     {Disk : Type 0} {view : FileView Disk} {seen : Disk → List ℕ} {disks : DiskView Disk} {sheet : Sheet} {innings : ℕ} {d : DeskId} {disk : Disk}
     {before after : Logs} {turns : ℕ} {result : Result (Unit {0}) LifeEnd} (log : AheadLog) (order : CastsInOrder log)
     (none : before.typed ≡ []) (given : after.typed ≡ given_of log) where
-  -- those of one process, that was given just what became of what was typed
+  -- the votes of one process are for lines that its log keeps
   lived_typed : (lives : DeskLives view seen disks sheet innings d disk before after turns result) → AreAmong (lines_said (calls_of lives)) (kept_of log)
   lived_typed lives = of lives.opening lives.begins lives.follows
     where
@@ -35,7 +35,7 @@ module _
           votes_typed view disks sheet sheet.game innings (fresh k) goes.moments log goes.run (sym (rw (given, none) at goes.logs.inputs)) order
       of (NotOpened cause left) begins follows = tt
 
--- what is so of each is so of all, one after the other
+-- what holds of each process holds of all, one after the other
 all_among : {X : Type 0} (f g : X → List (List ℕ)) → ((x : X) → AreAmong (f x) (g x)) → (xs : List X) → AreAmong (flat_map f xs) (flat_map g xs)
 all_among f g each [] = tt
 all_among f g each (x ∷ xs) = among_joined (f x) (g x) (flat_map f xs) (flat_map g xs) (each x) (all_among f g each xs)

@@ -1,4 +1,4 @@
--- What a desk's disk shows, on its file alone or on that and its copy.
+-- What a desk's disk shows, on its file alone or on the file and its copy.
 use Rattle.std.specs.Prelude.{ℕ, List}
 use Rattle.entry_log.specs.Disk.{Faults, Images, IsImage}
 use Rattle.machine_files.specs.FileDisk as alone
@@ -22,7 +22,7 @@ abbrev pub cap_of : DeskDisk → ℕ
 cap_of (One disk) = alone.cap_of disk
 cap_of (Two disk) = both.cap_of disk
 
--- what a read gives is one of the images
+-- the bytes that a read gives are one of the images
 abbrev pub is_image : (disk : DeskDisk) → IsImage (images_of disk) (file_of disk)
 is_image (One disk) = disk.image
 is_image (Two disk) = disk.first.image

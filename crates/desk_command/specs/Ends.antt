@@ -9,8 +9,7 @@ use Rattle.station_texts.specs.Asides.{all_dropped}
 use Rattle.setup.specs.Fault.{of_opening}
 use Rattle.setup.specs.declared.fault.StopFault.{StopFault}
 
--- why it ends with a fault, by how its desk's process ended and whether its keyboard failed: where its scorer stopped,
--- there is none
+-- the command's fault, from how its desk's process ended and whether its keyboard failed: none if its scorer stopped it
 abbrev pub stop_of : Result (Unit {0}) LifeEnd → Bool → Option StopFault
 stop_of (Ok done) failed = None
 stop_of (Err (NotBegun why)) failed = Some (of_opening why)
@@ -20,12 +19,12 @@ stop_of (Err (Ended NoMoreLines)) false = None
 stop_of (Err (Ended Write)) failed = Some StopFault.Write
 stop_of (Err (Ended Device)) failed = Some StopFault.Disk
 
--- its scorer stopped it, or its turns were over: then there is no fault, of a keyboard that failed or not
+-- its scorer stopped it, or its turns were over: with a keyboard that failed, or with one that didn't, it has no fault
 abbrev pub WasStopped : Result (Unit {0}) LifeEnd → Type 0
 WasStopped ended = (failed : Bool) × (stop_of ended failed ≡ None)
 
--- The last that is told, in rows of so many columns, by how its desk's process ended: where it ended by itself, which lines are
--- dropped. Where its scorer stopped that was told before, and where it can't write nothing is.
+-- The last text that is told, in rows of this width, by how the desk's process ended: which lines are dropped, if it ended by
+-- itself. If its scorer stopped it, that was told before; if it can't write, nothing is told.
 abbrev pub last_told : Result (Unit {0}) LifeEnd → ℕ → AheadLog → List ℕ
 last_told (Err (Ended Device)) columns log = all_dropped columns (held_of log) (lost_of log)
 last_told ended columns log = []

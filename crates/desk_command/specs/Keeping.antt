@@ -21,8 +21,8 @@ use Rattle.desk_command.specs.Ends.{last_told}
 use Rattle.desk_command.specs.OnFiles.{IsOnFiles}
 use Rattle.desk_command.specs.Traces.{Traces}
 
--- The process of this desk on a disk, with an empty book of the sheet's match to begin with: from when nothing had passed, was
--- typed or was told, until just this had passed, was given and was told, and it ended so.
+-- The process of this desk on a disk, which begins with an empty book of the sheet's match: it began before anything had
+-- passed, was typed or was told, exactly this has passed, been given and been told since, and it ended so.
 pub record LivesOn
     (sheet : Sheet) (desk : DeskId) (disk : DeskDisk) (passed : List Passed) (given : List Input) (told : Option (List ℕ))
     (ended : Result (Unit {0}) LifeEnd) : Type 0 where
@@ -35,10 +35,10 @@ pub record LivesOn
       (record { passed = []; typed = []; readings = before; told = Some [] })
       (record { passed = passed; typed = given; readings = after; told = told }) turns ended
 
--- This desk was kept on the file of this path, and on a copy of it where its path is named, and all that it had to do with are
--- these traces. By the log of what became of all that was typed, it was given that, and what may be cast of it in order; what it
--- said and heard is what passed at its socket, and it ended as they say. What it told is what was written to its screen, and behind
--- that nothing but which lines it drops, where it ended by itself; unless a write of these failed.
+-- This desk was kept on the file of this path, and on a copy if its path is named, and left these traces. log says what became
+-- of all that was typed: it gave the desk its lines, and those that may be cast are in order. What it said and heard is what
+-- passed at its socket, and it ended as traces.ended says. What it told was written to its screen, and after that only which
+-- lines it drops, if it ended by itself; unless one of these writes failed.
 pub record WasKept (desk : DeskId) (path : List ℕ) (copy : Option (List ℕ)) (traces : Traces) : Type 0 where
   pub disk : DeskDisk
   pub log : AheadLog

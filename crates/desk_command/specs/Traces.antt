@@ -23,14 +23,14 @@ pub record IsWideSheetOf (text : List ℕ) (sheet : Sheet) : Type 0 where
   pub is : IsSheetOf text read
   pub wide : sheet ≡ in_columns columns read
 
--- what was typed is all that its scorer entered but the words of its page; what of that came from elsewhere than the keyboard is
--- just what was posted in the page
+-- what was typed is all that its scorer entered, except the words of its page; what was entered elsewhere than at the keyboard
+-- is exactly what was posted in the page
 pub record WasEntered (typed entered : InputLog) (posted : PostedLog) : Type 0 where
   pub words : inputs_of typed ≡ for_desk (inputs_of entered)
   pub page : elsewhere_of entered ≡ lines_of posted
 
--- the sheet of its match, what was typed, what it said and heard, what passed for that at its socket, what it told until it ended,
--- all that was written to its screen, how it ended, and whether its last rows could be written
+-- the sheet of its match, what was typed, what its link said and heard, what its socket carried for that, what it told until it
+-- ended, all that was written to its screen, how it ended, and whether its last rows could be written
 pub record Traces : Type 0 where
   pub sheet : Sheet
   pub typed : List Input
@@ -41,7 +41,7 @@ pub record Traces : Type 0 where
   pub ended : Result (Unit {0}) LifeEnd
   pub last : Result (Unit {0}) WriteFailed
 
--- the same by the logs of each
+-- the traces that these logs hold
 abbrev pub traces_of :
     Sheet → InputLog → Log → CarriedLog → Written → Written → Result (Unit {0}) LifeEnd → Result (Unit {0}) WriteFailed → Traces
 traces_of sheet typed passed carried told written ended last = record {

@@ -26,8 +26,8 @@ use std::env::Env;
 use std::mem::drop;
 use streams::Watched;
 
-/// Why the command ends with a fault, by how its desk's process ended and whether its keyboard failed. Where its scorer
-/// stopped, there is none.
+/// Returns the command's fault, from how its desk's process ended and whether its keyboard failed: none if its scorer stopped
+/// it.
 fn stop_of(ended: Result<(), LifeEnd>, keyboard_failed: bool) -> Option<StopFault>
     ensures { result ≡ ends.stop_of ended keyboard_failed }
 {
@@ -47,8 +47,8 @@ fn stop_of(ended: Result<(), LifeEnd>, keyboard_failed: bool) -> Option<StopFaul
     }
 }
 
-/// The command's answer: nothing is refused, or a fault, which names the votes file where that was at work, and otherwise
-/// a standard stream.
+/// Returns the command's answer: nothing is refused, or a fault. A fault names the votes file if it is of that file, and a
+/// standard stream otherwise.
 fn answer<'a>(
     ended: Result<(), LifeEnd>,
     keyboard_failed: bool,
@@ -64,17 +64,17 @@ fn answer<'a>(
     }
 }
 
-/// Whether it is of a desk that runs that its votes or what it tells can't be written.
+/// Whether a fault says that a running desk can't write its votes or its screen.
 fn is_of_writing(fault: StopFault) -> bool {
     matches!(fault, StopFault::Write | StopFault::Disk)
 }
 
-/// The fault of a desk's file, with why its last failed call failed.
+/// Returns the fault of a desk's file, with the cause of its last failed call.
 fn caused<'a>(fault: StopFault, file: &'a str, last: Option<WriteFault>) -> Stopped<'a> {
     Stopped::at(file, with_cause(fault, last))
 }
 
-/// The same, with why its file's last failed call failed, where that is what ended it.
+/// Adds the cause of the votes file's last failed call to a fault, if that call is what ended the desk.
 fn with_last<'a>(stopped: Stopped<'a>, file: &'a str, last: Option<WriteFault>) -> Stopped<'a> {
     if last.is_some() && is_of_writing(stopped.fault) {
         return caused(stopped.fault, file, last);
@@ -82,7 +82,7 @@ fn with_last<'a>(stopped: Stopped<'a>, file: &'a str, last: Option<WriteFault>) 
     stopped
 }
 
-/// The same of a desk whose votes may have a copy, where its own file's calls went well and the copy's last one failed.
+/// Adds the cause of the last failed call to a fault of a desk that may have a copy: the copy's if only that failed.
 fn with_lasts<'a>(
     stopped: Stopped<'a>,
     file: &'a str,
@@ -98,15 +98,15 @@ fn with_lasts<'a>(
     }
 }
 
-/// Waits until all that was written to a desk's screen is taken, and tells whether it is. Where a write of it failed, no other
-/// one is made.
+/// Waits until all that was written to a desk's screen is taken, and returns whether it is. After a failed write nothing more
+/// is written.
 fn is_seen(screen: DeskScreen<'_, '_>, had_failed: bool) -> bool
     ensures { result ≡ true → had_failed ≡ false }
 {
     !had_failed && screen.output.end().is_ok()
 }
 
-/// The command's answer, where its screen was read whole or wasn't: it has no fault only where its scorer stopped the desk.
+/// Returns the command's answer, which has no fault only if its scorer stopped the desk and its screen was read whole.
 fn answer_of<'a>(
     ended: Result<(), LifeEnd>,
     keyboard_failed: bool,
@@ -125,7 +125,7 @@ fn answer_of<'a>(
     }
 }
 
-/// How many columns the terminal has, where the variable `COLUMNS` says it and rows can have them.
+/// Returns the terminal's width in columns, if the variable `COLUMNS` gives one that rows can have.
 fn terminals_columns(rt: &HostRuntime) -> Option<Columns> {
     let mut digits = [0; 3];
     let count = rt.var("COLUMNS", &mut digits).ok()?;
@@ -133,7 +133,7 @@ fn terminals_columns(rt: &HostRuntime) -> Option<Columns> {
     Columns::new(text.parse::<usize>().ok()?)
 }
 
-/// The sheet of a file, for rows of so many columns, or else of the terminal's.
+/// Reads the sheet in a file, for rows of this width, or else of the terminal's.
 fn wide_sheet_at<'a>(
     rt: &HostRuntime,
     path: &'a str,
@@ -149,17 +149,17 @@ fn wide_sheet_at<'a>(
     Ok(file)
 }
 
-/// What comes of a desk that was kept: its life, and its command's answer.
+/// A desk that was kept: its life, and its command's answer.
 #[derive(Drop)]
 pub struct Ended<'a> {
     pub life: Life<'a>,
     pub answer: Result<bool, Stopped<'a>>,
 }
 
-/// `ground desk`: keeps a scorer's desk with its votes in a file, and in a copy, where one is named, listening at an address,
+/// `ground desk`: keeps a scorer's desk, with its votes in a file (and in a copy if one is named), listening at an address,
 /// until the scorer types `quit` or no more. Then, with its files and its address free, it waits until its screen is read. Its
-/// datagrams are sealed with the sheet and the key in a file, where one is named. Where it is refused before it begins, there
-/// is no life.
+/// datagrams are sealed with the sheet, and with the key in a file if one is named. If it is refused before it begins, there is
+/// no life.
 #[inline(never)]
 pub fn start_desk<'a>(
     rt: &'a HostRuntime,

@@ -1,4 +1,4 @@
-//! The disk of a desk's votes: on which files it is, and what was read of them.
+//! The disk of a desk's votes: which files it is on, and what was read of them.
 
 ghost use Rattle.std.specs.Prelude.{◌≡◌, [], IfOk, option_copied};
 ghost use Rattle.desk_command.specs.Disks as shows;
@@ -17,7 +17,7 @@ use setup::{
 };
 use vote_store::Votes;
 
-/// An empty book of the sheet's match.
+/// Makes an empty book of the sheet's match.
 pub fn empty_book(rt: &HostRuntime, sheet: &MatchSheet) -> Result<CheckedBook, Stopped<'static>>
     ensures { IfOk result (λ book. (book.entries ≡ []) × (book.innings_a_side ≡ sheet.now.innings)) }
 {
@@ -27,8 +27,8 @@ pub fn empty_book(rt: &HostRuntime, sheet: &MatchSheet) -> Result<CheckedBook, S
     ))
 }
 
-/// These bytes, unless they aren't the desk's votes, or are no legal book: they are refused as the desk would refuse them
-/// that begins on them. No disk is asked, and the bytes aren't copied.
+/// Returns these bytes unless they aren't the desk's votes, or make no legal book: a desk that starts on them would refuse them
+/// in the same way. No disk is read, and the bytes aren't copied.
 fn judged<'a>(
     rt: &HostRuntime,
     sheet: &MatchSheet,
@@ -55,8 +55,8 @@ fn judged<'a>(
     }
 }
 
-/// A disk on this file of the desk's votes, or on a new one. One that has votes is written anew first, so that they are on
-/// the disk whatever became of what was written before; one that is refused stays as it was.
+/// Returns a disk on this file of the desk's votes, or on a new one. A file with votes is written anew first, so that its votes
+/// are on the disk whatever became of earlier writes; a file that is refused stays as it was.
 fn disk_at<'r, 'a>(
     rt: &'r HostRuntime,
     sheet: &MatchSheet,
@@ -74,8 +74,8 @@ fn disk_at<'r, 'a>(
     renewed_disk(rt, path, file, bytes.as_slice(), last)
 }
 
-/// One of two files of the desk's votes, which may have no byte, for this process alone. It is refused as one alone is, and
-/// named.
+/// Opens one of two files of the desk's votes, which may be empty, for this process alone. It is refused as a single file is,
+/// and named.
 fn kept_at<'r, 'a>(
     rt: &'r HostRuntime,
     sheet: &MatchSheet,
@@ -99,7 +99,7 @@ fn kept_at<'r, 'a>(
     })
 }
 
-/// Asks that the copy isn't the file itself, which is there.
+/// Refuses a copy that is the votes file itself. The votes file exists by now.
 fn expect_two<'a>(rt: &HostRuntime, file: &str, copy: &'a str) -> Result<(), Stopped<'a>> {
     if !is_same_file(rt, file, copy) {
         return Ok(());
@@ -111,8 +111,8 @@ fn expect_two<'a>(rt: &HostRuntime, file: &str, copy: &'a str) -> Result<(), Sto
     Err(Stopped::at(copy, StopFault::File(fault)))
 }
 
-/// A disk on both files of the desk's votes, of which the one that has more counts. Where one of them is refused, both are one,
-/// or neither has all votes of the other, both stay as they were.
+/// Returns a disk on both files of the desk's votes, of which the one with more votes counts. If either is refused, both are
+/// one file, or each lacks votes of the other, both stay as they were.
 fn copied_disk_at<'r, 'a>(
     rt: &'r HostRuntime,
     sheet: &MatchSheet,
@@ -131,7 +131,7 @@ fn copied_disk_at<'r, 'a>(
     paired_disk(rt, first, second, counting)
 }
 
-/// The disk of a desk's votes: on its file alone, or on that and its copy.
+/// The disk of a desk's votes: on its file alone, or on the file and its copy.
 #[derive(Drop)]
 pub enum DeskDisk<'r> {
     One(VotesDisk<'r>),
@@ -185,7 +185,7 @@ impl Disk for DeskDisk<'_> {
     }
 }
 
-/// The disk of a desk's votes, where one file's calls leave why they failed, and the other's.
+/// Returns the disk of a desk's votes. `lasts` gets the cause of the last failed call, of the file and of the copy.
 pub fn desk_disk_at<'r, 'a>(
     rt: &'r HostRuntime,
     sheet: &MatchSheet,

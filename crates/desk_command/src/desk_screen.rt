@@ -1,4 +1,4 @@
-//! What a desk's scorer is told.
+//! The screen that a desk's scorer reads.
 
 ghost use Rattle.std.specs.Prelude.{Some};
 ghost use Rattle.machine.specs.Screens.{written_of};
@@ -10,8 +10,8 @@ use station_screens::{Errors, Output, retry};
 use std::cell::RefCell;
 use std::io::{self, Write};
 
-/// A desk's screen. What was written to it is shown in a page too, where there is one. With each flush of it what waits for
-/// standard error is handed on too.
+/// A desk's screen. What is written to it is also shown in the page, if there is one. Each flush also hands on what waits for
+/// standard error.
 #[derive(Drop)]
 pub struct DeskScreen<'s, 'a> {
     pub output: Output<'a>,
@@ -19,7 +19,7 @@ pub struct DeskScreen<'s, 'a> {
     pub page: Option<&'s RefCell<ScorersPage>>,
 }
 
-/// Notes what was told, in a page.
+/// Adds what was told to a page.
 fn note(page: Option<&RefCell<ScorersPage>>, told: &[u8]) {
     if let Some(page) = page
         && let Ok(mut page) = page.try_borrow_mut()
@@ -28,7 +28,7 @@ fn note(page: Option<&RefCell<ScorersPage>>, told: &[u8]) {
     }
 }
 
-/// Has a page show what is new.
+/// Has a page show its new rows.
 fn show(page: Option<&RefCell<ScorersPage>>) {
     if let Some(page) = page
         && let Ok(mut page) = page.try_borrow_mut()

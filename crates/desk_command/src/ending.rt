@@ -1,4 +1,4 @@
-//! What a desk's scorer is told once its process has ended.
+//! What a desk's scorer is told once the desk's process has ended.
 
 ghost use Rattle.std.specs.Prelude.{◌≡◌, ◌≤◌, ◌++◌, OnErr, OnOk, Some, true};
 ghost use Rattle.cards.specs.Sheet.{most_columns};
@@ -19,12 +19,12 @@ pub trait Recorded: Write {
     ghost use Rattle.std.specs.Prelude.{◌≡◌, Some};
     ghost use Rattle.machine.specs.Screens.{text_of};
 
-    /// What was written to it, which clauses alone read.
+    /// What was written to the screen. Only clauses read it.
     fn written(&self) -> Written
         ensures { Self.contents self.now ≡ Some (text_of result) };
 }
 
-/// Tells which lines are dropped, where a desk ended by itself.
+/// Tells which lines are dropped, if a desk ended by itself: its disk failed.
 fn tell_dropped<K: Keys, C: Clock, W: Sink>(
     out: &mut Watched<W>,
     columns: usize,
@@ -45,8 +45,8 @@ fn tell_dropped<K: Keys, C: Clock, W: Sink>(
     }
 }
 
-/// A desk's screen once its last rows are written: what its process told, all that was written to it, whether the last rows could
-/// be written, and whether any write of it has failed.
+/// A desk's screen once its last rows are written: what its process told, all that was written to the screen, whether the last
+/// rows could be written, and whether any write has failed.
 pub struct Ending<W> {
     pub screen: W,
     pub told: Written,
@@ -55,7 +55,7 @@ pub struct Ending<W> {
     pub has_failed: bool,
 }
 
-/// Ends what a desk tells on its screen, behind its process: with which lines are dropped, where that ended by itself.
+/// Ends a desk's screen after its process: tells which lines are dropped, if the process ended by itself.
 pub fn end_screen<K: Keys, C: Clock, W: Recorded>(
     out: Watched<W>,
     columns: usize,

@@ -1,4 +1,4 @@
-//! `ground key`: a new key.
+//! `ground key`: new keys.
 
 ghost use Rattle.std.specs.Prelude.{◌≡◌, ◌≤◌, ◌∷◌, ◌++◌, [], IfOk};
 ghost use Rattle.setup.specs.Keys as keys;
@@ -14,10 +14,10 @@ use std::io::{self, ErrorKind, Write};
 use std::os::unix::fs::OpenOptionsExt;
 use std::random::RandomSource;
 
-/// A key's file: 64 hex digits and the end of a line.
+/// The text of a key file: 64 hex digits and the end of a line.
 type KeyText = [u8; 65];
 
-/// The text of a new key's file.
+/// Returns the text of a new key's file.
 pub fn key_text(key: &[u8; 32]) -> KeyText
     ensures { result ≡ keys.key_line key.now }
 {
@@ -26,7 +26,7 @@ pub fn key_text(key: &[u8; 32]) -> KeyText
     text
 }
 
-/// The text of a file of two keys.
+/// Returns the text of a file of two keys.
 fn pair_lines(
     alloc: Global,
     owner: KeyOwner,
@@ -40,7 +40,7 @@ fn pair_lines(
     Ok(text)
 }
 
-/// A file that wasn't there, which its owner alone may read.
+/// Makes a file that didn't exist, which only its owner may read.
 fn own_file(rt: &HostRuntime, path: &str) -> io::Result<File> {
     OpenOptions::new()
         .write(true)
@@ -49,20 +49,20 @@ fn own_file(rt: &HostRuntime, path: &str) -> io::Result<File> {
         .open(rt, path)
 }
 
-/// Writes a text, and waits until it is kept.
+/// Writes a text, and waits until it is on the disk.
 fn keep(file: &mut File, text: &[u8]) -> io::Result<()> {
     file.write_all(text)?;
     file.sync_all()
 }
 
-/// 32 bytes of the system's randomness.
+/// Returns 32 bytes of the system's randomness.
 fn new_key(rt: &HostRuntime) -> io::Result<[u8; 32]> {
     let mut key = [0; 32];
     rt.fill_bytes(&mut key[..])?;
     Ok(key)
 }
 
-/// Makes a key's file of this text. Where it can't be written whole, it is taken away again.
+/// Makes a key file with this text, and removes it again if it can't be written whole.
 fn write_file(rt: &HostRuntime, path: &str, text: &[u8]) -> io::Result<()> {
     if !may_have(text.len() as u64) {
         return Err(io::Error::from(ErrorKind::FileTooLarge));
@@ -81,7 +81,7 @@ fn write_key(rt: &HostRuntime, path: &str) -> io::Result<()> {
     write_file(rt, path, key_text(&key).as_slice())
 }
 
-/// The new keys of a match: both desks', and those of which desk A and desk B make the ones for boards.
+/// The new keys of a match: the one of both desks, and the two from which desk A and desk B make the boards' keys.
 #[derive(Drop)]
 struct PairKeys {
     desks: KeyDigits,
@@ -90,7 +90,7 @@ struct PairKeys {
 }
 
 impl PairKeys {
-    /// Three keys of the system's randomness.
+    /// Makes three keys from the system's randomness.
     fn new(rt: &HostRuntime) -> io::Result<PairKeys> {
         Ok(PairKeys {
             desks: key_digits(&new_key(rt)?),
@@ -99,7 +99,7 @@ impl PairKeys {
         })
     }
 
-    /// The text of a board's file: the keys that it shares with both desks.
+    /// Returns the text of a board's file: the keys that it shares with both desks.
     fn board_text(&self, alloc: Global, owner: KeyOwner, board: u8) -> Result<Vec<u8>, AllocError>
         requires { board ≤ 9 }
         ensures { IfOk result (λ text. text.items ≡
@@ -109,7 +109,7 @@ impl PairKeys {
         pair_lines(alloc, owner, &first, &board_key(self.b.as_slice(), board))
     }
 
-    /// The text of a file: its owner's two keys.
+    /// Returns the text of an owner's file: its two keys.
     fn text(&self, alloc: Global, owner: KeyOwner) -> Result<Vec<u8>, AllocError>
         ensures { IfOk result (λ text. text.items ≡ keys.pair_file self.now.desks self.now.a self.now.b owner) }
     {
@@ -124,13 +124,13 @@ impl PairKeys {
     }
 }
 
-/// The path of a file of keys in a folder.
+/// Returns the path of a key file in a folder.
 fn pair_path(alloc: Global, folder: &str, owner: KeyOwner) -> Result<String, AllocError> {
     let name = owner.file_name();
     format!(in alloc; "{folder}{name}")
 }
 
-/// Asks that a file of keys isn't in a folder.
+/// Refuses a folder that has this owner's key file.
 fn expect_new(rt: &HostRuntime, folder: &str, owner: KeyOwner) -> io::Result<()> {
     let path = pair_path(rt.alloc(), folder, owner)?;
     match fs::symlink_metadata(rt, path.as_str()) {
@@ -140,14 +140,14 @@ fn expect_new(rt: &HostRuntime, folder: &str, owner: KeyOwner) -> io::Result<()>
     }
 }
 
-/// Makes a file of keys in a folder.
+/// Makes an owner's key file in a folder.
 fn write_pair(rt: &HostRuntime, folder: &str, keys: &PairKeys, owner: KeyOwner) -> io::Result<()> {
     let path = pair_path(rt.alloc(), folder, owner)?;
     let text = keys.text(rt.alloc(), owner)?;
     write_file(rt, path.as_str(), text.as_slice())
 }
 
-/// Takes these files of keys in a folder away again.
+/// Removes these owners' key files from a folder.
 fn remove_each(rt: &HostRuntime, folder: &str, owners: &[KeyOwner]) {
     for owner in owners {
         if let Ok(path) = pair_path(rt.alloc(), folder, *owner) {
@@ -156,12 +156,12 @@ fn remove_each(rt: &HostRuntime, folder: &str, owners: &[KeyOwner]) {
     }
 }
 
-/// The fault of a file of new keys that can't be written.
+/// Returns the fault of a file of new keys that can't be written.
 fn pair_fault(owner: KeyOwner, error: &io::Error) -> StopFault {
     StopFault::PairKeys(owner, cause_of(error))
 }
 
-/// Makes all files of keys in a folder, or none.
+/// Makes all key files in a folder, or none.
 fn write_each(rt: &HostRuntime, folder: &str, keys: &PairKeys) -> Result<(), StopFault> {
     for index in 0..KEY_OWNERS.len() {
         let owner = KEY_OWNERS[index];
@@ -173,7 +173,7 @@ fn write_each(rt: &HostRuntime, folder: &str, keys: &PairKeys) -> Result<(), Sto
     Ok(())
 }
 
-/// Makes the keys of a match in a folder, where none of their files is there.
+/// Makes the keys of a match in a folder that has none of their files.
 fn write_pairs(rt: &HostRuntime, folder: &str) -> Result<(), StopFault> {
     for owner in KEY_OWNERS {
         expect_new(rt, folder, owner).map_err(|why| pair_fault(owner, &why))?;
@@ -182,7 +182,7 @@ fn write_pairs(rt: &HostRuntime, folder: &str) -> Result<(), StopFault> {
     write_each(rt, folder, &keys)
 }
 
-/// The fault of a new key that can't be written.
+/// Returns the fault of a new key that can't be written.
 fn fault_of(error: &io::Error) -> StopFault {
     StopFault::File(WriteFault {
         name: Name::Own,
@@ -190,13 +190,13 @@ fn fault_of(error: &io::Error) -> StopFault {
     })
 }
 
-/// Whether this is a folder.
+/// Whether this path is a folder.
 fn is_folder(rt: &HostRuntime, path: &str) -> bool {
     fs::metadata(rt, path).is_ok_and(|found| found.is_dir())
 }
 
-/// `ground key`: writes a key of the system's randomness to a new file; or, to a folder, six files with keys for each pair, both
-/// desks' and four boards'. A file that is there is refused, and stays: then none is written.
+/// `ground key`: writes a key from the system's randomness to a new file; or, into a folder, six files with keys for each pair:
+/// both desks' and four boards'. A file that exists is refused and stays, and then none is written.
 #[inline(never)]
 pub fn start_key<'a>(rt: &HostRuntime, to: &'a str) -> Result<bool, Stopped<'a>> {
     let written = if is_folder(rt, to) {

@@ -1,4 +1,4 @@
-//! What holds of a desk's whole life. These functions do nothing: they stand for the laws that they ensure.
+//! Laws on a desk's whole life. These functions do nothing: they stand for the laws that they ensure.
 
 ghost use Rattle.std.specs.Prelude.{List};
 ghost use Rattle.agree_core.specs.declared.messages.DeskId.{DeskId as ADesk};
@@ -15,13 +15,13 @@ pub fn every_vote_of_a_life_was_typed()
     ensures { (desk : ADesk) (life : List (Process desk)) → VotesWereTyped life }
 {}
 
-/// A `Life` is one of these processes.
+/// Each `Life` is one of these processes.
 pub fn a_life_is_a_process(_life: &Life<'_>)
     ensures { ∥ ((process : Process (desk_of _life.now)) × IsOf _life.now process) ∥₁ }
 {}
 
-/// Each line of a life that was typed in the desk's page was posted by who had the secret, for where the desk stood, by a nonce that
-/// was good: its tag is made of these and of the line.
+/// Each line of a life that was typed in the desk's page was posted by a holder of the secret, for the desk's position, with a
+/// nonce that was good: its tag is made from these and the line.
 pub fn what_a_page_typed_was_posted(_life: &Life<'_>)
     ensures lines { WasEntered (_life.now.typed).value (_life.now.entered).value (posted_in _life.now) }
     ensures posted { WerePosted (posted_in _life.now) }

@@ -1,4 +1,4 @@
-//! The commands of the program that begin a desk on this machine, and make the key of a match's stations.
+//! The commands of the program that start a desk on this machine, and make the keys of a match's stations.
 #![tactic(auto)]
 
 mod begin;

@@ -1,4 +1,4 @@
-//! The process of a desk on this machine: there is a life of a desk only where its process was kept.
+//! The process of a desk on this machine: a desk has a life only if its process was kept.
 
 ghost use Rattle.std.specs.Prelude.{◌≡◌, [], OnErr, Some, option_copied, true};
 ghost use Rattle.ahead.specs.Ahead.{given_of};
@@ -27,11 +27,11 @@ use std::io::{Read, Write};
 use std::snapshot::Snapshot;
 use streams::{Sink, Watched, WriteFailed};
 
-/// The life of a desk: its letter, the paths of its sheet, of its votes file and of its copy, where it has one, how it ended, and
-/// whether its last rows could be written. Of what it had to do with clauses alone read: the bytes of its sheet, what was read of
-/// them, what was typed but for the words of its page, all that its scorer entered with those, the lines of it that were posted in
-/// the page, what it said and heard, what passed for that at its socket, what it told until it ended, and all that was written to
-/// its screen.
+/// The life of a desk: its letter, the paths of its sheet, its votes file and its copy if it has one, how it ended, and whether
+/// its last rows could be written. Only clauses read the rest: the bytes of its sheet and the sheet read from them, what was
+/// typed except the words of its page, all that its scorer entered, those words included, the lines of it that were posted in
+/// the page, what its link said and heard, what its socket carried for that, what it told until it ended, and all that was
+/// written to its screen.
 #[derive(Drop)]
 pub struct Life<'a> {
     desk: DeskId,
@@ -56,7 +56,7 @@ pub struct Life<'a> {
 }
 
 impl Life<'_> {
-    /// How it ended.
+    /// Returns how the life ended.
     pub fn ended(&self) -> Result<(), LifeEnd>
         ensures { result ≡ self.now.ended }
     {
@@ -64,7 +64,7 @@ impl Life<'_> {
     }
 }
 
-/// Keeps the desk's process on this disk, until it ends.
+/// Keeps the desk's process on this disk until it ends.
 #[inline(never)]
 fn keep<L: Link, K: Keys, C: Clock, W: Sink>(
     rt: &HostRuntime,
@@ -92,18 +92,18 @@ fn keep<L: Link, K: Keys, C: Clock, W: Sink>(
     )
 }
 
-/// A link that tells what it said and heard, and what its socket carried for that. Clauses alone read both.
+/// A link that tells what it said and heard, and what its socket carried for that. Only clauses read both.
 pub trait Carries: Link {
     ghost use Rattle.std.specs.Prelude.{◌≡◌};
     ghost use Rattle.links.specs.Logs.{passed_of};
     ghost use Rattle.seal.specs.Carried.{carried_of};
     ghost use Rattle.setup.specs.Carried.{WasCarried};
 
-    /// What it said and heard.
+    /// What the link said and heard.
     fn passed(&self) -> &Log
         ensures { passed_of result.now ≡ Self.log self.now };
 
-    /// What its socket carried.
+    /// What the link's socket carried.
     fn carried(&self) -> &CarriedLog
         ensures { WasCarried (Self.log self.now) (carried_of result.now) };
 }
@@ -118,13 +118,13 @@ impl<E: Write + Drop> Carries for StationLink<'_, '_, E> {
     }
 }
 
-/// A scorer's keys that tell all that was entered, and which lines of it were posted in the page. Clauses alone read both.
+/// A scorer's keys that tell all that was entered, and which lines of it were posted in the page. Only clauses read both.
 pub trait Enters: Keys {
     ghost use Rattle.std.specs.Prelude.{◌≡◌};
     ghost use Rattle.links.specs.Logs.{elsewhere_of, inputs_of};
     ghost use Rattle.posts.specs.PostedLogs.{lines_of};
 
-    /// All that was entered, and the lines of the page in it.
+    /// All that was entered, and the lines of it that were posted in the page.
     fn entered(&self) -> (&InputLog, &PostedLog)
         ensures inputs { inputs_of result.0.now ≡ Self.inputs self.now }
         ensures posted { elsewhere_of result.0.now ≡ lines_of result.1.now };
@@ -136,8 +136,8 @@ impl<R: Read, E: Write> Enters for Keyboard<R, PageLines<'_, E>> {
     }
 }
 
-/// What comes of a desk's process that was kept: its life, its scorer's lines, and its screen, with whether a write of it has failed.
-/// Its socket is closed.
+/// A desk whose process was kept: its life, its scorer's lines, and its screen, with whether a write to it has failed. Its
+/// socket is closed.
 pub struct Kept<'a, K: Keys, W> {
     pub life: Life<'a>,
     pub keys: K,
@@ -145,7 +145,8 @@ pub struct Kept<'a, K: Keys, W> {
     pub has_failed: bool,
 }
 
-/// Keeps the process of a desk whose scorer types at a keyboard and in a page, and nothing yet: with the life that the desk had.
+/// Keeps the process of a desk whose scorer types at a keyboard and in a page, and hasn't typed yet. Returns the life that the
+/// desk had.
 pub fn keep_on<'a, L: Carries + Drop, K: Enters, S: Squares, C: Clock, W: Recorded>(
     rt: &HostRuntime,
     beginning: Beginning<DeskDisk<'_>, CheckedBook>,

@@ -1,4 +1,4 @@
-//! The page of a desk, and the squares by which a scorer comes to it.
+//! The page of a desk, and the squares by which a scorer gets to it.
 
 use hex::encode_to_slice;
 use links::Clock;
@@ -14,25 +14,25 @@ use std::random::RandomSource;
 use std::str;
 use viewers::{Inbox, Station, Viewers, reached_at};
 
-/// A page, by whose secret a scorer signs. The secret stands in no link.
+/// A page, with the secret that a scorer's lines are signed with. No link contains the secret.
 #[derive(Drop)]
 struct Served {
-    /// The address at which others reach it.
+    /// The address at which others reach the page.
     at: SocketAddr,
-    /// What ends a wait where somebody looks or types.
+    /// The descriptor that ends a wait when a viewer comes or types.
     ends: RawFd,
     page: RefCell<ScorersPage>,
 }
 
-/// The page of a desk, where there is one.
+/// The page of a desk, if there is one.
 #[derive(Drop)]
 pub struct Page {
     served: Option<Served>,
-    /// Whether somebody came or asks there: so it is at first.
+    /// Whether a viewer came or asks at the page: true at first.
     called: Cell<bool>,
 }
 
-/// The page, if there is one, and whether somebody came or asks there.
+/// The page, if there is one, and whether a viewer came or asks there.
 #[derive(Clone, Copy)]
 pub struct Audience<'p> {
     pub page: Option<&'p RefCell<ScorersPage>>,
@@ -47,14 +47,14 @@ pub struct PageSquares<'p, E> {
     errors: E,
 }
 
-/// Sixteen bytes of the system's randomness.
+/// Returns sixteen bytes of the system's randomness.
 fn random(rt: &HostRuntime) -> io::Result<[u8; 16]> {
     let mut bytes = [0; 16];
     rt.fill_bytes(&mut bytes[..])?;
     Ok(bytes)
 }
 
-/// The link to a page at an address, with a ticket in hex digits behind `#`.
+/// Returns the link to a page at an address, with a ticket in hex digits after `#`.
 fn link_to(rt: &HostRuntime, at: SocketAddr, ticket: &[u8; 16]) -> io::Result<String> {
     let mut digits = [0; 32];
     let made = encode_to_slice(&ticket[..], &mut digits[..]).is_ok();
@@ -67,7 +67,7 @@ fn link_to(rt: &HostRuntime, at: SocketAddr, ticket: &[u8; 16]) -> io::Result<St
     }
 }
 
-/// A page at an address, with a secret of the system's randomness.
+/// Opens a page at an address, with a secret from the system's randomness.
 fn served_at(rt: &HostRuntime, at: &Address<'_>) -> io::Result<Served> {
     let inbox = Some(Inbox::new(random(rt)?));
     let viewers = Viewers::new(rt, rt.alloc(), at.socket, Station::Desk, inbox)?;
@@ -91,8 +91,8 @@ fn draw_code(rt: &HostRuntime, link: &str) {
 }
 
 impl Served {
-    /// Puts a new ticket into a link, which is the only one that is good from here on. Where all are to be let in anew, the page
-    /// has a new secret first.
+    /// Puts a new ticket into a link: only that ticket is good from then on. If all viewers are to be let in anew, the page
+    /// gets a new secret first.
     fn new_link(&self, rt: &HostRuntime, word: PageWord) -> io::Result<String> {
         let ticket = random(rt)?;
         let link = link_to(rt, self.at, &ticket)?;
@@ -108,7 +108,7 @@ impl Served {
 }
 
 impl Page {
-    /// The page at an address, where one is given. Its secret is a new one each time.
+    /// Opens the page at an address, if one is given. Its secret is new each time.
     pub fn at<'a>(rt: &HostRuntime, at: Option<Address<'a>>) -> Result<Page, Stopped<'a>> {
         let Some(at) = at else {
             return Ok(Page {
@@ -125,7 +125,7 @@ impl Page {
         }
     }
 
-    /// The page itself.
+    /// Returns the page itself, if there is one.
     pub fn scorers(&self) -> Option<&RefCell<ScorersPage>> {
         match &self.served {
             Some(served) => Some(&served.page),
@@ -133,12 +133,12 @@ impl Page {
         }
     }
 
-    /// Where it is noted that somebody came or asks there.
+    /// Returns the cell that says whether a viewer came or asks at the page.
     pub fn called(&self) -> &Cell<bool> {
         &self.called
     }
 
-    /// What is seen to, and that.
+    /// Returns the page, if there is one, with that cell.
     pub fn audience(&self) -> Audience<'_> {
         Audience {
             page: self.scorers(),
@@ -146,7 +146,7 @@ impl Page {
         }
     }
 
-    /// What ends a desk's waits: this keyboard, and where there is a page who looks or types there.
+    /// Returns what ends a desk's waits: this keyboard, and the page's viewers if there is a page.
     pub fn ends_with(&self, keyboard: RawFd) -> WaitEnds {
         WaitEnds {
             keyboard: Some(keyboard),
@@ -154,8 +154,8 @@ impl Page {
         }
     }
 
-    /// Tells a link with a new ticket, where there is a page, and on a terminal as a square too that a camera reads. That it
-    /// can't be told is no fault.
+    /// Tells a link with a new ticket, if there is a page; on a terminal also as a square that a camera reads. Not being able
+    /// to tell it is no fault.
     pub fn tell<W: Write>(&self, rt: &HostRuntime, word: PageWord, errors: &mut W) {
         let Some(served) = &self.served else {
             return;
@@ -172,7 +172,7 @@ impl Page {
 }
 
 impl<'p, E> PageSquares<'p, E> {
-    /// Of this page.
+    /// The squares of this page.
     pub fn of(rt: &'p HostRuntime, page: &'p Page, errors: E) -> PageSquares<'p, E> {
         PageSquares { rt, page, errors }
     }

@@ -1,4 +1,4 @@
--- What is left of both disks of a match that is ended by a fault.
+-- What both disks hold after a match that a fault ended.
 use Rattle.std.proofs.Common.{◌≡◌, ℕ, List, inr, subst}
 use Rattle.notation.specs.declared.entry.Entry.{Entry}
 use Rattle.corrections.specs.declared.book_of.BookOf.{Ghosts as Books}
@@ -28,7 +28,7 @@ module _ {S B D : Type 0} {g : Files S D} {h : Disks D} {b : Books B} where
     keeps_either : (book more : List Entry) → DiskHoldsEither desk book more → HoldsEither (desk_view h.seen h.images s d) (disk_of desk) book more
     keeps_either book more held = subst (λ (v : FileView D). HoldsEither v (disk_of desk) book more) view_is held
 
-  -- what the desks leave is what the run does
+  -- what the desks leave on their disks is what the run leaves
   module _ (x y : Desk S B D g h b) (s : Sheet) (input : List ℕ) (is : g.contents ≡ contents version_2) (is_a : desk_of x ≡ DeskId.A) (is_b : desk_of y ≡ DeskId.B)
       (game_a : game_of x ≡ s.game) (game_b : game_of y ≡ s.game) (a b' : D) where
     pub lines_left : (fault : MatchFault) → LinesLeave s.innings input fault x y → Leaves h.seen h.images s input fault a b' (disk_of x) (disk_of y)

@@ -1,4 +1,4 @@
--- The lines of a match: the first that isn't agreed ends it.
+-- The lines of a match: the first line that isn't agreed ends it.
 use Rattle.std.proofs.Common.{◌≡◌, ◌+◌, ℕ, List, ◌∷◌, [], ◌++◌, length, refl, arith, drop, suc, ◌∙◌}
 use Rattle.std.specs.Prelude.{take}
 use Rattle.corrections.specs.declared.book_of.BookOf.{Ghosts as Books}
@@ -16,7 +16,7 @@ module _ (innings : ℕ) (input line : List ℕ) (rest : List (List ℕ)) (numbe
   pub refused : (n k : ℕ) (fault : MatchFault) → n ≡ innings → k ≡ number + 1 → WhyNotAgreed (answer_to n book line) book k fault → WhyNoMatch innings input [] [] fault
   refused n k fault same numbered w = grind (arith, m, first_refused innings input line rest number book m n)
 
--- the lines from this number on are left, and those before gave this book
+-- the lines from this number on are left, and those before it gave this book
 pub record Reached (innings : ℕ) (input : List ℕ) (lines : List (List ℕ)) (number : ℕ) (book : List Entry) : Type 0 where
   pub left : drop number (lines_of input) ≡ lines
   pub is : entries_of_first number innings input ≡ book
@@ -34,7 +34,7 @@ module _ (innings : ℕ) (input line : List ℕ) (rest : List (List ℕ)) (numbe
   pub one_reached : (new : List Entry) → new ≡ with_taken (answer_to innings book line) book → Reached innings input rest (number + 1) new
   one_reached new e = grind (arith, r.left, r.is, one_more number (lines_of input) line rest, after_last innings [] (take number (lines_of input)) line)
 
-  -- what both disks hold where the line that comes next isn't agreed
+  -- what both disks hold if the next line isn't agreed
   pub line_left : {S B D : Type 0} {g : Files S D} {h : Disks D} {b : Books B} (x y : Desk S B D g h b) (k n : ℕ) (fault : MatchFault) → n ≡ innings → length book ≡ number → k ≡ number + 1
       → WhyNotAgreed (answer_to n book line) book k fault → LineLeaves book (with_taken (answer_to n book line) book) fault x y → LinesLeave innings input fault x y
   line_left x y k n (MatchFault.Line at why) same long e w l = (number, w.0 ∙ e, rw r.is l)

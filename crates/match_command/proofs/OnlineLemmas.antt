@@ -31,7 +31,7 @@ use Rattle.match_command.specs.inner.Online.{Follows, IsOnline, IsSaid, SpeaksOf
 gave_before : (xs ys : List Passed) → GivesOnlySent (xs ++ ys) → GivesOnlySent xs
 gave_before xs ys g before after bytes e = g before (after ++ ys) bytes (rw e (append_assoc before (Came bytes ∷ after) ys))
 
--- what stands in a list stands in a longer one
+-- a longer list has the same item at each place of the shorter one
 slice_get-more : (xs ys : List Entry) (n : ℕ) → (slice_get (xs ++ ys) n ≡ slice_get xs n) ⊎ (slice_get xs n ≡ None)
 slice_get-more xs ys n = grind (arith, slice_get_past xs n, slice_get-append_left xs ys n)
 
@@ -49,7 +49,7 @@ board_takes entries rules game k l bytes (Ok (What.Heard h)) m y s f (Vote v, sa
 board_takes entries rules game k l bytes answer m y s f t = grind arith
 
 module _ (game : ℕ) (start : List Passed) where
-  -- one entry more
+  -- the stations stay online with one entry more
   pub more : (entries : List Entry) (e : Entry) (log : List Passed) (k : BoardState) → IsOnline game start entries log k → IsOnline game start (entries ++ e ∷ []) log k
   more entries e log k o = record {
     passed = o.passed;
@@ -60,7 +60,7 @@ module _ (game : ℕ) (start : List Passed) where
         grind (arith, f, slice_get-more entries (e ∷ []), take-append-le (length k.book) entries (e ∷ []), length-take (length k.book) entries, ap length f.book);
   }
 
-  -- what was said since
+  -- the stations stay online after these sent messages
   pub says_more : (entries : List Entry) (xs log new : List Passed) (k : BoardState) → All (IsSaid game entries) xs → new ≡ log ++ xs → IsOnline game start entries log k
       → IsOnline game start entries new k
   says_more entries xs log new k said is o = record {
@@ -70,7 +70,7 @@ module _ (game : ℕ) (start : List Passed) where
     follows = λ g. o.follows (gave_before o.passed xs g);
   }
 
-  -- a datagram that came to the board
+  -- a datagram came to the board
   pub came_to_board : {Why : Type 0} (rules : Rules Why) (entries : List Entry) (log new : List Passed) (bytes : List ℕ) (k l : BoardState) (answer : Result What BoardRefusal) →
       new ≡ log ++ Came bytes ∷ [] → Takes rules game k bytes answer l → IsOnline game start entries log k → IsOnline game start entries new l
   came_to_board rules entries log new bytes k l answer is t o = record {
@@ -83,12 +83,12 @@ module _ (game : ℕ) (start : List Passed) where
         board_takes entries rules game k l bytes answer sent.0 sent.1 sent.2 (o.follows (gave_before o.passed (Came bytes ∷ []) g)) t;
   }
 
--- these messages are handed out
+-- these messages are sent
 pub out_said : (to : Receivers) (game : ℕ) (entries : List Entry) (out : List Message) → All IsMessage out → All (SpeaksOf entries) out → All (IsSaid game entries) (sends to game out)
 out_said to game entries out fine speak =
     All-map (IsSaid game entries) (Sent to) (map (written game) out) (All-map (λ bs. IsSaid game entries (Sent to bs)) (written game) out (λ k d lt. (_, (fine k d lt, refl), speak k d lt)))
 
--- with a datagram that came to a desk
+-- a datagram came to a desk
 pub came_to_desk : (game : ℕ) (entries : List Entry) (log new : List Passed) (bytes : List ℕ) → new ≡ log ++ Came bytes ∷ [] → StaysOnline game entries log new
 came_to_desk game entries log new bytes is start k o =
     says_more game start entries (Came bytes ∷ []) log new k (All-push (IsSaid game entries) [] (Came bytes) (All-nil (IsSaid game entries)) tt) is o

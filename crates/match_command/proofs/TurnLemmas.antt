@@ -1,4 +1,4 @@
--- What each call of a desk keeps of its turn, whatever it is given.
+-- What each call keeps of a desk's turn, whatever the desk is given.
 use Rattle.std.proofs.Common.{◌≡◌, ◌<◌, ◌≤◌, ℕ, ◌+◌, None, List, [], ◌∷◌, ◌++◌, length, sym, ap, ◌∙◌, subst, inl, inr, ◌⊎◌, arith, length-append, Result, Ok, Err}
 use Rattle.std.specs.Prelude.{IfErr, OnOk}
 use Rattle.std.specs.List.{All}
@@ -41,7 +41,7 @@ use Rattle.match_command.specs.inner.Turns.{KeepsOnline, KeepsTurn, LineLeaves, 
 use Rattle.match_command.proofs.OnlineLemmas.{more, out_said, says_more}
 use Rattle.match_command.proofs.VoteLists.{are_for, votes_last}
 
--- a seat whose book has all entries is in the first round, and has no vote that waits
+-- a seat whose book has all entries is in the first round, and has no pending vote
 level_free : (book : List Entry) (seat : SeatState) → GoesWith book seat book → (seat.position.round ≡ 0) × (seat.mine ≡ None)
 level_free book seat g = grind (arith, length_at_push {X = Entry})
 
@@ -52,7 +52,7 @@ module _ {Disk : Type 0} (view : FileView Disk) where
   pub begins : (d : DeskId) (k : DeskState Disk) → Creates view d k → IsInTurn view [] k
   begins d k c = grind arith
 
-  -- the vote that is cast is the next of the entries' votes
+  -- the vote that is cast is the next one of the votes for the entries
   next_vote : (k : DeskState Disk) (e : Entry) → IsInTurn view k.book k → next_ballot k e ∷ k.votes ≡ votes_for (k.book ++ e ∷ [])
   next_vote k e t = grind (arith, level_free k.book k.seat t.goes, votes_last k.book e)
 
@@ -74,7 +74,7 @@ module _ {Disk : Type 0} (view : FileView Disk) where
   replies entries k q out t (inl r) = rw r.2 (All-cons (SpeaksOf entries) _ [] ((are_for entries).each _ (rw t.votes at r.1)) (All-nil (SpeaksOf entries)))
   replies entries k q out t (inr r) = rw r.1 (All-nil (SpeaksOf entries))
 
-  -- what comes of bytes, where no device call failed: it goes on with the same votes, and what it replies is of its entries
+  -- if no device call fails, a desk that takes bytes goes on with the same votes, and its replies speak of its entries
   went : (game : ℕ) (entries : List Entry) (k l : DeskState Disk) (bytes : List ℕ) (what : What) (out : List Message) → end_at what ≡ further
       → Takes view game k bytes what l out → IsInTurn view entries k → IsInTurn view entries l × All (SpeaksOf entries) out
   went game entries k l bytes (What.Heard h) out n (Message.Vote v, says, r) t = (
@@ -86,7 +86,7 @@ module _ {Disk : Type 0} (view : FileView Disk) where
   went game entries k l bytes (What.Bad fault) out n r t = rw (r.2, r.3) (t, All-nil (SpeaksOf entries))
   went game entries k l bytes what out n r t = absurd (grind arith)
 
-  -- what it says unasked is of its entries too
+  -- each unasked message speaks of the desk's entries too
   pub ticks_speak : (entries : List Entry) (k : DeskState Disk) (out : List Message) → IsInTurn view entries k → Ticks k out → All (SpeaksOf entries) out
   ticks_speak entries k out t w = grind (arith, slice_get-last k.book, All-cons (SpeaksOf entries), All-append (SpeaksOf entries), All-nil (SpeaksOf entries))
 
@@ -102,7 +102,7 @@ module _ {S B D : Type 0} {g : Files S D} {h : Disks D} {b : Books B} where
   called_online s old new call entries before after c speak start k o =
       says_more (game_of old) start entries _ before after k (out_said (receivers_of call) (game_of old) entries c.out c.fine speak) c.passed o
 
-  -- it was given bytes, and goes on; what it replied is of its entries
+  -- the desk was given bytes, and goes on; each reply speaks of its entries
   pub given : (old new : Desk S B D g h b) (bytes : List ℕ) (what : What) (before after : List Passed)
       → ((s : Sheet) → Calls s old new (Given bytes what) before after) → end_at what ≡ further
       → KeepsTurn old new × ((entries : List Entry) → InTurn entries old → StaysOnline (game_of old) entries before after)
@@ -118,7 +118,7 @@ module _ {S B D : Type 0} {g : Files S D} {h : Disks D} {b : Books B} where
         λ entries t. called_online (plain_sheet 0 1) old new (Given bytes what) entries before after c (w entries t).1,
       )
 
-  -- what it said unasked is too
+  -- each unasked message keeps the stations online too
   pub ticked_online : (desk : Desk S B D g h b) (entries : List Entry) (before after : List Passed)
       → ((s : Sheet) → Calls s desk desk Ticked before after) → InTurn entries desk → StaysOnline (game_of desk) entries before after
   ticked_online desk entries before after f t =
@@ -132,7 +132,7 @@ module _ {S B D : Type 0} {g : Files S D} {h : Disks D} {b : Books B} where
   takes_entry : (old : Desk S B D g h b) (e : Entry) → IsLevel old → desks.MayPen (rules_of old) (state_of old) e → taking (innings_at old) (book_at old) e ≡ Ok e
   takes_entry old e l may = grind (arith, nat_tests, l.goes.place, may)
 
-  -- it has penned an entry
+  -- the desk has penned an entry
   pub voted : (old new : Desk S B D g h b) (e : Entry) (penned : Penned) → IsLevel old → SameOwner old new → PenSteps old e (Ok penned) new
       → BlamesDisk PenRefusal.Device (g.room (length (own_votes old) + 1) ≤ h.cap (disk_of old)) (Ok penned) (h.faults (disk_of old)) (h.faults (disk_of new)) → VotesFor e old new
   voted old new e penned l o step blame =
@@ -149,7 +149,7 @@ module _ {S B D : Type 0} {g : Files S D} {h : Disks D} {b : Books B} where
       subst (λ (v : FileView D). Holds v (disk_of new) (votes_for (book_at old))) (same_view old new o)
       (stays_held (view_of old) (disk_of old) (disk_of new) (votes_for (book_at old)) u.0 l.held)
 
-  -- or it hasn't
+  -- the desk refuses to pen an entry
   pub refused : (old new : Desk S B D g h b) (e : Entry) (number place : ℕ) (why : PenRefusal) → IsLevel old → SameOwner old new → PenSteps old e (Err why) new
       → PenLeaves e (pen_fault number place why) old new
   refused old new e number place PenRefusal.PlacesFull l o step = refused_holds old new l o step.3.1
@@ -160,7 +160,7 @@ module _ {S B D : Type 0} {g : Files S D} {h : Disks D} {b : Books B} where
   refused old new e number place why l o step =
       absurd (grind (arith, level_free (book_at old) (state_of old).seat l.goes, ap length l.votes, (are_for (book_at old)).long, l.goes.place, l.running, step.3.0))
 
-  -- nothing was written since
+  -- nothing was written to the disk since
   pub still_holds : (old new : Desk S B D g h b) (book : List Entry) → KeepsDisk old new → DiskHolds old book → DiskHolds new book
   still_holds old new book k held =
       subst (λ (v : FileView D). Holds v (disk_of new) (votes_for book)) (same_view old new k.owner) (rw (k.disk.0, k.disk.1) held)
@@ -181,11 +181,11 @@ module _ {S B D : Type 0} {g : Files S D} {h : Disks D} {b : Books B} where
       let three = (rw (db.owner.game ∙ gb) at (at_b entries (kb.turn entries tb))) start (board_at k) two in
       (rw (same ∙ gk) at (at_board start entries)) three
 
-  -- its place is agreed
+  -- the entry's place is agreed
   settled : (book : List Entry) (e : Entry) (desk : Desk S B D g h b) → InTurn (book ++ e ∷ []) desk → length book < length (book_at desk) → book_at desk ≡ book ++ e ∷ []
   settled book e desk t l = grind (arith, t.goes, length-append {A = Entry})
 
-  -- what comes of a line that both desks have penned, and all three stations have agreed
+  -- what holds once both desks have penned a line, and all three stations have agreed it
   pub record Agreed (a b0 a2 b2 : Desk S B D g h b) (k l : Board B b) (e : Entry) (log new : List Passed) : Type 0 where
     pub level : AreLevel a2 b2 l
     pub book : book_at a2 ≡ book_at a ++ e ∷ []
@@ -213,7 +213,7 @@ module _ {S B D : Type 0} {g : Files S D} {h : Disks D} {b : Books B} where
             rw book_a (subst (λ (n : ℕ). IsOnline n start es new (board_at l)) oa.game two);
       }
 
-  -- the first desk hasn't penned the line's entry
+  -- the first desk refuses to pen the line's entry
   pub first_left : (a a1 b0 : Desk S B D g h b) (line : List ℕ) (e : Entry) (fault : MatchFault) → answer_to (innings_at a) (book_at a) line ≡ taking (innings_at a) (book_at a) e
       → PenLeaves e fault a a1 → DiskHolds b0 (book_at a) →
       LineLeaves (book_at a) (with_taken (answer_to (innings_at a) (book_at a) line) (book_at a)) fault a1 b0
@@ -221,7 +221,7 @@ module _ {S B D : Type 0} {g : Files S D} {h : Disks D} {b : Books B} where
   first_left a a1 b0 line e MatchFault.Device is p d = rw (is, p.0) (p.1, record { read = inl d.0; images = λ image i. inl (d.1 image i) })
   first_left a a1 b0 line e _ is p d = absurd p
 
-  -- the first desk has penned it, and the second hasn't
+  -- the first desk has penned the entry, and the second refuses it
   pub second_left : (a1 b0 b1 : Desk S B D g h b) (book longer : List Entry) (number : ℕ) (e : Entry) (fault : MatchFault) → longer ≡ book ++ e ∷ [] → book_at b0 ≡ book
       → taking (innings_at b0) (book_at b0) e ≡ Ok e →
       WhyNotAgreed (taking (innings_at b0) (book_at b0) e) (book_at b0) number fault → PenLeaves e fault b0 b1 → DiskHolds a1 (book ++ e ∷ []) → LineLeaves book longer fault a1 b1
@@ -229,7 +229,7 @@ module _ {S B D : Type 0} {g : Files S D} {h : Disks D} {b : Books B} where
   second_left a1 b0 b1 book longer number e MatchFault.Device is same taken w p d = rw is (either_more a1 book (book ++ e ∷ []) d, rw same at p.1)
   second_left a1 b0 b1 book longer number e _ is same taken w p d = absurd p
 
-  -- both have penned it, and it isn't agreed
+  -- both desks have penned the entry, and it isn't agreed
   pub third_left : (r : Result (Unit {0}) MatchFault) (a1 a2 b1 b2 : Desk S B D g h b) (book longer : List Entry) (place : ℕ)
       → IfErr r (λ fault. (fault ≡ MatchFault.Device) ⊎ (fault ≡ MatchFault.NotAgreed place)) →
       KeepsDisk a1 a2 → KeepsDisk b1 b2 → DiskHolds a1 longer → DiskHolds b1 longer → IfErr r (λ fault. LineLeaves book longer fault a2 b2)

@@ -1,4 +1,4 @@
--- The votes for a list of entries, one each.
+-- The votes for a list of entries, one for each.
 use Rattle.std.proofs.Common.{◌≡◌, ◌+◌, Some, List, [], ◌∷◌, ◌++◌, length, refl, arith, append-nil, append_assoc, length-append}
 use Rattle.std.specs.Prelude.{slice_get}
 use Rattle.std.proofs.lemmas.Bool.Decides.{nat_tests}
@@ -9,13 +9,13 @@ use Rattle.agree_core.specs.Ballots.{Ballot, In, ballot_at}
 use Rattle.agree_core.specs.Books.{voted_list}
 use Rattle.match_command.specs.MatchRun.{votes_for, with_votes_for}
 
--- these votes are for these entries, one each, in the first round of its place
+-- these votes are one for each of these entries, in the first round of its place
 pub record AreFor (es : List Entry) (votes : List Ballot) : Type 0 where
   pub long : length votes ≡ length es
   pub voted : voted_list votes ≡ es
   pub each : (b : Ballot) → In b votes → (b.at.round ≡ 0) × (slice_get es b.at.place ≡ Some b.entry)
 
--- a vote for the next place closes the last one
+-- a vote for the next place settles the one before
 closes : (es : List Entry) (e : Entry) (vs : List Ballot) → AreFor es vs → voted_list (ballot_at (length vs) 0 e ∷ vs) ≡ es ++ e ∷ []
 closes es e [] a = grind (arith, a.voted)
 closes es e (c ∷ vs) a = grind (arith, a.voted, nat_tests, a.each c, slice_get_within {A = Entry})

@@ -1,3 +1,3 @@
--- What serves private functions and proofs only.
+-- Specs for private functions and proofs only.
 pub mod Online
 pub mod Turns

@@ -1,5 +1,5 @@
 //! `ground match`: two desks and a board agree the lines of a book, over any two disks and any link that they share; and how
-//! that is started on this machine.
+//! the command starts on this machine.
 #![tactic(auto)]
 
 mod match_run;

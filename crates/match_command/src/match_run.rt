@@ -29,7 +29,7 @@ use std::alloc::Global;
 use streams::{LONGEST_INPUT, Sink, Watched};
 use turns::{Stations, new_stations};
 
-/// Has the stations take the lines of an input, one after the other.
+/// Has the stations agree the lines of an input, one after the other.
 fn take_lines<S: SlotsOf, L: SharedLink>(
     stations: &mut Stations<S>,
     input: &[u8],
@@ -62,7 +62,7 @@ fn take_lines<S: SlotsOf, L: SharedLink>(
     Ok(())
 }
 
-/// Whether a disk has no file. The answer is a fault where it has one, or where the disk fails.
+/// Refuses a disk that has a file. A disk that fails is a fault too.
 fn expect_empty<D: Disk>(disk: &mut D) -> Result<(), MatchFault>
     ensures empty { OnOk result (length (D.seen disk.old) ≡ 0) }
     ensures stays { Stays D.seen D.images disk.old disk.new }
@@ -78,7 +78,7 @@ fn expect_empty<D: Disk>(disk: &mut D) -> Result<(), MatchFault>
     }
 }
 
-/// Whether neither disk has a file.
+/// Refuses both disks if either has a file.
 fn expect_both_empty<D: Disk>(a: &mut D, b: &mut D) -> Result<(), MatchFault>
     ensures empty { OnOk result ((length (D.seen a.old) ≡ 0) × (length (D.seen b.old) ≡ 0)) }
     ensures stays_a { Stays D.seen D.images a.old a.new }
@@ -93,7 +93,7 @@ fn expect_both_empty<D: Disk>(a: &mut D, b: &mut D) -> Result<(), MatchFault>
     expect_empty(b)
 }
 
-/// Has the stations take the lines of an input, and prints the board's six lines.
+/// Has the stations agree the lines of an input, and prints the board's six lines.
 fn play<S: SlotsOf, L: SharedLink, W: Sink>(
     stations: &mut Stations<S>,
     sheet: &MatchSheet,
@@ -131,14 +131,13 @@ fn play<S: SlotsOf, L: SharedLink, W: Sink>(
     }
 }
 
-/// `ground match`: two desks with new files on these disks, and a board. Both desks pen each line, and the next
-/// follows when all three books have it; then the six lines of the board are written. The stations take turns,
-/// A, B and the board: in a turn a station sends what it says unasked to the other two, and takes up to eight
-/// datagrams, until none comes in time. A line that isn't taken ends the run, and so does a place that isn't
-/// agreed in fifty turns of each station. A disk that has a file is refused before either is written, so that both
-/// stay as they were. Both disks come back. At `Ok`, whatever the link loses, changes or makes up, they hold just the
-/// book of the lines, which a power loss doesn't take away; and where the link gives only what was sent, lost,
-/// repeated or in another order, the board's book is the same.
+/// `ground match`: two desks with new files on these disks, and a board. Both desks pen each line, and the next line follows
+/// when all three books have it; then the six lines of the board are written. The stations take turns, A, B and the board: in
+/// its turn a station sends its unasked messages to the other two, and takes up to eight datagrams, until none comes in time.
+/// The run ends at a line that is refused, and at a place that isn't agreed in fifty turns of each station. A disk that has a
+/// file is refused before either is written, so that both stay as they were. Both disks are handed back. At `Ok`, whatever the
+/// link loses, changes or makes up, both disks hold exactly the book of the lines, which a power loss doesn't take away; and if
+/// the link gives only datagrams that were sent, lost, repeated or in another order, the board has that book too.
 pub fn run_match<D: Disk + Drop, L: SharedLink, W: Sink>(
     alloc: Global,
     sheet: &MatchSheet,
@@ -158,10 +157,10 @@ pub fn run_match<D: Disk + Drop, L: SharedLink, W: Sink>(
     // What both disks hold after each fault.
     ensures left { IfErr (answer_of result) (λ fault. Leaves D.seen D.images sheet.now input.now fault a b
         (left_at_a result) (left_at_b result)) }
-    // Where a disk has a file, both stay as they were, and so the next run meets the same.
+    // If a disk has a file, both stay as they were, and so the next run meets the same fault.
     ensures kept { (0 < length (D.seen a)) ⊎ (0 < length (D.seen b)) →
         Stays D.seen D.images a (left_at_a result) × Stays D.seen D.images b (left_at_b result) }
-    // Where no fault is due at either disk, and both have room, none is met.
+    // If no fault is due at either disk, and both have room, no disk fault is met.
     ensures calm { IsQuiet D.faults D.cap a → IsQuiet D.faults D.cap b →
         answer_of result ≢ Err MatchFault.Device }
     ensures handed_on { OnOk result (IsHandedOn W.calls writer.new) }
@@ -212,8 +211,8 @@ fn play_match<'a>(
     }
 }
 
-/// Runs `match` over the lines of a book, with votes files in a folder. Where it ends before its first vote, no file
-/// stays that wasn't there before.
+/// Runs `match` over the lines of a book, with votes files in a folder. If it ends before its first vote, it leaves no file
+/// that wasn't there before.
 #[inline(never)]
 pub fn start_match<'a>(
     rt: &HostRuntime,

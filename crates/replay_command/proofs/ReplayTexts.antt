@@ -1,4 +1,4 @@
--- Texts that are numbered, one more of them; and a last call that writes nothing.
+-- Numbered texts with one more, and a last call that writes nothing.
 use Rattle.std.proofs.Common.{◌≡◌, ℕ, zero, suc, ◌+◌, ◌<◌, List, [], ◌∷◌, ◌++◌, length, take, map, slice_index_or, Option, Result, refl, ap, arith}
 use Rattle.std.proofs.Common.{append-nil, append_assoc, zero-add}
 use Rattle.std.specs.Prelude.{OnOk}

@@ -20,7 +20,7 @@ use Rattle.headline.proofs.Keeping.{begins_fine, run_keeps}
 use Rattle.schedule_replay.proofs.ReplayLemmas.{begins_at, refuses_at, steps_on}
 use Rattle.replay_command.specs.ReplayRun.{RefusesOne, TakesAll}
 
--- some run over the first events ends with what the code's world shows
+-- some run over the first events ends in the state that the code's world has
 pub record IsStepping (s : Sheet) (version : FileVersion) (boards : ℕ) (events : List Event) (number : ℕ) (world : World) (outcomes : List Seen) : Type 0 where
   pub w : Configuration MemDisk
   pub ms : MatchRun
@@ -31,7 +31,7 @@ pub starts : (s : Sheet) (version : FileVersion) (boards : ℕ) (events : List E
 starts s version boards events world outcomes h none =
     let b = begins_at world h in rw none (record { w = b.0; ms = []; at = b.1 })
 
--- what holds in every run holds in it
+-- what holds of every run holds of this run
 pub all_holds : {s : Sheet} {version : FileVersion} {boards : ℕ} {events : List Event} {outcomes : List Seen} {last : Configuration MemDisk}
     (takes : TakesAll s version boards events outcomes last) → HoldsInRun (match_of s.game s.innings) s.innings takes.w takes.ms
 all_holds {s = s} {version = version} {boards = boards} takes =

@@ -1,4 +1,4 @@
--- What `replay` prints: a line for what each event is answered, and then the agreed list's length and the stations.
+-- What `replay` prints: a line for the answer to each event, and then how many entries are agreed, and the stations.
 use Rattle.std.specs.Prelude.{ℕ, ◌+◌, ◌==◌, if◌then◌else◌, List, [], ◌∷◌, ◌++◌, codes, decimal, length, Option, Some, None}
 use Rattle.notation.specs.declared.entry.Entry.{Entry}
 use Rattle.ball_laws.specs.History.{History}
@@ -17,7 +17,7 @@ use Rattle.schedules.specs.ScheduleLines.{desk_word}
 use Rattle.schedule_replay.specs.SeenWords.{seen_words}
 use Rattle.headline.specs.Configurations.{Configuration, node}
 
--- a text of each of these, numbered from n
+-- the texts of these items, numbered from n
 abbrev pub numbered : {X : Type 0} → (ℕ → X → List ℕ) → ℕ → List X → List ℕ
 numbered text n [] = []
 numbered text n (x ∷ more) = text n x ++ numbered text (n + 1) more
@@ -26,7 +26,7 @@ numbered text n (x ∷ more) = text n x ++ numbered text (n + 1) more
 abbrev pub event_line : ℕ → Seen → List ℕ
 event_line n seen = decimal n ++ codes " " ++ seen_words seen ++ codes "\n"
 
--- the lines of events that were answered so
+-- the lines of events with these answers
 abbrev pub event_lines : List Seen → List ℕ
 event_lines outcomes = numbered event_line 1 outcomes
 
@@ -38,18 +38,18 @@ refusal_line n number = decimal n ++ codes " world refused " ++ decimal number +
 abbrev pub agreed_line : ℕ → List ℕ
 agreed_line entries = codes "agreed " ++ decimal entries ++ codes "\n"
 
--- the score of the innings begun last
+-- the score of the innings that began last
 abbrev pub score_words : History → List ℕ
 score_words h =
     if begun h == 0
     then codes "no play"
     else decimal (total h (current h)) ++ codes " for " ++ decimal (wickets h (current h))
 
--- what stands behind a station's name: how many entries its book has, and the score
+-- the text after a station's name: how many entries its book has, and the score
 abbrev pub book_words : ℕ → History → List ℕ
 book_words entries h = codes " " ++ decimal entries ++ codes " " ++ score_words h ++ codes "\n"
 
--- the line of a station that has this book
+-- the line of a station with this book
 abbrev pub book_line : List ℕ → List Entry → List ℕ
 book_line name book = name ++ book_words (length book) (history_of book)
 
@@ -68,6 +68,6 @@ line_of_desk w d = desk_line (desk_word d) (running_of (node w d).process)
 abbrev pub station_lines : Configuration MemDisk → List ℕ
 station_lines w = line_of_desk w A ++ line_of_desk w B ++ numbered board_line 1 w.boards
 
--- what is printed behind the events' lines
+-- the lines after those of the events
 abbrev pub last_lines : ℕ → Configuration MemDisk → List ℕ
 last_lines entries w = agreed_line entries ++ station_lines w

@@ -1,5 +1,5 @@
--- What is written of a schedule: the run of a world over its events, or over those before the first that the world
--- doesn't take. The match and its innings are those of the sheet.
+-- What is printed of a schedule: the run of a world over its events, or over those before the first that the world refuses. The
+-- match and its innings are those of the sheet.
 use Rattle.std.specs.Prelude.{◌≡◌, ◌+◌, ℕ, ⊤, Bool, true, false, Some, List, ◌++◌, length, slice_get, take, Option}
 use Rattle.entry_log.specs.declared.mem_disk.MemDisk.{MemDisk}
 use Rattle.cards.specs.Sheet.{Sheet}
@@ -27,7 +27,7 @@ use Rattle.replay_command.specs.declared.replay.step.Stepped.{Stepped}
 use Rattle.replay_command.specs.declared.replay.step.Stepped.TheVariants.{Whole, Refused}
 use Rattle.replay_command.specs.Replay.{event_lines, last_lines, refusal_line}
 
--- a world takes all the events, answers them so, and is this one then
+-- a world takes all events with these answers, and is last in the end
 pub record TakesAll
     (s : Sheet) (version : FileVersion) (boards : ℕ) (events : List Event) (outcomes : List Seen)
     (last : Configuration MemDisk) : Type 0 where
@@ -36,7 +36,7 @@ pub record TakesAll
   pub run : IsRunOf s.game s.innings version boards events outcomes w ms
   pub ends : last ≡ last_of w ms
 
--- it answers the first events so, and doesn't take event k, counted from 1, for the reason of this number
+-- a world takes the first events with these answers, and refuses event k, counted from 1, with this number
 pub record RefusesOne
     (s : Sheet) (version : FileVersion) (boards : ℕ) (events : List Event) (outcomes : List Seen)
     (k number : ℕ) : Type 0 where
@@ -53,8 +53,8 @@ pub record RefusesOne
   pub numbered : refusal_number why ≡ Some number
 
 module _ {S : Type 0} (contents : S → Option (List ℕ)) (old new : Watched S) (s : Sheet) (version : FileVersion) (boards : ℕ) (events : List Event) where
-  -- of one run, in which holds what does in every run: what each event is answered, how many entries are agreed at its end, and
-  -- the stations then are written
+  -- A whole run, of which holds what holds of every run, is printed: the answer to each event, how many entries are agreed at
+  -- its end, and the stations then.
   pub record PrintsWhole : Type 0 where
     pub outcomes : List Seen
     pub last : Configuration MemDisk
@@ -64,7 +64,7 @@ module _ {S : Type 0} (contents : S → Option (List ℕ)) (old new : Watched S)
     pub is_agreed : IsAgreedList (all_votes last) agreed
     pub written : Prints contents old new (event_lines outcomes ++ last_lines (length agreed) last)
 
-  -- what the events before the refused one are answered, and the refusal are written
+  -- the answers to the events before the refused one are printed, and the refusal
   pub record PrintsRefused : Type 0 where
     pub outcomes : List Seen
     pub k : ℕ
@@ -72,31 +72,31 @@ module _ {S : Type 0} (contents : S → Option (List ℕ)) (old new : Watched S)
     pub refuses : RefusesOne s version boards events outcomes k number
     pub written : Prints contents old new (event_lines outcomes ++ refusal_line k number)
 
-  -- by whether the world refuses an event
+  -- what is printed, by whether the world refuses an event
   abbrev pub PrintsRun : Bool → Type 0
   PrintsRun false = PrintsWhole
   PrintsRun true = PrintsRefused
 
--- the input's lines are those of events, of which this is written
+-- the input's lines are those of a schedule, whose run is printed
 abbrev pub PrintsReplay :
     {S : Type 0} → (S → Option (List ℕ)) → Watched S → Watched S → Sheet → FileVersion → ℕ → List ℕ → Bool → Type 0
 PrintsReplay contents old new s version boards input refused =
     (events : List Event) × IsScheduleOf (lines_of input) events
     × PrintsRun contents old new s version boards events refused
 
--- out of memory, a read or a write failed, or an input is no schedule
+-- no memory, a failed read or write, or an input that is no schedule
 abbrev pub IsOfReplay : StopFault → Type 0
 IsOfReplay (Schedule why) = ⊤
 IsOfReplay fault = IsOfStreams fault
 
--- the same, and the input is none for this reason
+-- why there is no replay: the input has this fault, or memory or a stream failed
 abbrev pub WhyNoReplay : List ℕ → StopFault → Type 0
 WhyNoReplay input (Schedule why) = HasFault (lines_of input) why
 WhyNoReplay input fault = IsOfStreams fault
 
 -- ---- for private functions
 
--- what came of the events
+-- how the events ran
 abbrev pub IsStepped : Sheet → FileVersion → ℕ → List Event → Stepped → Type 0
 IsStepped s version boards events (Whole outcomes world) =
     (last : Configuration MemDisk) × TakesAll s version boards events outcomes.items last × HasConfiguration world last

@@ -1,5 +1,4 @@
-//! The command `replay`: a schedule is played, over any reader and writer; and how it is started on
-//! this machine.
+//! The command `replay`: plays a schedule over any reader and writer; and how the command starts on this machine.
 #![tactic(auto)]
 
 mod replay;

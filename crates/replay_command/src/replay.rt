@@ -1,4 +1,4 @@
-//! `ground replay`: a schedule's events in, what each is answered and what the stations show out.
+//! `ground replay`: reads a schedule's events, and prints the answer to each and what the stations show.
 
 ghost use Rattle.std.specs.Prelude.{◌≡◌, ◌≢◌, ◌≤◌, ◌⊎◌, All, Err, IfErr, IfOk, IfSome, OnOk};
 ghost use Rattle.streams.specs.Watched.{IsHandedOn, MeetsFailure, failures, stream_of};
@@ -18,7 +18,7 @@ use std::alloc::Global;
 use step::{Stepped, step_all};
 use streams::{Feed, Sink, Watched, read_all};
 
-/// Runs these events in a world, and prints what came of them. The answer is whether the world refused one.
+/// Runs these events in a world, and prints how they ran. Returns whether the world refused one.
 fn print_run<W: Sink>(
     alloc: Global,
     sheet: &MatchSheet,
@@ -54,10 +54,10 @@ fn print_run<W: Sink>(
     }
 }
 
-/// `ground replay`: reads a schedule to the end and runs it in a world of the sheet's match, with desks on files
-/// of this version and so many boards. It writes what each event is answered, how many entries are agreed, and
-/// what each station shows; or, where the world refuses an event, what those before it are answered, and the
-/// refusal. The answer is whether the world refused one. A schedule that isn't understood is `Schedule`.
+/// `ground replay`: reads a schedule to its end and runs it in a world of the sheet's match, with desks on files of this
+/// version and this many boards. Prints the answer to each event, how many entries are agreed, and what each station shows; or,
+/// if the world refuses an event, the answers to those before it, and the refusal. Returns whether the world refused one. A
+/// schedule with a fault is refused with `Schedule`.
 pub fn replay_run<R: Feed, W: Sink>(
     alloc: Global,
     sheet: &MatchSheet,
@@ -80,7 +80,7 @@ pub fn replay_run<R: Feed, W: Sink>(
     print_run(alloc, sheet, version, boards, events.as_slice(), writer)
 }
 
-/// Runs `replay` over a schedule.
+/// Runs `replay` over a schedule in a file.
 #[inline(never)]
 pub fn start_replay<'a>(
     rt: &HostRuntime,

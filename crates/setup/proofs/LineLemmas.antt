@@ -1,4 +1,4 @@
--- Lines that are written with the words that something is told by.
+-- Lines that name what they tell of.
 use Rattle.std.proofs.Common.{ℕ, List, ◌≡◌, ◌++◌, Option, Result, append_assoc}
 use Rattle.std.specs.Prelude.{OnOk}
 use Rattle.std.specs.Io.KnownBytes.{Appends}

@@ -1,12 +1,12 @@
--- What a station's link says and hears, and what its socket carries.
+-- What a station's link passes, and what its socket carries.
 use Rattle.std.specs.Prelude.{ℕ, List}
 use Rattle.links.specs.Passed.{Passed}
 use Rattle.links.specs.Windows.{IsFaithful}
 use Rattle.seal.specs.Opening.{opening}
 use Rattle.seal.specs.declared.ring.Ring.{Ring}
 
--- What a station said and heard went through a window over sealed datagrams, and these are what was carried: nothing but asks
--- was sent that it hadn't said, and nothing but asks was heard that hadn't come sealed.
+-- What a station said and heard passed through a window over sealed datagrams, which were carried: nothing but asks was sent
+-- that it hadn't said, and nothing but asks was heard that hadn't come sealed.
 pub record WasCarried (passed carried : List Passed) : Type 0 where
   pub game : ℕ
   pub ring : Ring

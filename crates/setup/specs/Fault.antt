@@ -22,40 +22,40 @@ use Rattle.setup.specs.declared.key_owner.KeyOwner.{KeyOwner}
 use Rattle.setup.specs.declared.fault.{StopFault.StopFault, TheConstants.TURNS}
 use Rattle.setup.specs.declared.fault.StopFault.TheVariants.{NoMemory, Read, Write, Sheet, SheetTold, Schedule, Votes, VotesNamed, BadVotes, NotOneHistory, FilesDiffer, Line, NotAgreed, Listen, Disk, FileMoved, File, PairKeys, Lost, CopyLost, Key}
 
--- an input isn't read to its end
+-- an input can't be read to its end
 abbrev pub of_input : InputFault → StopFault
 of_input InputFault.NoMemory = NoMemory
 of_input InputFault.Read = Read
 
--- a sheet is refused: being out of memory is its own
+-- a sheet is refused; no memory is a fault of its own
 abbrev pub of_sheet : SheetFault → StopFault
 of_sheet SheetFault.NoMemory = NoMemory
 of_sheet why = Sheet why
 
--- a schedule is refused: being out of memory is its own
+-- a schedule is refused; no memory is a fault of its own
 abbrev pub of_schedule : ScheduleFault → StopFault
 of_schedule ScheduleFault.NoMemory = NoMemory
 of_schedule why = Schedule why
 
--- out of memory, or a read or a write failed
+-- no memory, or a failed read or write
 abbrev pub IsOfStreams : StopFault → Type 0
 IsOfStreams NoMemory = ⊤
 IsOfStreams Read = ⊤
 IsOfStreams Write = ⊤
 IsOfStreams fault = ⊥
 
--- a votes file is refused: being out of memory is its own, and so is a failing disk, which is told as a failed write
+-- a votes file is refused; no memory is a fault of its own, and a failing disk is a failed write
 abbrev pub of_votes : Refusal → StopFault
 of_votes Refusal.NoMemory = NoMemory
 of_votes (Refusal.File files.Device) = Write
 of_votes why = Votes why
 
--- no desk is made on a votes file
+-- a desk can't be made from a votes file
 abbrev pub of_opening : OpenRefusal → StopFault
 of_opening (OpenRefusal.Votes why) = of_votes why
 of_opening (OpenRefusal.BadVotes place) = BadVotes place
 
--- an input has no book
+-- an input holds no book
 abbrev pub of_book : BookFault → StopFault
 of_book BookFault.NoMemory = NoMemory
 of_book (BookFault.Votes why) = Votes why
@@ -84,11 +84,11 @@ is_refusal (FilesDiffer place) = true
 is_refusal (Line number why) = true
 is_refusal fault = false
 
--- the line of a refusal: of what it is, its number and its name
+-- the line of a refusal: what is refused, its number and its name
 abbrev pub refusal_line : List ℕ → ℕ → List ℕ → List ℕ
 refusal_line what n called = what ++ codes ": " ++ decimal n ++ codes " " ++ called ++ codes "\n"
 
--- being out of memory has no number
+-- no memory has no number
 abbrev pub numbered_line : List ℕ → Option ℕ → List ℕ → List ℕ
 numbered_line what (Some n) called = refusal_line what n called
 numbered_line what None called = codes "no memory\n"
@@ -99,32 +99,32 @@ sheet_line why = numbered_line (codes "sheet") (sheet.number_of why) (sheet.name
 abbrev pub schedule_line : ScheduleFault → List ℕ
 schedule_line why = numbered_line (codes "schedule") (schedule.number_of why) (schedule.name_of why)
 
--- a disk that fails is told as an output that does
+-- a failing disk has the line of a failed write
 abbrev pub votes_line : Refusal → List ℕ
 votes_line (Refusal.File files.Device) = codes "cannot write\n"
 votes_line why = numbered_line (codes "votes") (number why) (name why)
 
--- the same of one of two files, which is named
+-- the line of one of two votes files, which it names
 abbrev pub named_votes_line : List ℕ → Refusal → List ℕ
 named_votes_line path (Refusal.File files.Device) = codes "cannot write\n"
 named_votes_line path why = numbered_line (codes "votes " ++ path) (number why) (name why)
 
--- the line of a place that so many turns of each station didn't agree
+-- the line of a place that wasn't agreed in this many turns of each station
 abbrev pub turns_line : ℕ → ℕ → List ℕ
 turns_line place turns = codes "place " ++ decimal place ++ codes " not agreed in " ++ decimal turns ++ codes " turns\n"
 
--- the line of a file that can't be written: which one it is, and why
+-- the line of a file that can't be written: which file, and why
 abbrev pub file_line : List ℕ → WriteFault → List ℕ
 file_line path fault =
     codes "cannot write: " ++ path ++ ending_of fault.name ++ codes ": " ++ words_of fault.why ++ codes "\n"
 
--- the same line of a desk that ran, and what its scorer is to do
+-- the lines of a running desk's file that can't be written: which file, why, and what its scorer is to do
 abbrev pub loss_lines : List ℕ → WriteFault → List ℕ
 loss_lines path fault =
     codes "cannot write: " ++ path ++ ending_of fault.name ++ codes ": " ++ words_of fault.why
     ++ codes "\nstart the same command again\n"
 
--- and of its copy, and how it goes on without that
+-- the lines of its copy that can't be written: which file, why, and how to go on without it
 abbrev pub copy_loss_lines : List ℕ → WriteFault → List ℕ
 copy_loss_lines path fault =
     codes "cannot write: " ++ path ++ ending_of fault.name ++ codes ": " ++ words_of fault.why
@@ -174,24 +174,24 @@ fault_line path (Lost why) = loss_lines path why
 fault_line path (CopyLost why) = copy_loss_lines path why
 fault_line path (Key why) = no_key_line path why
 
--- a desk that ran has lost its file, or can't write it, as this tells
+-- the fault of a running desk that has lost its file, or can't write it
 abbrev pub lost_for : WriteFault → Cause → StopFault
 lost_for fault causes.Lost = FileMoved
 lost_for fault why = Lost fault
 
--- the fault of a run whose file can't be written, and why, where that is known
+-- the fault of a run that can't write its file, with the cause if that is known
 abbrev pub with_cause : StopFault → Option WriteFault → StopFault
 with_cause Write (Some why) = File why
 with_cause Disk (Some why) = lost_for why why.why
 with_cause fault why = fault
 
--- the same, where its copy can't be written
+-- the fault of a run that can't write its file's copy, with the cause if that is known
 abbrev pub with_copys_cause : StopFault → Option WriteFault → StopFault
 with_copys_cause Write (Some why) = File why
 with_copys_cause Disk (Some why) = CopyLost why
 with_copys_cause fault why = fault
 
--- a votes file that is one of two, and is named
+-- the fault with a refused votes file named, if it is one of two
 abbrev pub named : StopFault → StopFault
 named (Votes why) = VotesNamed why
 named fault = fault

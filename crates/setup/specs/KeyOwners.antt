@@ -1,10 +1,10 @@
--- Whose a file of keys for each pair is.
+-- The owner of a file of keys for each pair.
 use Rattle.std.specs.Prelude.{ℕ, Bool, true, false, List, codes}
 use Rattle.agree_core.specs.declared.messages.Asker.{Asker}
 use Rattle.setup.specs.declared.key_owner.KeyOwner.{KeyOwner}
 use Rattle.setup.specs.declared.key_owner.KeyOwner.TheVariants.{DeskA, DeskB, Board1, Board2, Board3, Board4}
 
--- the first line of its file
+-- the first line of the owner's file
 abbrev pub owner_line : KeyOwner → List ℕ
 owner_line DeskA = codes "yermudosh key of desk a\n"
 owner_line DeskB = codes "yermudosh key of desk b\n"
@@ -13,7 +13,7 @@ owner_line Board2 = codes "yermudosh key of board2\n"
 owner_line Board3 = codes "yermudosh key of board3\n"
 owner_line Board4 = codes "yermudosh key of board4\n"
 
--- what stands behind a folder's name, of its file there
+-- the name of the owner's file, after its folder's name
 abbrev pub file_name : KeyOwner → List ℕ
 file_name DeskA = codes "/a.key"
 file_name DeskB = codes "/b.key"
@@ -22,7 +22,7 @@ file_name Board2 = codes "/board2.key"
 file_name Board3 = codes "/board3.key"
 file_name Board4 = codes "/board4.key"
 
--- which station it is for
+-- the owner's station
 abbrev pub owner_station : KeyOwner → Asker
 owner_station DeskA = Asker.A
 owner_station DeskB = Asker.B

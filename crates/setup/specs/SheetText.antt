@@ -1,4 +1,4 @@
--- What a file tells of a match sheet.
+-- The match sheet that a file has.
 use Rattle.std.specs.Prelude.{◌≢◌, ℕ, List, ⊤, Result, Ok, Err}
 use Rattle.cards.specs.Sheet as sheets
 use Rattle.cards.specs.Reading.{IsReading}
@@ -6,7 +6,7 @@ use Rattle.cards.specs.declared.fault.SheetFault.{SheetFault}
 use Rattle.setup.specs.declared.fault.StopFault.{StopFault}
 use Rattle.setup.specs.declared.fault.StopFault.TheVariants.{NoMemory, Read, Sheet}
 
--- the sheet, or the sheet's fault, is what the bytes of the file are read as
+-- the sheet, or its fault, is what the bytes of the file are read as
 abbrev pub Tells : List ℕ → Result sheets.Sheet StopFault → Type 0
 Tells bytes (Ok sheet) = IsReading bytes (Ok sheet)
 Tells bytes (Err (Sheet why)) = IsReading bytes (Err why)
@@ -16,7 +16,7 @@ Tells bytes (Err fault) = ⊤
 pub record IsSheetOf (bytes : List ℕ) (sheet : sheets.Sheet) : Type 0 where
   pub is : IsReading bytes (Ok sheet)
 
--- out of memory, a read failed, or a sheet is refused, and then not for being out of memory
+-- the fault is no memory, a failed read, or a refused sheet (which is never refused for lack of memory)
 abbrev pub IsSheetFault : StopFault → Type 0
 IsSheetFault NoMemory = ⊤
 IsSheetFault Read = ⊤

@@ -1,4 +1,4 @@
-//! A desk's votes in two files, which begin as one and are written as one.
+//! A desk's votes in two files, which begin alike and are written together.
 
 ghost use Rattle.std.specs.Prelude.{◌≡◌, IfOk};
 ghost use Rattle.machine_files.specs.Pairs.{file_of, first_of, second_of};
@@ -11,10 +11,10 @@ use crate::votes_file::renewed_disk;
 use machine_files::{LastFault, NamedFile, Pair};
 use std::io::{self, Write};
 
-/// A disk on two files that votes are written to.
+/// A disk on a votes file and its copy.
 pub type CopiedDisk<'a> = Pair<NamedFile<'a>, NamedFile<'a>>;
 
-/// A desk's votes file or its copy: its path, the file, its bytes, and where it leaves why a call failed.
+/// A desk's votes file or its copy: its path, the file, its bytes, and where the cause of a failed call is left.
 #[derive(Drop)]
 pub struct Kept<'r, 'a> {
     pub path: &'a str,
@@ -23,14 +23,14 @@ pub struct Kept<'r, 'a> {
     pub last: &'r LastFault,
 }
 
-/// Writes a number of votes.
+/// Tells by how many votes a file was behind.
 fn tell_votes<W: Write>(errors: &mut W, what: &str, lacking: usize) -> io::Result<()> {
     let ending = if lacking == 1 { "" } else { "s" };
     writeln!(errors, "{what} was behind by {lacking} vote{ending}")
 }
 
-/// Tells of two files what their scorer doesn't expect: that one lacks votes, or is made from the other; that neither has
-/// all that the other has; and that one disk has both.
+/// Tells a scorer what is unexpected about the votes file and its copy: that both are on one disk; and that one lacks votes, or
+/// is made from the other, or that each lacks votes of the other.
 pub fn tell_copies<W: Write>(
     errors: &mut W,
     first: &Kept<'_, '_>,
@@ -60,7 +60,7 @@ pub fn tell_copies<W: Write>(
     }
 }
 
-/// Why the copy of a file that counts can't be written: a desk can go on without it.
+/// Turns a fault of writing the copy of a file that counts into `CopyLost`: a desk can go on without the copy.
 fn of_copy(stopped: Stopped<'_>) -> Stopped<'_> {
     match stopped.fault {
         StopFault::File(why) => Stopped::at(stopped.path, StopFault::CopyLost(why)),
@@ -68,8 +68,8 @@ fn of_copy(stopped: Stopped<'_>) -> Stopped<'_> {
     }
 }
 
-/// A disk on both files, which are written anew with the bytes that count, the one that has them first. Where neither file
-/// counts, both stay as they were.
+/// Returns a disk on both files, which are written anew with the bytes that count, the file that has them first. If neither
+/// counts, both stay as they were and the run is refused.
 pub fn paired_disk<'r, 'a>(
     rt: &HostRuntime,
     first: Kept<'r, 'a>,

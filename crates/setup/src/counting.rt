@@ -1,26 +1,26 @@
-//! Two files of one desk's votes: which of them counts.
+//! Which of two files of one desk's votes counts.
 
 ghost use Rattle.std.specs.Prelude.{◌≡◌, ◌*◌, ◌+◌, ◌<◌, ◌≤◌, IsTrue, drop, false, length, take};
 ghost use Rattle.setup.specs.Counting.{BeginAlike, Compares, Counts, HasBlocks};
 
-/// How many bytes the header has, and each slot.
+/// The bytes of the header, and of each slot.
 const BLOCK: usize = 64;
 
-/// What a slot begins with that counts.
+/// The first byte of a slot that counts.
 pub const OPEN_GATE: u8 = 0xa5;
 
 /// Which of two files counts.
 #[derive(Clone, Copy)]
 pub enum Counting {
-    /// The first: it has all blocks of the second, and as many more as that lacks.
+    /// The first: it has all blocks of the second, and `lacking` more.
     First { lacking: usize },
-    /// The second: it has all blocks of the first, and as many more as that lacks, one at least.
+    /// The second: it has all blocks of the first, and `lacking` more, at least one.
     Second { lacking: usize },
-    /// Neither: behind so many blocks they differ.
+    /// Neither: they differ in the block after this many blocks that are alike.
     Neither { same: usize },
 }
 
-/// How many blocks count: the header, and the slots behind it up to the first whose gate isn't open.
+/// Counts the blocks that count: the header, and the slots after it up to the first whose gate isn't open.
 fn blocks_of(bytes: &[u8]) -> usize
     ensures { HasBlocks bytes.now result }
 {
@@ -33,7 +33,7 @@ fn blocks_of(bytes: &[u8]) -> usize
     most
 }
 
-/// A block of a file.
+/// Returns a block of a file.
 fn block(bytes: &[u8], number: usize) -> &[u8]
     requires { 64 * number + 64 ≤ length bytes.now }
     ensures { result.now ≡ take 64 (drop (64 * number) bytes.now) }
@@ -42,7 +42,7 @@ fn block(bytes: &[u8], number: usize) -> &[u8]
     &bytes[at..at + BLOCK]
 }
 
-/// Whether both are the same.
+/// Whether both have the same bytes.
 pub fn are_same(one: &[u8], other: &[u8]) -> bool
     ensures same { IsTrue result → one.now ≡ other.now }
     ensures differ { result ≡ false → one.now ≡ other.now → ⊥ }
@@ -50,7 +50,7 @@ pub fn are_same(one: &[u8], other: &[u8]) -> bool
     one == other
 }
 
-/// How many of the first blocks, `most` at most, are the same.
+/// Counts the first blocks that are alike, at most `most`.
 fn same_blocks(first: &[u8], second: &[u8], most: usize) -> usize
     requires first { 64 * most ≤ length first.now }
     requires second { 64 * most ≤ length second.now }
@@ -66,7 +66,7 @@ fn same_blocks(first: &[u8], second: &[u8], most: usize) -> usize
     most
 }
 
-/// Which of two files counts, by their blocks.
+/// Returns which of two files with `m` and `n` blocks counts.
 fn which_counts(first: &[u8], second: &[u8], m: usize, n: usize) -> Counting
     requires first { 64 * m ≤ length first.now }
     requires second { 64 * n ≤ length second.now }
@@ -83,14 +83,14 @@ fn which_counts(first: &[u8], second: &[u8], m: usize, n: usize) -> Counting
     }
 }
 
-/// Which of two files counts.
+/// Returns which of two files counts.
 pub fn compared(first: &[u8], second: &[u8]) -> Counting
     ensures { Compares result first.now second.now }
 {
     which_counts(first, second, blocks_of(first), blocks_of(second))
 }
 
-/// The place of a slot's vote: 0 where there is no such slot.
+/// Returns the place of a slot's vote, and 0 if there is no such slot.
 fn place_at(bytes: &[u8], slot: usize) -> u32 {
     let at = slot.saturating_mul(BLOCK);
     match bytes.get(at..at.saturating_add(BLOCK)) {
@@ -99,7 +99,7 @@ fn place_at(bytes: &[u8], slot: usize) -> u32 {
     }
 }
 
-/// The place at which two files differ behind so many blocks: the lower one, where one of them has a further round there.
+/// Returns the place at which two files differ after `same` blocks: the lower of both, if one file has a further round there.
 pub fn place_of_difference(first: &[u8], second: &[u8], same: usize) -> u32 {
     if same == 0 {
         return 0;

@@ -1,4 +1,4 @@
-//! Why a command ends before its end: what standard error is told of it, and whether something is refused.
+//! Why a command ends early: what standard error is told, and whether something is refused.
 
 ghost use Rattle.std.specs.Prelude.{◌≡◌, ◌⊎◌, codes, OnOk};
 ghost use Rattle.streams.specs.Watched.{Prints, TellsFailure};
@@ -14,54 +14,54 @@ use schedules::ScheduleFault;
 use std::alloc::AllocError;
 use streams::{InputFault, Sink, Watched, WriteFailed};
 
-/// How many turns each station of a match has for a place at most.
+/// The most turns that each station of a match has for a place.
 pub const TURNS: usize = 50;
 
-/// Why a command ends before its end, whichever it is: what standard error is told, and the status, go by it. A command that
-/// has to tell apart more has a fault of its own.
+/// Why any command ends early: it decides what standard error is told, and the exit status. A command that has to tell more
+/// faults apart has a fault type of its own.
 #[derive(Clone, Copy)]
 pub enum StopFault {
     /// Memory was refused.
     NoMemory,
     /// A read failed or was interrupted, or the input is longer than 16,777,216 bytes.
     Read,
-    /// A write failed, or the disk of a votes file.
+    /// A write failed, to a stream or to the disk of a votes file.
     Write,
     /// The sheet is refused.
     Sheet(SheetFault),
-    /// The sheet is refused, and standard error was told of it in words.
+    /// The sheet is refused, and standard error has been told why in words.
     SheetTold,
     /// The schedule is refused.
     Schedule(ScheduleFault),
     /// A votes file is refused.
     Votes(vote_store::Refusal),
-    /// One of two votes files is refused, and named.
+    /// One of two votes files is refused, and the line names it.
     VotesNamed(vote_store::Refusal),
-    /// The votes of a file are no legal book: this is the first place whose last vote is refused.
+    /// The votes of a file are no legal book: the first place whose last vote is refused.
     BadVotes { place: u32 },
-    /// The votes of both desks' files aren't of one history: this is the first place at which they can't be.
+    /// The votes of both desks' files aren't of one history: the first place at which they can't be.
     NotOneHistory { place: u32 },
-    /// A desk's votes file and its copy: this is the first place at which they differ.
+    /// A desk's votes file and its copy differ: the first place at which they do.
     FilesDiffer { place: u32 },
-    /// A pen line isn't taken. Lines are numbered from 1.
+    /// A pen line is refused. Lines are numbered from 1.
     Line { number: u64, why: Rejected },
-    /// The stations didn't agree this place in `TURNS` turns each.
+    /// The stations didn't agree this place within `TURNS` turns each.
     NotAgreed { place: u32 },
-    /// No socket can be had at an address.
+    /// No socket can be opened at an address.
     Listen,
-    /// The disk of a desk that runs failed.
+    /// The disk of a running desk failed.
     Disk,
-    /// The file of a desk that runs was moved, deleted or replaced.
+    /// The file of a running desk was moved, deleted or replaced.
     FileMoved,
     /// A file of a desk, a board or a new key can't be written.
     File(WriteFault),
-    /// The file of a station's new keys in a folder can't be written.
+    /// The file of a station's new keys can't be written in a folder.
     PairKeys(KeyOwner, Cause),
-    /// The file of a desk that runs can't be written.
+    /// The file of a running desk can't be written.
     Lost(WriteFault),
-    /// The copy of a desk that runs can't be written.
+    /// The copy of a running desk can't be written.
     CopyLost(WriteFault),
-    /// There is no key in a file.
+    /// A file has no key.
     Key(KeyFault),
 }
 
@@ -194,7 +194,7 @@ impl From<BookFault> for StopFault {
     }
 }
 
-/// Why a command ended, and the file or address that was at work, `-` where it was a standard stream.
+/// Why a command ended, and its file or address: `-` for a standard stream.
 #[derive(Clone, Copy)]
 pub struct Stopped<'a> {
     pub path: &'a str,
@@ -209,7 +209,7 @@ impl<'a> Stopped<'a> {
         Stopped { path, fault }
     }
 
-    /// The same, where its votes file is one of two, and is named.
+    /// Returns the fault with a refused votes file named, for a command that has two of them.
     pub fn named(self) -> Stopped<'a>
         ensures { result ≡ record self.entry { fault = texts.named self.entry.fault } }
     {
@@ -287,7 +287,7 @@ fn print_not_agreed<W: Sink>(
     writeln!(out, "place {place} not agreed in {turns} turns")
 }
 
-/// Which file can't be written, and why.
+/// Prints which file can't be written, and why.
 fn print_file_fault<W: Sink>(
     out: &mut Watched<W>,
     path: &str,
@@ -300,7 +300,7 @@ fn print_file_fault<W: Sink>(
     writeln!(out, "cannot write: {path}{ending}: {words}")
 }
 
-/// Which file of a station's new keys in a folder can't be written, and why.
+/// Prints which file of a station's new keys can't be written in a folder, and why.
 fn print_pair_fault<W: Sink>(
     out: &mut Watched<W>,
     path: &str,
@@ -314,7 +314,7 @@ fn print_pair_fault<W: Sink>(
     writeln!(out, "cannot write: {path}{name}: {words}")
 }
 
-/// The same of a desk that ran, and what its scorer is to do.
+/// Prints which file of a desk that ran can't be written and why, and what its scorer is to do.
 fn print_loss<W: Sink>(
     out: &mut Watched<W>,
     path: &str,
@@ -330,7 +330,7 @@ fn print_loss<W: Sink>(
     )
 }
 
-/// The same of its copy, and how it goes on without that.
+/// Prints which file of the copy can't be written and why, and how the scorer goes on without the copy.
 fn print_copy_loss<W: Sink>(
     out: &mut Watched<W>,
     path: &str,
@@ -346,7 +346,7 @@ fn print_copy_loss<W: Sink>(
     )
 }
 
-/// Which file has no key, and why.
+/// Prints which file has no key, and why.
 fn print_no_key<W: Sink>(out: &mut Watched<W>, path: &str, why: KeyFault) -> Result<(), WriteFailed>
     ensures text { OnOk result (Prints W.contents out.old out.new (texts.no_key_line path.now why)) }
     ensures failed { TellsFailure result out.old out.new }
@@ -355,8 +355,7 @@ fn print_no_key<W: Sink>(out: &mut Watched<W>, path: &str, why: KeyFault) -> Res
     writeln!(out, "cannot read {path}: {words}")
 }
 
-/// Prints what standard error has of a fault. `path` is the file or the address that was at work, `-` for a standard
-/// stream.
+/// Prints the lines that standard error has of a fault. `path` is the fault's file or address, `-` for a standard stream.
 pub fn print_fault<W: Sink>(
     out: &mut Watched<W>,
     path: &str,
@@ -395,7 +394,7 @@ pub fn print_fault<W: Sink>(
     }
 }
 
-/// A path as it is printed: one with a control character, which a terminal would obey, is a question mark.
+/// Returns a path as it is printed: a question mark if it has a control character, which a terminal would obey.
 pub fn printable(path: &str) -> &str
     ensures { (result.now ≡ path.now) ⊎ (result.now ≡ codes "?") }
 {

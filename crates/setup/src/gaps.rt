@@ -4,10 +4,10 @@ use crate::fault::{StopFault, Stopped};
 use std::fs::{File, OpenOptions};
 use std::os::fd::AsFd;
 
-/// What keeps its place where no stream is.
+/// The file that is opened in place of a closed stream.
 const NULL: &str = "/dev/null";
 
-/// What stands in the places of the standard streams that were closed.
+/// The files in place of the standard streams that were closed.
 #[derive(Drop)]
 pub struct Gaps {
     files: [Option<File>; 3],
@@ -21,8 +21,8 @@ fn is_closed(stream: &impl AsFd) -> bool {
     }
 }
 
-/// Opens a file in the place of a stream, if that is closed. The system gives the lowest number that is free: so the
-/// streams before it are to be seen to first.
+/// Opens a file in place of a stream, if that is closed. The system gives the lowest free number, so the streams with lower
+/// numbers have to be filled first.
 fn fill(
     rt: &HostRuntime,
     stream: &impl AsFd,
@@ -37,9 +37,9 @@ fn fill(
     }
 }
 
-/// Fills the places of standard streams that are closed, so that no file or socket that is opened later gets one of
-/// them. Input gets a file that can't be read, and the others one that can't be written: a read or a write of the stream
-/// fails as it would without. To be called before anything is opened, and kept to the end.
+/// Opens files in place of closed standard streams, so that no file or socket that is opened later gets their numbers. Input
+/// gets a file that can't be read, the others one that can't be written: a read or write of the stream fails as it would
+/// without. Call this before anything is opened, and keep the result to the end.
 pub fn fill_gaps(rt: &HostRuntime) -> Result<Gaps, Stopped<'static>> {
     let mut unreadable = OpenOptions::new();
     unreadable.write(true);

@@ -1,35 +1,35 @@
-//! Why there is no key in a file.
+//! Why a file has no key.
 
 ghost use Rattle.std.specs.Prelude.{◌≡◌};
 ghost use Rattle.setup.specs.Fault as texts;
 
-/// Why there is no key in a file that can be read.
+/// Why a file that can be read has no key.
 #[derive(Clone, Copy)]
 pub enum KeyFault {
-    /// It is a folder, a pipe, a device or the like.
+    /// The file is a folder, a pipe, a device or the like.
     NotAFile,
-    /// It is the match's sheet.
+    /// The file is the match's sheet.
     Sheet,
-    /// It is a votes file.
+    /// The file is a votes file.
     Votes,
-    /// It has fewer than 16 bytes, without the white space at its end.
+    /// The key has fewer than 16 bytes, without the white space at its end.
     Short,
-    /// It has more than 1,024.
+    /// The key has more than 1,024 bytes.
     Long,
-    /// Fewer than 8 of them differ.
+    /// The key has fewer than 8 different bytes.
     Alike,
-    /// It begins as a file of two keys, for a pair each, and isn't one.
+    /// The file begins as one of two keys, one for each pair, but isn't one.
     NoPair,
-    /// It has the keys of desk A.
+    /// The file has the keys of desk A.
     OfDeskA,
-    /// It has the keys of desk B.
+    /// The file has the keys of desk B.
     OfDeskB,
-    /// It has the keys of a board.
+    /// The file has the keys of a board.
     OfBoard,
 }
 
 impl KeyFault {
-    /// What a scorer is told of it.
+    /// Returns what a scorer is told of the fault.
     pub fn words(self) -> &'static str
         ensures { result.now ≡ texts.key_words self }
     {

@@ -1,11 +1,11 @@
-//! Whose a file of keys for each pair is.
+//! The owner of a file of keys for each pair.
 
 ghost use Rattle.std.specs.Prelude.{◌≡◌};
 ghost use Rattle.setup.specs.KeyOwners as owners;
 
 use agree_core::Asker;
 
-/// Whose a file of keys for each pair is: a desk's, or one of four boards'.
+/// The owner of a file of keys for each pair: a desk, or one of four boards.
 #[derive(Clone, Copy)]
 pub enum KeyOwner {
     DeskA,
@@ -16,7 +16,7 @@ pub enum KeyOwner {
     Board4,
 }
 
-/// All for whom there is a file.
+/// All owners of such a file.
 pub const KEY_OWNERS: [KeyOwner; 6] = [
     KeyOwner::DeskA,
     KeyOwner::DeskB,
@@ -27,7 +27,7 @@ pub const KEY_OWNERS: [KeyOwner; 6] = [
 ];
 
 impl KeyOwner {
-    /// The first line of its file.
+    /// Returns the first line of the owner's file.
     pub fn line(self) -> &'static [u8]
         ensures { result.now ≡ owners.owner_line self }
     {
@@ -41,7 +41,7 @@ impl KeyOwner {
         }
     }
 
-    /// The name of its file, behind its folder's.
+    /// Returns the name of the owner's file, to be put after its folder's name.
     pub fn file_name(self) -> &'static str
         ensures { result.now ≡ owners.file_name self }
     {
@@ -55,7 +55,7 @@ impl KeyOwner {
         }
     }
 
-    /// Which station it is.
+    /// Returns the owner's station.
     pub fn station(self) -> Asker
         ensures { result ≡ owners.owner_station self }
     {
@@ -67,7 +67,7 @@ impl KeyOwner {
     }
 }
 
-/// Whose file begins so, if anyone's.
+/// Returns the owner whose first line the text begins with, if any.
 pub fn owner_of(text: &[u8]) -> Option<KeyOwner> {
     KEY_OWNERS
         .iter()

@@ -1,4 +1,4 @@
-//! Opening files, standard output and sockets. Each fault names the file or the address that was at work.
+//! Opening files, standard output and sockets. Each fault names its file or address.
 
 ghost use Rattle.std.specs.Prelude.{◌≡◌, ◌≤◌, [], IfOk, vec_len};
 ghost use Rattle.streams.specs.declared.limit.TheConstants.{LONGEST_INPUT};
@@ -21,10 +21,10 @@ use std::rt::Stdout;
 use streams::{Watched, read_all};
 use vote_store::Votes;
 
-/// Standard output, a buffer at a time.
+/// Standard output, buffered.
 pub type Output<'a> = Watched<BufWriter<StandardStream<'a, Stdout>>>;
 
-/// The fault of a run that wants to read a file of which no disk is made.
+/// Returns the fault of a run that can't open a file as a disk to read it.
 pub fn fault_of_old(fault: OpenFault) -> StopFault
     ensures { result ≡ texts.fault_of_old fault }
 {
@@ -34,23 +34,23 @@ pub fn fault_of_old(fault: OpenFault) -> StopFault
     }
 }
 
-/// A file that is only read.
+/// Opens a file for reading only.
 fn file_at<'a>(rt: &HostRuntime, path: &'a str) -> Result<File, Stopped<'a>> {
     File::open(rt, path).map_err(|_| Stopped::at(path, StopFault::Read))
 }
 
-/// Opens a file that is read from its front to its end.
+/// Opens a file that is read from start to end.
 pub fn open_input<'a>(rt: &HostRuntime, path: &'a str) -> Result<Watched<File>, Stopped<'a>> {
     Ok(Watched::new(file_at(rt, path)?))
 }
 
-/// The match sheet in a file.
+/// Reads the match sheet in a file.
 pub fn sheet_at<'a>(rt: &HostRuntime, path: &'a str) -> Result<MatchSheet, Stopped<'a>> {
     let mut reader = open_input(rt, path)?;
     sheet_run(rt.alloc(), &mut reader).map_err(|fault| Stopped::at(path, fault))
 }
 
-/// All bytes of a file.
+/// Reads all bytes of a file.
 pub fn bytes_at<'a>(rt: &HostRuntime, path: &'a str) -> Result<Vec<u8>, Stopped<'a>>
     ensures { IfOk result (λ bytes. vec_len bytes ≤ LONGEST_INPUT) }
 {
@@ -61,13 +61,13 @@ pub fn bytes_at<'a>(rt: &HostRuntime, path: &'a str) -> Result<Vec<u8>, Stopped<
     }
 }
 
-/// A disk on a file that is only read. A file of more than 16,777,216 bytes can't be read.
+/// Opens a file as a disk for reading only. A file longer than 16,777,216 bytes is refused with `Read`.
 fn reading_disk<'a>(rt: &HostRuntime, path: &'a str) -> Result<FileDisk<File>, Stopped<'a>> {
     let file = file_at(rt, path)?;
     FileDisk::new(rt.alloc(), file, 0).map_err(|fault| Stopped::at(path, fault_of_old(fault)))
 }
 
-/// A disk on a desk's votes file of version 1, whose votes were read once.
+/// Opens a desk's votes file of version 1 as a disk, once its votes have been read and found right.
 pub fn old_votes_at<'a>(
     rt: &HostRuntime,
     path: &'a str,
@@ -81,7 +81,7 @@ pub fn old_votes_at<'a>(
     }
 }
 
-/// Standard output, a buffer at a time.
+/// Returns standard output, buffered.
 pub fn printer(
     rt: &HostRuntime,
 ) -> Result<BufWriter<StandardStream<'_, Stdout>>, Stopped<'static>> {
@@ -89,13 +89,13 @@ pub fn printer(
     BufWriter::new(rt.alloc(), stream).map_err(|_| Stopped::at("-", StopFault::NoMemory))
 }
 
-/// Standard output, watched.
+/// Returns standard output, buffered and watched.
 pub fn output(rt: &HostRuntime) -> Result<Output<'_>, Stopped<'static>> {
     Ok(Watched::new(printer(rt)?))
 }
 
-/// A station's socket at its address, in the match whose datagrams this opens, and what else ends its waits; where that is the
-/// page, it is noted.
+/// Opens a station's socket at its address, for the match whose datagrams `opener` opens. `ends` is what else ends a wait; a
+/// wait that ends because of the page sets `called`.
 pub fn peers_at<'a, 'w, E: Write + Drop>(
     net: &impl Net,
     at: Address<'a>,

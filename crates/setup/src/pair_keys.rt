@@ -1,4 +1,4 @@
-//! Keys for each pair: a station's file has the two from which its seals are made.
+//! Keys for each pair of stations: a station's file has two keys, from which its seals are made.
 
 ghost use Rattle.std.specs.Prelude.{◌≡◌, ◌≤◌, IfOk, length};
 ghost use Rattle.setup.specs.KeyOwners as owners;
@@ -17,16 +17,16 @@ use std::alloc::{AllocError, Global};
 /// A key of a pair, as it stands in a file: 64 hex digits.
 pub type KeyDigits = [u8; 64];
 
-/// How long a file's first line is.
+/// The length of a key file's first line, in bytes.
 const OWNER: usize = 24;
 
-/// Where its second key begins.
+/// Where the second key begins in a key file.
 const SECOND: usize = 89;
 
-/// How long its text is, without the end of its last line.
+/// The length of a key file's text in bytes, without the end of its last line.
 const TEXT: usize = 153;
 
-/// The digits of a key.
+/// Returns a key as hex digits.
 pub fn key_digits(key: &[u8; 32]) -> KeyDigits
     ensures { result ≡ keys.key_digits key.now }
 {
@@ -35,8 +35,8 @@ pub fn key_digits(key: &[u8; 32]) -> KeyDigits
     digits
 }
 
-/// The key that a desk shares with the first to the fourth board, of the second key in the desk's file: HKDF-Expand (RFC 5869) with
-/// SHA-256, of 32 bytes.
+/// Returns the key that a desk shares with a board (the first to the fourth), made from the second key in the desk's file:
+/// HKDF-Expand (RFC 5869) with SHA-256, of 32 bytes.
 pub fn board_key(key: &[u8], board: u8) -> KeyDigits
     requires { board ≤ 9 }
     ensures { result ≡ keys.board_key key.now board }
@@ -45,7 +45,7 @@ pub fn board_key(key: &[u8], board: u8) -> KeyDigits
     key_digits(&hmac(key, info.as_slice()))
 }
 
-/// The text of a file of two keys, without the end of its last line.
+/// Returns the text of a file of two keys, without the end of its last line.
 pub fn pair_text(
     alloc: Global,
     owner: KeyOwner,
@@ -62,7 +62,7 @@ pub fn pair_text(
     Ok(text)
 }
 
-/// Why a file of this owner isn't for another station.
+/// Returns the fault of a station whose file is this owner's.
 fn fault_of(owner: KeyOwner) -> KeyFault {
     match owner {
         KeyOwner::DeskA => KeyFault::OfDeskA,
@@ -71,7 +71,7 @@ fn fault_of(owner: KeyOwner) -> KeyFault {
     }
 }
 
-/// Whether two stations are the same.
+/// Whether two stations are the same station.
 fn is_station(station: Asker, other: Asker) -> bool
     ensures { result ≡ owners.is_station station other }
 {
@@ -81,7 +81,7 @@ fn is_station(station: Asker, other: Asker) -> bool
     )
 }
 
-/// Whose file this is, which has to be the station's.
+/// Returns whose file this is. Refuses a file that is another station's, or that begins as no file of two keys.
 fn expect_owner(text: &[u8], station: Asker) -> Result<KeyOwner, KeyFault>
     ensures { IfOk result (λ owner. owners.owner_station owner ≡ station) }
 {
@@ -92,13 +92,13 @@ fn expect_owner(text: &[u8], station: Asker) -> Result<KeyOwner, KeyFault>
     }
 }
 
-/// Whether these are hex digits, as they are written for a new key.
+/// Whether all bytes are hex digits as a new key has them: 0 to 9 and a to f.
 fn are_digits(line: &[u8]) -> bool {
     line.iter()
         .all(|byte| matches!(*byte, b'0'..=b'9' | b'a'..=b'f'))
 }
 
-/// Asks that a line is a key: hex digits, of which 8 differ.
+/// Refuses a line that is no key: one that isn't all hex digits, or has fewer than 8 different ones.
 fn expect_key(line: &[u8]) -> Result<(), KeyFault> {
     if !are_digits(line) {
         return Err(KeyFault::NoPair);
@@ -109,7 +109,7 @@ fn expect_key(line: &[u8]) -> Result<(), KeyFault> {
     Ok(())
 }
 
-/// The two keys in the bytes of a station's file. The white space at its end is cut.
+/// Returns the two keys in the bytes of a station's file, after cutting the white space at its end.
 pub fn pair_in(alloc: Global, bytes: &[u8], station: Asker) -> Result<(&[u8], &[u8]), StopFault>
     ensures { IfOk result (λ pair. keys.HasPairKeys bytes.now station pair.0.now pair.1.now) }
 {

@@ -1,4 +1,4 @@
-//! What a station's datagrams are sealed with: the keys in a file, or none, and the match sheet.
+//! What a station's datagrams are sealed with: the keys in a file, or no key, and the match sheet.
 
 ghost use Rattle.std.specs.Prelude.{◌≡◌, ◌≤◌, ◌+◌, [], None, IfOk, IfSome, is_some, length};
 ghost use Rattle.agree_core.specs.Desks.{asker};
@@ -28,23 +28,23 @@ use std::net::SocketAddr;
 use std::os::unix::fs::MetadataExt;
 use streams::{Feed, Watched, read_all};
 
-/// A station's link: in a window, over sealed datagrams, at a socket.
+/// A station's link: a window over sealed datagrams, at a socket.
 pub type StationLink<'r, 'w, E> = Window<Sealed<Peers<'w, E>>, MonotonicClock<'r, HostRuntime>>;
 
-/// How many bytes a key has at least.
+/// The fewest bytes of a key.
 pub const SHORTEST_KEY: usize = 16;
 
-/// How many bytes a key has at most.
+/// The most bytes of a key.
 pub const LONGEST_KEY: usize = 1024;
 
-/// How many of a key's bytes differ at least.
+/// The fewest different bytes of a key.
 pub const FEWEST_DIFFERENT: usize = 8;
 
-/// What each votes file begins with.
+/// The bytes that each votes file begins with.
 const VOTES: &[u8; 7] = b"CBVOTES";
 
-/// The key in a file's bytes: what is left once the white space at its end is cut (spaces, tabs, ends of lines, form
-/// feeds), where that has 16 to 1,024 bytes.
+/// Returns the key in a file's bytes, without the white space at its end (spaces, tabs, ends of lines, form feeds), if 16 to
+/// 1,024 bytes are left.
 pub fn key_in(bytes: &[u8]) -> Option<&[u8]>
     ensures found { IfSome result (λ key. keys.IsKey bytes.now key.now) }
     ensures none { result ≡ None → keys.HasNoKey bytes.now }
@@ -57,7 +57,7 @@ pub fn key_in(bytes: &[u8]) -> Option<&[u8]>
     }
 }
 
-/// How many different bytes there are.
+/// Counts the different bytes.
 pub fn different(bytes: &[u8]) -> usize {
     let mut is_there = [false; 256];
     for byte in bytes {
@@ -66,7 +66,7 @@ pub fn different(bytes: &[u8]) -> usize {
     is_there.iter().filter(|is_there| **is_there).count()
 }
 
-/// The key in a file's bytes, which is taken where 8 of its bytes differ at least.
+/// Returns the key in a file's bytes. Refuses a votes file, a key of fewer than 8 different bytes, a long key and a short one.
 fn plain_key(bytes: &[u8]) -> Result<&[u8], KeyFault>
     ensures { IfOk result (λ key. keys.IsKey bytes.now key.now) }
 {
@@ -81,7 +81,7 @@ fn plain_key(bytes: &[u8]) -> Result<&[u8], KeyFault>
     }
 }
 
-/// A desk as a station.
+/// Returns a desk as a station.
 pub fn station_of(desk: DeskId) -> Asker
     ensures { result ≡ asker desk }
 {
@@ -91,17 +91,17 @@ pub fn station_of(desk: DeskId) -> Asker
     }
 }
 
-/// What a key's file begins with that has two keys, for a pair each.
+/// The front of a key file that has two keys, one for each pair.
 const OWNER_FRONT: &[u8; 17] = b"yermudosh key of ";
 
-/// A station's seals, and whether they are of keys for each pair.
+/// A station's seals, and whether they are made from keys for each pair.
 #[derive(Drop)]
 struct Seals {
     ring: Ring,
     is_of_pairs: bool,
 }
 
-/// The ring of a station where all stations have this one key.
+/// Returns the ring of a station when all stations share one key.
 fn ring_of_one(key: &[u8], station: Asker, digest: &[u8; 32]) -> Ring
     ensures { result ≡ keys.ring_of_one station (seal_of key.now digest.now) }
 {
@@ -111,7 +111,7 @@ fn ring_of_one(key: &[u8], station: Asker, digest: &[u8; 32]) -> Ring
     Ring::new(station, [seal, second, third, fourth, fifth], false)
 }
 
-/// The seal that a desk shares with a board, of the second key in the desk's file.
+/// Returns the seal that a desk shares with a board, made from the second key in the desk's file.
 fn board_seal(key: &[u8], board: u8, digest: &[u8; 32]) -> Seal
     requires { board ≤ 9 }
     ensures { result ≡ seal_of (keys.board_key key.now board) digest.now }
@@ -119,7 +119,7 @@ fn board_seal(key: &[u8], board: u8, digest: &[u8; 32]) -> Seal
     Seal::new(board_key(key, board).as_slice(), digest)
 }
 
-/// The seals of a desk, of the two keys in its file: with the other desk, and with four boards.
+/// Returns the seals of a desk, made from the two keys in its file: one with the other desk, and one with each of four boards.
 fn desk_seals(first: &[u8], second: &[u8], digest: &[u8; 32]) -> [Seal; 5]
     ensures { result ≡ rings.desk_seals (seal_of first.now digest.now) (λ n. seal_of (keys.board_key second.now n) digest.now) }
 {
@@ -132,7 +132,7 @@ fn desk_seals(first: &[u8], second: &[u8], digest: &[u8; 32]) -> [Seal; 5]
     ]
 }
 
-/// The seals of a board, of the two keys in its file: with desk A, and with desk B.
+/// Returns the seals of a board, made from the two keys in its file: one with desk A, and one with desk B.
 fn board_seals(first: &[u8], second: &[u8], digest: &[u8; 32]) -> [Seal; 5]
     ensures { result ≡ rings.board_seals (seal_of first.now digest.now) (seal_of second.now digest.now) }
 {
@@ -141,7 +141,7 @@ fn board_seals(first: &[u8], second: &[u8], digest: &[u8; 32]) -> [Seal; 5]
     [Seal::new(first, digest), b, third, fourth, fifth]
 }
 
-/// The ring of a station, of its file of these bytes with two keys.
+/// Returns the ring of a station, made from the bytes of its file of two keys.
 fn ring_of_pairs(
     alloc: Global,
     bytes: &[u8],
@@ -158,7 +158,7 @@ fn ring_of_pairs(
     Ok(Ring::new(station, seals, true))
 }
 
-/// The seals of a station, of the bytes of its key's file and the digest of the sheet.
+/// Returns the seals of a station, made from the bytes of its key file and the sheet's digest.
 fn seals_of(
     alloc: Global,
     bytes: &[u8],
@@ -181,8 +181,8 @@ fn seals_of(
     })
 }
 
-/// The seals of a station, of its key's file of so many bytes, which is read to its end. What has others than these isn't on a
-/// disk, as `/proc/version`.
+/// Returns the seals of a station, made from its key file, which is read to its end. Refuses a file that hasn't `size` bytes:
+/// such a file isn't on a disk, for example `/proc/version`.
 fn seals_run<R: Feed>(
     alloc: Global,
     reader: &mut Watched<R>,
@@ -201,14 +201,14 @@ fn seals_run<R: Feed>(
     seals_of(alloc, bytes.as_slice(), station, digest)
 }
 
-/// What a key's file has, and who may read it.
+/// The size of a key file, and who may read it.
 #[derive(Clone, Copy)]
 struct KeyFile {
     size: u64,
     mode: u32,
 }
 
-/// Asks that a key's file is a plain one, so that no read of it waits, and isn't the sheet.
+/// Refuses a key file that isn't a plain file, so that no read of it waits, and one that is the sheet.
 fn key_file_at<'a>(rt: &HostRuntime, path: &'a str, sheet: &str) -> Result<KeyFile, Stopped<'a>> {
     let Ok(found) = fs::metadata(rt, path) else {
         return Err(Stopped::at(path, StopFault::Read));
@@ -225,7 +225,7 @@ fn key_file_at<'a>(rt: &HostRuntime, path: &'a str, sheet: &str) -> Result<KeyFi
     })
 }
 
-/// Tells standard error where others may read a key. That it can't be told is no fault.
+/// Tells standard error if others may read a key. Not being able to tell it is no fault.
 fn tell_readers(rt: &HostRuntime, path: &str, mode: u32) {
     if mode & 0o044 != 0 {
         let path = printable(path);
@@ -233,7 +233,7 @@ fn tell_readers(rt: &HostRuntime, path: &str, mode: u32) {
     }
 }
 
-/// The seals of a station, of its key's file, which isn't the sheet, and the digest of that.
+/// Returns the seals of a station, made from its key file, which must not be the sheet, and the sheet's digest.
 fn seals_at<'a>(
     rt: &HostRuntime,
     path: &'a str,
@@ -254,28 +254,27 @@ fn seals_at<'a>(
     }
 }
 
-/// Asks the system to leave this process's memory out of what it keeps of one that crashed. Where it doesn't, that is no
-/// fault.
+/// Asks the system to leave this process's memory out of its crash dumps. It is no fault if the system doesn't.
 fn keep_out_of_dumps(rt: &HostRuntime) {
     let _ = fs::write(rt, "/proc/self/coredump_filter", "0");
 }
 
-/// What a station's datagrams are sealed with, of its keys, which aren't kept, and the digest of the sheet; that digest; and the
-/// number of the match.
+/// What a station's datagrams are sealed with, made from its keys (which aren't kept) and the sheet's digest; that digest; and
+/// the number of the match.
 #[derive(Drop)]
 pub struct Sealing {
     ring: Ring,
     station: Asker,
     /// Whether the station has a key.
     has_key: bool,
-    /// Whether it has keys for each pair.
+    /// Whether the station has keys for each pair.
     is_of_pairs: bool,
     digest: [u8; 32],
     game: u64,
 }
 
 impl Sealing {
-    /// Of a station, this sheet with its digest, and these seals, which are of keys in a file or of none.
+    /// The sealing of a station, of a sheet with its digest and these seals, made from keys in a file or from no key.
     fn with(
         sheet: &MatchSheet,
         digest: [u8; 32],
@@ -298,7 +297,7 @@ impl Sealing {
         }
     }
 
-    /// Of a station, this sheet, which was read from a file of this path, and the keys in a file, where one is named.
+    /// Makes the sealing of a station from a sheet, the path that it was read from, and the key file if one is named.
     pub fn of<'a>(
         rt: &HostRuntime,
         sheet: &MatchSheet,
@@ -331,13 +330,13 @@ impl Sealing {
         }
     }
 
-    /// The fingerprint of the sheet: the front of its digest.
+    /// Returns the fingerprint of the sheet: the first 4 bytes of its digest.
     fn sheet_fingerprint(&self) -> [u8; 4] {
         let digest = &self.digest;
         [digest[0], digest[1], digest[2], digest[3]]
     }
 
-    /// The same as below, of a board with keys for each pair.
+    /// Tells the fingerprints of a board with keys for each pair: of the sheet, and of its keys with desk A and with desk B.
     fn tell_keys_of_desks<E: Write>(&self, errors: &mut E) -> io::Result<()> {
         let mut text = *b"sheet 0000-0000\nkey a 0000-0000\nkey b 0000-0000\n";
         put_digits(&mut text, 6, self.sheet_fingerprint());
@@ -346,8 +345,8 @@ impl Sealing {
         errors.write_all(&text[..])
     }
 
-    /// The same, of a desk with keys for each pair: the fingerprint of the one that both desks have, and those of the boards', in
-    /// their order.
+    /// Tells the fingerprints of a desk with keys for each pair: of the sheet, of the key that both desks share, and of the
+    /// boards' four keys in order.
     fn tell_keys_of_boards<E: Write>(&self, errors: &mut E) -> io::Result<()> {
         let mut text =
             *b"sheet 0000-0000\nkey 0000-0000\nboard keys 0000-0000 0000-0000 0000-0000 0000-0000\n";
@@ -363,7 +362,7 @@ impl Sealing {
         errors.write_all(&text[..])
     }
 
-    /// The same, where all stations have one key, or none.
+    /// Tells the fingerprints where all stations share one key, or have none.
     fn tell_one_key<E: Write>(&self, errors: &mut E) -> io::Result<()> {
         let mut text = *b"sheet 0000-0000\nkey 0000-0000\n";
         put_digits(&mut text, 6, self.sheet_fingerprint());
@@ -372,8 +371,7 @@ impl Sealing {
         errors.write_all(&text[..count])
     }
 
-    /// Tells what is read to the other stations, by one write: the fingerprint of the sheet, and those of the keys, where there
-    /// are some.
+    /// Tells the fingerprints to read out to the other stations, by one write: of the sheet, and of the keys if there are any.
     pub fn tell_fingerprints<E: Write>(&self, errors: &mut E) -> io::Result<()> {
         match (self.is_of_pairs, self.station) {
             (false, _) => self.tell_one_key(errors),
@@ -382,13 +380,13 @@ impl Sealing {
         }
     }
 
-    /// Room for the receipts that a board with keys for each pair keeps of desks' votes, none yet.
+    /// Returns room for the receipts that a board with keys for each pair keeps of desks' votes, empty as yet.
     fn receipts<'a>(&self, alloc: Global, path: &'a str) -> Result<Receipts, Stopped<'a>> {
         Receipts::of(alloc, &self.ring).map_err(|_| Stopped::at(path, StopFault::NoMemory))
     }
 
-    /// A station's sealed datagrams at its address, of which none passed yet. Its waits end for these too: where that is for
-    /// their page, it is noted.
+    /// Opens a station's sealed datagrams at its address; none has passed yet. `ends` is what else ends a wait; a wait that
+    /// ends because of the page sets `called`.
     pub fn sealed_at<'a, 'w, E: Write + Drop>(
         &self,
         rt: &HostRuntime,
@@ -406,7 +404,7 @@ impl Sealing {
         Ok(Sealed::new(peers, self.ring.copied(), receipts))
     }
 
-    /// A station's link over its sealed datagrams, of which none passed yet. It has no socket but theirs.
+    /// Returns a station's link over its sealed datagrams, of which none has passed yet. The link has no other socket.
     pub fn link_over<'r, 'w, E: Write + Drop>(
         &self,
         alloc: Global,

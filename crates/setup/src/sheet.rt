@@ -9,7 +9,7 @@ use cards::{MatchSheet, read_sheet};
 use std::alloc::Global;
 use streams::{Feed, LONGEST_INPUT, Watched, read_all};
 
-/// Reads a match sheet to the end of its file. A sheet that is refused is so with its first fault.
+/// Reads a match sheet to the end of its file. A refused sheet is refused with its first fault.
 pub fn sheet_run<R: Feed>(alloc: Global, reader: &mut Watched<R>) -> Result<MatchSheet, StopFault>
     ensures told { IfSome (R.remaining (stream_of reader.old)) (λ bytes. Tells bytes result) }
     ensures only { IfErr result IsSheetFault }

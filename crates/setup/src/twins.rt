@@ -1,4 +1,4 @@
-//! Names of a sheet that two bear. Such a sheet is taken: standard error is told, and the match goes on.
+//! Names that two teams or players of a sheet share. Such a sheet is taken: standard error is told, and the match goes on.
 
 ghost use Rattle.std.specs.Prelude.{IfOk};
 ghost use Rattle.setup.specs.SheetText.{IsSheetOf};
@@ -10,7 +10,7 @@ use notation::{Player, Side};
 use std::io::{self, Write};
 use std::ops::Range;
 
-/// Whether one of these players of the side, by their numbers, is called so.
+/// Whether one of the side's players with these numbers has this name.
 fn is_borne(sheet: &MatchSheet, side: Side, name: &str, numbers: Range<u8>) -> bool {
     for number in numbers {
         match Player::new(number) {
@@ -21,7 +21,7 @@ fn is_borne(sheet: &MatchSheet, side: Side, name: &str, numbers: Range<u8>) -> b
     false
 }
 
-/// Tells that two players of the side are called so, where this is the first of them.
+/// Tells that two players of the side share a name, if this player is the first of them.
 fn tell_player<W: Write>(
     errors: &mut W,
     sheet: &MatchSheet,
@@ -36,7 +36,7 @@ fn tell_player<W: Write>(
     writeln!(errors, "sheet: two players are called {name}")
 }
 
-/// Tells of each name that two players of the side bear.
+/// Tells each name that two players of the side share.
 fn tell_players<W: Write>(errors: &mut W, sheet: &MatchSheet, side: Side) -> io::Result<()> {
     for number in 1..12 {
         if let Some(player) = Player::new(number) {
@@ -46,7 +46,7 @@ fn tell_players<W: Write>(errors: &mut W, sheet: &MatchSheet, side: Side) -> io:
     Ok(())
 }
 
-/// Tells of each name that two teams, or two players of a team, bear.
+/// Tells each name that two teams share, or two players of a team.
 pub fn tell_twins<W: Write>(errors: &mut W, sheet: &MatchSheet) -> io::Result<()> {
     let name = sheet.name(Side::Home);
     if name == sheet.name(Side::Away) {
@@ -56,8 +56,8 @@ pub fn tell_twins<W: Write>(errors: &mut W, sheet: &MatchSheet) -> io::Result<()
     tell_players(errors, sheet, Side::Away)
 }
 
-/// The match sheet of a file's bytes. Standard error is told of each name that two bear, and of each key of `limits` that can't
-/// be what it says; that it can't be told is no fault.
+/// Returns the match sheet in a file's bytes. Tells standard error each name that two share, and each key of `limits` whose
+/// value can't be right; not being able to tell it is no fault.
 pub fn told_sheet_of<'a>(
     rt: &HostRuntime,
     path: &'a str,

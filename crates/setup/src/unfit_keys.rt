@@ -1,4 +1,4 @@
-//! Keys of a sheet's table `limits` that can't be what they say. Such a sheet is taken: standard error is told, and the match
+//! Keys of a sheet's table `limits` whose value can't be right. Such a sheet is taken: standard error is told, and the match
 //! goes on without these keys.
 
 use limits::{KEYS, Key, why_unfit};
@@ -6,7 +6,7 @@ use std::alloc::Global;
 use std::io::{self, Write};
 use toml::Table;
 
-/// Tells why a key can't be what it says, if it can't.
+/// Tells why a key's value can't be right, if it can't.
 fn tell_key<W: Write>(errors: &mut W, alloc: Global, document: &Table, key: Key) -> io::Result<()> {
     let Some(why) = why_unfit(alloc, document, key) else {
         return Ok(());
@@ -15,7 +15,7 @@ fn tell_key<W: Write>(errors: &mut W, alloc: Global, document: &Table, key: Key)
     writeln!(errors, "sheet: {name} {why}")
 }
 
-/// Tells it of each key, of a sheet with this text.
+/// Tells why each unfit key of a sheet's text is unfit. Tells nothing if the text can't be read as TOML.
 pub fn tell_unfit_keys<W: Write>(errors: &mut W, alloc: Global, text: &[u8]) -> io::Result<()> {
     let Ok(document) = toml::table_from_slice(alloc, text) else {
         return Ok(());

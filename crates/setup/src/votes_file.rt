@@ -15,10 +15,10 @@ use machine_files::{
 };
 use vote_store::Refusal;
 
-/// A disk on a file that votes are written to.
+/// A disk on a votes file.
 pub type VotesDisk<'a> = FileDisk<NamedFile<'a>>;
 
-/// The fault of a run that wants a file without a byte: one that is too long isn't empty.
+/// Returns the fault of a run that needs an empty file: one that is too long isn't empty.
 fn fault_of_new(fault: OpenFault) -> StopFault
     ensures { result ≡ texts.fault_of_new fault }
 {
@@ -29,7 +29,7 @@ fn fault_of_new(fault: OpenFault) -> StopFault
     }
 }
 
-/// The fault of a run whose file can't be written anew.
+/// Returns the fault of a run that can't write its file anew.
 fn fault_of_copy(fault: OpenFault) -> StopFault
     ensures { result ≡ texts.fault_of_copy fault }
 {
@@ -39,7 +39,7 @@ fn fault_of_copy(fault: OpenFault) -> StopFault
     }
 }
 
-/// A disk on a file that is to have votes, which is made where there is none.
+/// Opens a file for votes as a disk, and makes the file if there is none.
 fn new_disk<'r>(rt: &'r HostRuntime, path: &str) -> Result<VotesDisk<'r>, StopFault> {
     match NamedFile::open(rt, path) {
         Ok(file) => FileDisk::new(rt.alloc(), file, LONGEST_FILE).map_err(fault_of_new),
@@ -47,8 +47,8 @@ fn new_disk<'r>(rt: &'r HostRuntime, path: &str) -> Result<VotesDisk<'r>, StopFa
     }
 }
 
-/// A disk on a file that is to have votes, for this process alone, which is made where there is none. A file that is
-/// longer than any votes file isn't empty.
+/// Opens a file for votes as a disk, for this process alone, and makes the file if there is none. A file longer than any
+/// votes file is refused as not empty.
 pub fn new_disk_at<'r, 'a>(
     rt: &'r HostRuntime,
     path: &'a str,
@@ -56,12 +56,12 @@ pub fn new_disk_at<'r, 'a>(
     new_disk(rt, path).map_err(|fault| Stopped::at(path, fault))
 }
 
-/// The fault of a desk's votes file, or of the new one beside it.
+/// Returns the fault of a desk's votes file, or of the new one beside it.
 fn file_fault<'a>(path: &'a str, name: Name, why: Cause) -> Stopped<'a> {
     Stopped::at(path, StopFault::File(WriteFault { name, why }))
 }
 
-/// A desk that ran has lost its file, or can't write it, as this tells.
+/// Returns the fault of a running desk that has lost its file, or can't write it.
 fn lost_for(fault: WriteFault) -> StopFault
     ensures { result ≡ faults.lost_for fault fault.why }
 {
@@ -71,7 +71,7 @@ fn lost_for(fault: WriteFault) -> StopFault
     }
 }
 
-/// The fault of a run whose file can't be written, and why, where that is known.
+/// Returns the fault of a run that can't write its file, with the cause if that is known.
 pub fn with_cause(fault: StopFault, last: Option<WriteFault>) -> StopFault
     ensures { result ≡ faults.with_cause fault last }
 {
@@ -82,7 +82,7 @@ pub fn with_cause(fault: StopFault, last: Option<WriteFault>) -> StopFault
     }
 }
 
-/// The same of its copy.
+/// Returns the fault of a run that can't write its file's copy, with the cause if that is known.
 pub fn with_copys_cause(fault: StopFault, last: Option<WriteFault>) -> StopFault
     ensures { result ≡ faults.with_copys_cause fault last }
 {
@@ -93,8 +93,8 @@ pub fn with_copys_cause(fault: StopFault, last: Option<WriteFault>) -> StopFault
     }
 }
 
-/// A desk's votes file for this process alone, which is made where there is none, and its bytes. It leaves there why a
-/// call failed.
+/// Opens a desk's votes file for this process alone, makes it if there is none, and reads its bytes. `last` gets the cause of
+/// each call of the file that fails.
 pub fn kept_votes<'r, 'a>(
     rt: &'r HostRuntime,
     path: &'a str,
@@ -112,7 +112,7 @@ pub fn kept_votes<'r, 'a>(
     }
 }
 
-/// A disk on a desk's votes file that has no byte.
+/// Opens a desk's empty votes file as a disk.
 pub fn empty_disk<'r, 'a>(
     rt: &HostRuntime,
     path: &'a str,
@@ -126,8 +126,8 @@ pub fn empty_disk<'r, 'a>(
     ))
 }
 
-/// A disk on a new file that holds the bytes of a desk's votes file and has taken its place. Where that fails, the
-/// file is as it was.
+/// Writes the bytes of a desk's votes file to a new file, which takes its place, and returns a disk on it. If that fails, the
+/// votes file is left as it was.
 pub fn renewed_disk<'r, 'a>(
     rt: &HostRuntime,
     path: &'a str,

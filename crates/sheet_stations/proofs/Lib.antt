@@ -1,3 +1,3 @@
--- Lemmas: on the lives of the program's stations, and on a match of theirs.
+-- Lemmas on the lives of the program's stations, and on a match of them.
 mod Lives
 mod Matches

@@ -1,4 +1,4 @@
--- The lives of the program's stations are those of the definitions of processes.
+-- The lives of the program's stations are lives as the specs of processes have them.
 use Rattle.std.proofs.Common.{arith, ◌≡◌, ◌∙◌, ℕ, zero, suc, List, [], ◌∷◌, ◌++◌, inl, inr, Result, ap, refl, subst, sym}
 use Rattle.std.specs.Prelude.{All, drop, map}
 use Rattle.entry_log.specs.Format.{room}
@@ -35,7 +35,7 @@ use Rattle.processes.specs.Stations.{process_stages}
 use Rattle.sheet_stations.specs.Lives.{AllFollow, Ended, IsOfMatch, LifeOfBoard, LifeOfDesk, Lived, LostPower, MayFollow, Next, OpensFirst, board_process, board_sheet, calls_of, disk_of, opening_of, sheet_of, stages_after, stages_of}
 use Rattle.sheet_stations.specs.Matches.{file_contents}
 
--- a run of the first calls
+-- without its last calls a run is still a run
 run_drop : {State Call : Type 0} (kind : Kind State Call) (k : State) (n : ℕ) (ms : List (own.Moment State Call)) → Run kind k ms → Run kind k (drop n ms)
 run_drop kind k zero ms r = r
 run_drop kind k (suc n) [] r = tt
@@ -52,7 +52,7 @@ views desk game version = file_view (file_contents version) file_of images_of de
 abbrev disks_of : DeskDisk → DiskView DeskDisk
 disks_of disk = record { faults = faults_of; FitsLongest = FitsLongest (room version_2) (cap_of disk) }
 
--- what is so by a sheet is so in the match of which that is
+-- what holds for a sheet's numbers holds for those of its match
 in_match : (P : ℕ → ℕ → Type 0) (sheet : Sheet) (game innings : ℕ) → IsOfMatch game innings sheet → P sheet.game sheet.innings → P game innings
 in_match P sheet game innings of p =
     subst (λ (i : ℕ). P game i) of.same_innings (subst (λ (g : ℕ). P g sheet.innings) of.same_game p)

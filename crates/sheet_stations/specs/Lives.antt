@@ -1,4 +1,5 @@
--- The lives of the program's stations, as `start_desk` and `start_board` answer them, and what becomes of a desk's disk between two.
+-- The lives of the program's stations, as `start_desk` and `start_board` answer them, and what becomes of a desk's disk between
+-- two.
 use Rattle.std.specs.Prelude.{◌≡◌, ℕ, List, [], ◌∷◌, ◌++◌, drop}
 use Rattle.agree_core.specs.declared.messages.DeskId.{DeskId}
 use Rattle.agree_core.specs.Ballots.{Ballot}
@@ -20,7 +21,7 @@ use Rattle.board_command.specs.Lives.{traces_in}
 use Rattle.processes.specs.Lives.{BoardProcess, CallsMade, PowerLoss, ProcessEnd, Stage, after_life}
 use Rattle.processes.specs.Stations.{process_stages}
 
--- a life of this desk, its process, and how many of the last calls of that weren't made: some, where it was killed before
+-- a life of this desk, its process, and how many of the last calls weren't made: more than none if it was killed before them
 pub record LifeOfDesk (desk : DeskId) : Type 0 where
   pub life : Life
   pub process : Process desk
@@ -31,7 +32,7 @@ module _ {desk : DeskId} where
   abbrev pub sheet_of : LifeOfDesk desk → Sheet
   sheet_of l = l.process.traces.sheet
 
-  -- the disk on which it began, how it began, and what calls it made then, the newest first
+  -- the disk that the life began on, how it began, and the calls that it made then, the newest first
   abbrev pub disk_of : LifeOfDesk desk → DeskDisk
   disk_of l = l.process.kept.disk
 
@@ -41,7 +42,7 @@ module _ {desk : DeskId} where
   abbrev pub calls_of : LifeOfDesk desk → List (Moment (DeskProcess DeskDisk) DeskCall)
   calls_of l = drop l.unmade (desks.calls_of l.process.kept.lives.lives)
 
--- what comes next at a desk: a life; the end of its process, with the disk left; a loss of power, likewise
+-- what comes next at a desk: a life; the end of its process, with the disk it left; or a loss of power, with the disk it left
 pub data Next (desk : DeskId) : Type 0 where
   Lived : LifeOfDesk desk → Next desk
   Ended : DeskDisk → Next desk
@@ -53,12 +54,12 @@ module _ {desk : DeskId} where
   stages_of (Ended disk) = ProcessEnd disk ∷ []
   stages_of (LostPower disk) = PowerLoss disk ∷ []
 
-  -- the desk's stages after these ones, the newest first
+  -- the desk's stages after the first ones, the newest first
   abbrev pub stages_after : List (Stage DeskDisk) → List (Next desk) → List (Stage DeskDisk)
   stages_after first [] = first
   stages_after first (x ∷ xs) = stages_of x ++ stages_after first xs
 
--- all lives of a desk in a match: the first, by which it was begun so, and what came later, the newest first
+-- all lives of a desk in a match: the first, which began it in this state, and what came later, the newest first
 pub record LivesOfDesk (desk : DeskId) : Type 0 where
   pub first : LifeOfDesk desk
   pub begun : DeskState DeskDisk
@@ -78,19 +79,20 @@ OpensFirst begun (Opened k) = (k ≡ begun) × (k.votes ≡ [])
 OpensFirst begun opening = ⊥
 
 module _ {desk : DeskId} (view : FileView DeskDisk) (game innings : ℕ) where
-  -- By what is on the desk's disk it may come next: a life begins, with a sheet of the match, on the disk that was left; a disk that
-  -- is left as a process ends shows what it did; and after a loss of power it has one of the images of what it had.
+  -- What may come next, by what is on the desk's disk: a life begins, with a sheet of the match, on the disk that was left; the
+  -- disk that a process leaves shows what the process's disk showed; and after a loss of power the disk has one of the images
+  -- of what it had.
   abbrev pub MayFollow : Node DeskDisk → Next desk → Type 0
   MayFollow x (Lived l) = IsOfMatch game innings (sheet_of l) × (votes : List Ballot) × (x.process ≡ Down votes (disk_of l))
   MayFollow x (Ended disk) = (k : DeskState DeskDisk) × (x.process ≡ Running k) × Stays view k.disk disk
   MayFollow x (LostPower disk) = LosesPower view (process_disk x.process) disk
 
-  -- each in turn, after these stages of the desk
+  -- each of these follows the one before, after the first stages of the desk
   abbrev pub AllFollow : Node DeskDisk → List (Stage DeskDisk) → List (Next desk) → Type 0
   AllFollow x first [] = Unit {0}
   AllFollow x first (y ∷ ys) = AllFollow x first ys × MayFollow (after_life x (stages_after first ys)) y
 
--- a life of a board, its process, and how many of the last calls of that weren't made
+-- a life of a board, its process, and how many of the last calls weren't made
 pub record LifeOfBoard : Type 0 where
   pub life : BoardLife
   pub kept : boards.WasKept (traces_in life)

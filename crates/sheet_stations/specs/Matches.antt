@@ -1,4 +1,4 @@
--- A match of the program's stations: their lives, all that happened to them in one order, and what holds of it.
+-- A match of the program's stations: their lives, all that happened to them in one order, and what holds of that order.
 use Rattle.std.specs.Prelude.{◌≡◌, ℕ, List, [], ◌∷◌, ◌++◌, All, None, map}
 use Rattle.std.specs.List.{filter}
 use Rattle.agree_core.specs.declared.messages.DeskId.{DeskId}
@@ -23,8 +23,8 @@ use Rattle.processes.specs.Progress.{AllQuiet, GoOn}
 use Rattle.processes.specs.Weaving.{NothingIsForged, is_at_board, is_at_desk, start}
 use Rattle.sheet_stations.specs.Lives.{AllFollow, LifeOfBoard, LivesOfDesk, IsOfMatch, OpensFirst, all_stages, board_process, board_sheet, calls_of, opening_of, sheet_of}
 
--- a match of this number and innings a side: the seals of each pair of its stations, how many boards it has, and the lives of each
--- desk, and of each board, the newest first
+-- a match with this number and innings a side: the seals of each pair of its stations, how many boards it has, and the lives of
+-- each desk and each board, those of a board the newest first
 pub record Match : Type 0 where
   pub game : ℕ
   pub innings : ℕ
@@ -33,7 +33,7 @@ pub record Match : Type 0 where
   pub desks : (desk : DeskId) → LivesOfDesk desk
   pub boards : ℕ → List LifeOfBoard
 
--- what a file shows, of either version
+-- what a file shows, in either version
 abbrev pub file_contents : FileVersion → FileContents
 file_contents version = contents (format_of version)
 
@@ -53,9 +53,9 @@ module _ (m : Match) where
     pub follow : AllFollow (view_of desk) m.game m.innings (node (start_of m) desk)
         (CallsMade (sheet_of (m.desks desk).first) (m.desks desk).begun (calls_of (m.desks desk).first) ∷ []) (m.desks desk).later
 
-  -- All that happened, the newest first. Of the disks: each desk's lives follow one another by what its disk had. Of the network:
-  -- what opened at a station and reads as a vote, one of these had sealed before with that pair's seal. All lives are of the match,
-  -- what happened at a station is what its lives made happen, and there are no other stations.
+  -- All that happened, the newest first. Of the disks: each desk's lives follow one another by what its disk had. Of the
+  -- network: each vote that opened at a station had been sealed before by one of these stations, with that pair's seal. All
+  -- lives are of the match, what happened at a station is what its lives made happen, and there are no other stations.
   pub record IsWoven (hs : List (Happening DeskDisk)) : Type 0 where
     pub disks : (desk : DeskId) → AreDesks desk
     pub network : NothingIsForged m.seals m.game (start_of m) hs
@@ -64,8 +64,8 @@ module _ (m : Match) where
     pub boards : (n : ℕ) → filter (is_at_board n) hs ≡ board_happens m.innings n (map board_process (m.boards n))
     pub no_others : (n : ℕ) → board_at (start_of m).boards n ≡ None → m.boards n ≡ []
 
-  -- it is a flow, of which the headline holds; no board drops a vote as one by which a desk's file lacks lines, nor tells so; and
-  -- while no scorer types, no disk fails, and no process begins or ends, all goes on
+  -- What happened is a flow, of which the headline holds; no board drops a vote as one by which a desk's file lacks lines, nor
+  -- tells so; and while no scorer types, no disk fails, and no process begins or ends, all goes on.
   pub record HasHeadline (hs : List (Happening DeskDisk)) : Type 0 where
     pub flow : IsFlow file_of images_of file_contents m.game m.innings New m.count (start_of m) hs
     pub headline : ProcessHeadline m.game m.innings (start_of m) hs
@@ -74,6 +74,6 @@ module _ (m : Match) where
     pub goes_on : (earlier later : List (Happening DeskDisk)) → hs ≡ later ++ earlier → AllQuiet later
         → GoOn (setting_of file_contents file_of images_of m.game m.innings) m.game (after (start_of m) earlier) later
 
--- so of each match of the program's stations
+-- this holds of each match of the program's stations
 abbrev pub LivesHaveHeadline : Type 0
 LivesHaveHeadline = (m : Match) (hs : List (Happening DeskDisk)) → IsWoven m hs → HasHeadline m hs

@@ -1,4 +1,4 @@
-//! A desk or a board that begins with its sheet's table of stations.
+//! Starting a desk or a board with its sheet's table `[stations]`.
 
 ghost use Rattle.std.specs.Prelude.{◌≡◌, IfOk, Some, option_copied};
 ghost use Rattle.desk_command.specs.Lives.{copy_of, desk_of, path_of, sheet_path_of};
@@ -20,16 +20,16 @@ use station_table::{
 use std::net::SocketAddr;
 use toml::Table;
 
-/// Where a station listens, and the addresses of its peers.
+/// A station's own address, and the addresses of its peers.
 type Addresses<'a> = (Address<'a>, [Option<SocketAddr>; MOST_PEERS]);
 
-/// What is told of a text that should be an address.
+/// What is told of a text that isn't an address.
 const NO_ADDRESS: &str = "isn't an address with a port, such as 192.168.1.20:4711";
 
-/// What is told of addresses of which each is one.
+/// What is told of addresses that are valid one by one, but not as those of a station and its peers.
 const NO_PEERS: &str = "these addresses are of two kinds, or one is nobody's";
 
-/// Whether a board that is named is an address.
+/// Whether a board's address is valid, if one is named.
 fn is_board(text: Option<&str>) -> bool {
     match text {
         Some(text) => is_address(text),
@@ -37,7 +37,7 @@ fn is_board(text: Option<&str>) -> bool {
     }
 }
 
-/// Whether all boards that are named are.
+/// Whether the addresses of all named boards are valid.
 fn are_addresses(boards: BoardNames<'_>) -> bool {
     is_board(boards.first)
         && is_board(boards.second)
@@ -45,7 +45,7 @@ fn are_addresses(boards: BoardNames<'_>) -> bool {
         && is_board(boards.fourth)
 }
 
-/// A text that a station can't begin without, which has this place in the sheet.
+/// Returns a text without which a station can't begin. `place` is its place in the sheet.
 fn present<'a>(
     rt: &HostRuntime,
     sheet: &'a str,
@@ -60,7 +60,7 @@ fn present<'a>(
     }
 }
 
-/// An address, likewise.
+/// Returns an address without which a station can't begin, if it is valid. `place` is its place in the sheet.
 fn address<'a>(
     rt: &HostRuntime,
     sheet: &'a str,
@@ -75,7 +75,7 @@ fn address<'a>(
     }
 }
 
-/// The addresses of a desk and of its peers, of which there are so many boards.
+/// Returns the addresses of a desk, of the other desk, and of as many boards as are named.
 fn desk_addresses<'a>(at: &'a str, other: &str, boards: BoardNames<'_>) -> Option<Addresses<'a>> {
     let Some(first) = boards.first else {
         return addresses_in(at, other, &[]);
@@ -92,7 +92,7 @@ fn desk_addresses<'a>(at: &'a str, other: &str, boards: BoardNames<'_>) -> Optio
     }
 }
 
-/// The addresses, or that there are none such.
+/// Returns the addresses, or tells that they can't be those of a station and its peers.
 fn found<'a>(
     rt: &HostRuntime,
     sheet: &'a str,
@@ -104,7 +104,7 @@ fn found<'a>(
     }
 }
 
-/// The places of a desk's address in the sheet, and of the other's.
+/// Returns the places in the sheet of a desk's own address and of the other desk's.
 fn places(desk: DeskId) -> (&'static str, &'static str) {
     match desk {
         DeskId::A => ("stations, a", "stations, b"),
@@ -112,7 +112,7 @@ fn places(desk: DeskId) -> (&'static str, &'static str) {
     }
 }
 
-/// The addresses with which a desk begins.
+/// Returns the addresses that a desk begins with.
 fn addresses_of<'a>(
     rt: &HostRuntime,
     sheet: &'a str,
@@ -136,8 +136,8 @@ fn addresses_of<'a>(
     found(rt, sheet, desk_addresses(at, other, boards))
 }
 
-/// `ground desk` with a letter: keeps that desk with what its words name, and for what they don't with what its sheet's
-/// table of stations has.
+/// `ground desk` with a letter: keeps that desk with its named options, and for the others with the values of its sheet's
+/// `[stations]`.
 #[inline(never)]
 pub fn start_desk_of<'a>(
     rt: &'a HostRuntime,
@@ -171,7 +171,7 @@ pub fn start_desk_of<'a>(
     start_desk(rt, &setting)
 }
 
-/// `ground board` with a number: keeps that board of the table, in the same way.
+/// `ground board` with a number: keeps that board of `[stations]`, with options found in the same way.
 #[inline(never)]
 pub fn start_board_of<'a>(
     rt: &'a HostRuntime,

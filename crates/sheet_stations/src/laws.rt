@@ -1,4 +1,4 @@
-//! What holds of the stations that the program keeps. This function does nothing: it stands for the laws that it ensures.
+//! Laws on the stations that the program keeps. This function does nothing: it stands for the laws that it ensures.
 
 ghost use Rattle.desk_command.specs.Disks.{faults_of, file_of, images_of};
 ghost use Rattle.processes.specs.Stations.{DeskLifeIsLife};
@@ -8,12 +8,12 @@ ghost use Rattle.sheet_stations.specs.Matches.{LivesHaveHeadline};
 use desk_command::DeskDisk;
 use processes::{kept_desks_are_lives, woven_lives_are_a_flow};
 
-/// Whatever lives `start_desk` and `start_board` answered: where they were woven into one order, each desk began on what its disk
-/// had then, and no vote opened that none of them had sealed, the headline holds of all that happened, no board dropped a vote as
-/// one by which a file lacks lines, and while all is calm all goes on (`answered`).
+/// For all lives that `start_desk` and `start_board` answered: if they were woven into one order, each desk began on what its
+/// disk had then, and no vote opened that none of them had sealed, then the headline holds of all that happened, no board
+/// dropped a vote as one by which a file lacks lines, and while all is calm all goes on (`answered`).
 ///
-/// The same of any lives on the disks of the program's desks, of a file alone or with a copy, and from one process to the next as
-/// its scorer begins it: what a desk was kept for is a process of its life, and woven lives are a flow.
+/// The same holds of any lives on the disks of the program's desks, of a file alone or with a copy, from one process to the
+/// next as a scorer begins it: what a desk was kept for is a process of its life, and woven lives are a flow.
 pub fn kept_stations_agree()
     ensures answered { LivesHaveHeadline }
     ensures lives { DeskLifeIsLife file_of images_of faults_of }

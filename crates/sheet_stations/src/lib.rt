@@ -1,4 +1,4 @@
-//! A desk or a board of the program that begins with its sheet's table of stations, and what holds of all that are kept.
+//! Starting a desk or a board with its sheet's table `[stations]`, and the laws on all stations that are kept.
 #![tactic(auto)]
 
 mod begin;

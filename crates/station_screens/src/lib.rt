@@ -1,4 +1,4 @@
-//! What a station tells: standard output and standard error, which may not be read for long.
+//! A station's standard output and standard error, which may go unread for long.
 #![tactic(auto)]
 
 ghost use Rattle.std.specs.Prelude.{◌≡◌, [], IfOk};
@@ -16,7 +16,7 @@ pub type Output<'a> = Screen<Pieces<StandardStream<'a, Stdout>>>;
 /// Standard error.
 pub type Errors<'a> = Screen<Pieces<StandardStream<'a, Stderr>>>;
 
-/// Standard output, which keeps nobody waiting, and to which nothing was written.
+/// Opens standard output, which never keeps the station waiting. Nothing is written yet.
 pub fn output_at(rt: &HostRuntime) -> Result<Output<'_>, Stopped<'static>>
     ensures { IfOk result (λ output. written_of output ≡ []) }
 {
@@ -24,21 +24,20 @@ pub fn output_at(rt: &HostRuntime) -> Result<Output<'_>, Stopped<'static>>
     Screen::new(rt.alloc(), stream).map_err(|_| Stopped::at("-", StopFault::NoMemory))
 }
 
-/// Standard error, which keeps nobody waiting.
+/// Opens standard error, which never keeps the station waiting.
 pub fn errors_at(rt: &HostRuntime) -> Result<Errors<'_>, Stopped<'static>> {
     let stream = Pieces::of(StandardStream::errors(rt));
     Screen::new(rt.alloc(), stream).map_err(|_| Stopped::at("-", StopFault::NoMemory))
 }
 
-/// Hands on what waits for a screen, as far as it is taken. That it can't be written isn't told here: the next write of it
-/// fails too.
+/// Writes as much of a screen's waiting text as is taken. A failure isn't told here: the next write to the screen fails too.
 pub fn retry<O: Outlet>(screen: &RefCell<Screen<O>>) {
     if let Ok(mut screen) = screen.try_borrow_mut() {
         let _ = screen.flush();
     }
 }
 
-/// A screen to which several write, a row at once.
+/// A screen that several share, each writing whole rows.
 #[derive(Drop)]
 pub struct Shared<'s, O: Outlet> {
     screen: &'s RefCell<Screen<O>>,
@@ -52,7 +51,7 @@ impl<'s, O: Outlet> Shared<'s, O> {
 }
 
 impl<O: Outlet> Write for Shared<'_, O> {
-    /// Where a row ends, it is handed on at once, as far as it is taken.
+    /// Writes to the screen, and hands the text on at once if it ends a row, as far as it is taken.
     fn write(&mut self, bytes: &[u8]) -> io::Result<usize> {
         let Ok(mut screen) = self.screen.try_borrow_mut() else {
             return Err(io::Error::from(ErrorKind::WouldBlock));

@@ -1,5 +1,5 @@
--- What a station begins with: what its words name, and for what they don't what the sheet's table of stations has. ms is the sheet's own
--- table.
+-- The options that a station starts with: the named ones, and for the others the values of the sheet's `[stations]`. ms is the
+-- sheet's top-level table.
 use Rattle.std.specs.Prelude.{ℕ, List, [], ◌∷◌, Option, Some, None, option_map, codes}
 use Rattle.agree_core.specs.declared.messages.DeskId.{DeskId}
 use Rattle.agree_core.specs.declared.messages.DeskId.TheVariants.{A, B}
@@ -7,7 +7,7 @@ use Rattle.toml.specs.Data.{Members}
 use Rattle.station_table.specs.Stations.{board_in, columns_in, text_in}
 use Rattle.station_table.specs.declared.{board_options.BoardOptions.BoardOptions, desk_options.BoardNames.BoardNames, desk_options.DeskOptions.DeskOptions}
 
--- what is named first, or else the other
+-- the first text, or else the other one
 abbrev pub or_else : Option (List ℕ) → Option (List ℕ) → Option (List ℕ)
 or_else None other = other
 or_else (Some text) other = Some text
@@ -19,14 +19,14 @@ pub record Desk : Type 0 where
   pub file : Option (List ℕ)
   pub copy : Option (List ℕ)
   pub key : Option (List ℕ)
-  -- its address, the other desk's, and those of four boards at most
+  -- its own address, the other desk's, and those of at most four boards
   pub at : Option (List ℕ)
   pub other : Option (List ℕ)
   pub boards : List (Option (List ℕ))
-  -- how wide its scorer's rows are
+  -- the width of its scorer's rows
   pub columns : Option ℕ
 
--- the key of a desk's address, of the other's, and of its copy; the file of its votes, where nothing else is named
+-- the names in `[stations]` of a desk's address, of the other desk's and of its copy; and the default name of its votes file
 abbrev pub own : DeskId → List ℕ
 own A = codes "a"
 own B = codes "b"
@@ -43,7 +43,7 @@ abbrev pub own_file : DeskId → List ℕ
 own_file A = codes "a.votes"
 own_file B = codes "b.votes"
 
--- the boards that are named, if one is, or else these
+-- the named boards if at least one is named, and the others otherwise
 abbrev pub boards_or : List (Option (List ℕ)) → List (Option (List ℕ)) → List (Option (List ℕ))
 boards_or (Some first ∷ more) others = Some first ∷ more
 boards_or named others = others
@@ -69,13 +69,13 @@ begun_with desk named ms = record {
 -- ---- a board
 
 pub record Board : Type 0 where
-  -- its address, both desks', and the file of the key
+  -- its own address, both desks' addresses, and the key's file
   pub at : Option (List ℕ)
   pub a : Option (List ℕ)
   pub b : Option (List ℕ)
   pub key : Option (List ℕ)
 
--- the board of this index, counted from 0
+-- the options of the board of this index, counted from 0
 abbrev pub board_begun_with : ℕ → Board → Members → Board
 board_begun_with n named ms = record {
   at = or_else named.at (board_in n ms);
@@ -84,7 +84,7 @@ board_begun_with n named ms = record {
   key = or_else named.key (text_in (codes "key") ms);
 }
 
--- ---- the same of what the program keeps
+-- ---- the same records of the program's own options
 
 abbrev pub boards_of : BoardNames → List (Option (List ℕ))
 boards_of b =

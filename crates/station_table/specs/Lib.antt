@@ -1,3 +1,3 @@
--- What is claimed: what a sheet's table of stations has, Stations; what a station begins with, Begun.
+-- What the crate claims: the values in a sheet's `[stations]`, Stations; the options that a station starts with, Begun.
 pub mod Begun
 pub mod Stations

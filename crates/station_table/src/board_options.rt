@@ -1,4 +1,4 @@
-//! What a board begins with.
+//! The options that a board starts with.
 
 ghost use Rattle.std.specs.Prelude.{◌≡◌};
 ghost use Rattle.toml.specs.View.{table_view};
@@ -7,7 +7,7 @@ ghost use Rattle.station_table.specs.Begun as begun;
 use crate::lookup::{board_in, or_else, text_in};
 use toml::Table;
 
-/// What a board's words name, or what it begins with: its address, both desks', and the file of the key.
+/// The options of a board's command, or those that it starts with: its own address, both desks' addresses, and the key's file.
 #[derive(Clone, Copy)]
 pub struct BoardOptions<'a> {
     pub at: Option<&'a str>,
@@ -16,8 +16,8 @@ pub struct BoardOptions<'a> {
     pub key: Option<&'a str>,
 }
 
-/// What the board of this index, counted from 0, begins with: what its words name, and for what they don't what its sheet's
-/// table of stations has.
+/// Returns the options that the board of this index (counted from 0) starts with: those that are named, and for the others the
+/// values of its sheet's `[stations]`.
 pub fn board_begun<'a>(index: usize, named: &BoardOptions<'a>, sheet: &'a Table) -> BoardOptions<'a>
     ensures { begun.board_of result ≡ begun.board_begun_with index (begun.board_of named.now) (table_view sheet.now) }
 {

@@ -1,4 +1,4 @@
-//! What a desk begins with.
+//! The options that a desk starts with.
 
 ghost use Rattle.std.specs.Prelude.{◌≡◌};
 ghost use Rattle.toml.specs.View.{table_view};
@@ -9,10 +9,10 @@ use agree_core::DeskId;
 use cards::Columns;
 use toml::Table;
 
-/// How many boards a desk has at most.
+/// The most boards that a desk can have.
 pub const MOST_BOARDS: usize = 4;
 
-/// The addresses of a desk's boards, the first ones first.
+/// The addresses of a desk's boards, in order.
 #[derive(Clone, Copy)]
 pub struct BoardNames<'a> {
     pub first: Option<&'a str>,
@@ -21,8 +21,8 @@ pub struct BoardNames<'a> {
     pub fourth: Option<&'a str>,
 }
 
-/// What a desk's words name, or what it begins with: the files of its votes, of their copy and of the key; its address, the
-/// other desk's, and the boards'; and how wide its scorer's rows are.
+/// The options of a desk's command, or those that it starts with: the files of its votes, of their copy and of the key; its own
+/// address, the other desk's and the boards'; and the width of its scorer's rows.
 #[derive(Clone, Copy)]
 pub struct DeskOptions<'a> {
     pub file: Option<&'a str>,
@@ -34,7 +34,7 @@ pub struct DeskOptions<'a> {
     pub columns: Option<Columns>,
 }
 
-/// The key of a desk's address.
+/// Returns the name in `[stations]` of a desk's own address.
 fn own(desk: DeskId) -> &'static str
     ensures { result.now ≡ begun.own desk }
 {
@@ -44,7 +44,7 @@ fn own(desk: DeskId) -> &'static str
     }
 }
 
-/// The key of the other's.
+/// Returns the name in `[stations]` of the other desk's address.
 fn others(desk: DeskId) -> &'static str
     ensures { result.now ≡ begun.others desk }
 {
@@ -54,7 +54,7 @@ fn others(desk: DeskId) -> &'static str
     }
 }
 
-/// The file of a desk's votes, where nothing else is named.
+/// Returns the default name of a desk's votes file.
 fn own_file(desk: DeskId) -> &'static str
     ensures { result.now ≡ begun.own_file desk }
 {
@@ -64,7 +64,7 @@ fn own_file(desk: DeskId) -> &'static str
     }
 }
 
-/// The key of its copy.
+/// Returns the name in `[stations]` of a desk's copy.
 fn own_copy(desk: DeskId) -> &'static str
     ensures { result.now ≡ begun.own_copy desk }
 {
@@ -74,7 +74,7 @@ fn own_copy(desk: DeskId) -> &'static str
     }
 }
 
-/// The boards that are named, if one is, or else the table's.
+/// Returns the named boards if at least one is named, and the sheet's boards otherwise.
 fn boards_or<'a>(named: BoardNames<'a>, sheet: &'a Table) -> BoardNames<'a>
     ensures { begun.boards_of result
         ≡ begun.boards_or (begun.boards_of named.entry) (begun.boards_in (table_view sheet.now)) }
@@ -90,7 +90,7 @@ fn boards_or<'a>(named: BoardNames<'a>, sheet: &'a Table) -> BoardNames<'a>
     }
 }
 
-/// What a desk begins with: what its words name, and for what they don't what its sheet's table of stations has.
+/// Returns the options that a desk starts with: the named ones, and for the others the values of its sheet's `[stations]`.
 pub fn desk_begun<'a>(desk: DeskId, named: &DeskOptions<'a>, sheet: &'a Table) -> DeskOptions<'a>
     ensures { begun.desk_of result ≡ begun.begun_with desk (begun.desk_of named.now) (table_view sheet.now) }
 {

@@ -1,4 +1,4 @@
-//! With what a desk and a board are kept, and the table `[stations]` of a match sheet, which stands for the options of their words.
+//! The settings of a desk and of a board, and a match sheet's table `[stations]`, whose values stand in for their options.
 #![tactic(auto)]
 
 mod board_options;

@@ -1,4 +1,4 @@
-//! What the table has.
+//! Looking up values in a sheet's table `[stations]`.
 
 ghost use Rattle.std.specs.Prelude.{◌≡◌, option_map};
 ghost use Rattle.toml.specs.Data.{as_table, get_member};
@@ -10,7 +10,7 @@ ghost use Rattle.station_table.specs.Begun.{or_else};
 use cards::Columns;
 use toml::{Table, Value};
 
-/// The value at a key of a table.
+/// Returns the value at a key of a table.
 fn member<'a>(table: &'a Table, key: &str) -> Option<&'a Value>
     ensures { option_map (λ value. view value.now) result ≡ get_member key.now (table_view table.now) }
 {
@@ -20,7 +20,7 @@ fn member<'a>(table: &'a Table, key: &str) -> Option<&'a Value>
     }
 }
 
-/// The value at a key of a sheet's table of stations.
+/// Returns the value at a key of a sheet's table `[stations]`.
 fn value_in<'a>(sheet: &'a Table, key: &str) -> Option<&'a Value>
     ensures { option_map (λ value. view value.now) result ≡ stations.value_in key.now (table_view sheet.now) }
 {
@@ -28,21 +28,21 @@ fn value_in<'a>(sheet: &'a Table, key: &str) -> Option<&'a Value>
     member(stations, key)
 }
 
-/// The text at a key of it.
+/// Returns the text at a key of a sheet's table `[stations]`.
 pub fn text_in<'a>(sheet: &'a Table, key: &str) -> Option<&'a str>
     ensures { option_map (λ text. text.now) result ≡ stations.text_in key.now (table_view sheet.now) }
 {
     value_in(sheet, key)?.as_str()
 }
 
-/// The address of a board in it, counted from 0.
+/// Returns the address of a board in a sheet's table `[stations]`; boards are counted from 0.
 pub fn board_in(sheet: &Table, index: usize) -> Option<&str>
     ensures { option_map (λ text. text.now) result ≡ stations.board_in index (table_view sheet.now) }
 {
     value_in(sheet, "boards")?.get(index)?.as_str()
 }
 
-/// How wide a scorer's rows are by it.
+/// Returns the width of a scorer's rows in a sheet's table `[stations]`, if rows can have that width.
 pub fn columns_in(sheet: &Table) -> Option<Columns>
     ensures { result ≡ stations.columns_in (table_view sheet.now) }
 {
@@ -53,7 +53,7 @@ pub fn columns_in(sheet: &Table) -> Option<Columns>
     }
 }
 
-/// The width that is named, or else the other.
+/// Returns the named width, or else the other width.
 pub fn columns_or(named: Option<Columns>, other: Option<Columns>) -> Option<Columns>
     ensures { result ≡ begun.columns_or named other }
 {
@@ -63,7 +63,7 @@ pub fn columns_or(named: Option<Columns>, other: Option<Columns>) -> Option<Colu
     }
 }
 
-/// What is named first, or else the other.
+/// Returns the named text, or else the other text.
 pub fn or_else<'a>(named: Option<&'a str>, other: Option<&'a str>) -> Option<&'a str>
     ensures { option_map (λ text. text.now) result
         ≡ or_else (option_map (λ text. text.now) named.entry) (option_map (λ text. text.now) other.entry) }

@@ -1,13 +1,13 @@
-//! With what a station is kept.
+//! The settings that a station runs with.
 
 use agree_core::DeskId;
 use cards::Columns;
 use machine::{Address, MOST_PEERS};
 use std::net::SocketAddr;
 
-/// With what a desk is kept: its sheet, the files of its votes, of their copy and of the scorers' key, where they are named, its
-/// address and its peers', the other desk's first, and its page's, where it has one. Its scorer has rows of so many columns, or
-/// else of the terminal's, or of 80.
+/// The settings of a desk: its sheet; the files of its votes, and of their copy and the scorers' key if they are named; its own
+/// address, its peers' (the other desk's first), and its page's if it has one; and the width of its scorer's rows. Without
+/// `columns`, the rows are as wide as the terminal, or 80 columns.
 #[derive(Clone, Copy)]
 pub struct DeskSetting<'a> {
     pub sheet: &'a str,
@@ -21,8 +21,8 @@ pub struct DeskSetting<'a> {
     pub columns: Option<Columns>,
 }
 
-/// Where a board shows its book besides, where these are named: the files of its text, of its state as JSON, and of the same as
-/// a script; and the address of its page.
+/// Where else a board shows its book, if anywhere: the files of its text, of its state as JSON, and of that JSON as a script;
+/// and the address of its page.
 #[derive(Clone, Copy)]
 pub struct Showing<'a> {
     pub text: Option<&'a str>,
@@ -31,8 +31,8 @@ pub struct Showing<'a> {
     pub serve: Option<Address<'a>>,
 }
 
-/// With what a board is kept: its sheet, the file of the scorers' key, where it is named, its address and both desks', and where
-/// it shows its book.
+/// The settings of a board: its sheet, the file of the scorers' key if it is named, its own address, both desks' addresses, and
+/// where it shows its book.
 #[derive(Clone, Copy)]
 pub struct BoardSetting<'a> {
     pub sheet: &'a str,

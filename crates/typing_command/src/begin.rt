@@ -7,7 +7,7 @@ use std::fs::{File, OpenOptions};
 use std::io::Write;
 use typing::{Fault, Kept, keep_terminal};
 
-/// A file or a pipe that is only written.
+/// Opens a file or a pipe for writing only.
 fn written_at<'a>(rt: &HostRuntime, path: &'a str) -> Result<File, Stopped<'a>> {
     let mut how = OpenOptions::new();
     how.write(true);
@@ -15,12 +15,12 @@ fn written_at<'a>(rt: &HostRuntime, path: &'a str) -> Result<File, Stopped<'a>> 
         .map_err(|_| Stopped::at(path, StopFault::Write))
 }
 
-/// A file or a pipe that is only read.
+/// Opens a file or a pipe for reading only.
 fn read_at<'a>(rt: &HostRuntime, path: &'a str) -> Result<File, Stopped<'a>> {
     File::open(rt, path).map_err(|_| Stopped::at(path, StopFault::Read))
 }
 
-/// A terminal that was kept to the desk's end, or why it wasn't: its rows come from this path.
+/// Returns a terminal that was kept to the desk's end, or why it wasn't. `told` is the path that its rows come from.
 fn kept_or<'a>(kept: Result<Kept, Fault>, told: &'a str) -> Result<Kept, Stopped<'a>> {
     match kept {
         Ok(kept) => Ok(kept),
@@ -29,9 +29,9 @@ fn kept_or<'a>(kept: Result<Kept, Fault>, told: &'a str) -> Result<Kept, Stopped
     }
 }
 
-/// `ground typing`: edits what is typed at a terminal of so many columns, hands each line to a desk by a file or a pipe, and shows
-/// the rows that the desk writes to another, until its last one. The lines' is opened first. That a line isn't taken is no fault:
-/// the desk has ended, and told why.
+/// `ground typing`: edits what is typed at a terminal of `columns` columns, hands each line to a desk through a file or a pipe,
+/// and shows the rows that the desk writes to another one, until its last row. The file of the lines is opened first. It is no
+/// fault if a line isn't taken: the desk has ended, and told why.
 #[inline(never)]
 pub fn start_typing<'a>(
     rt: &HostRuntime,

@@ -12,33 +12,33 @@ use std::os::fd::{AsRawFd, RawFd};
 use std::rt::Stdin;
 use typing::{Came, HeardLog, Inputs};
 
-/// What is passed over by a wait.
+/// The descriptor that a wait passes over.
 const NO_DESCRIPTOR: RawFd = -1;
 
-/// Ctrl-U and Ctrl-D: so the desk ends where its terminal has.
+/// Ctrl-U and Ctrl-D: they end the desk when its terminal has ended.
 const LAST_KEYS: [u8; 2] = [21, 4];
 
-/// What can be read.
+/// What can be read now.
 enum Ready {
     Nothing,
     Keys,
     Rows,
 }
 
-/// Standard input, at which keys are typed, and a file or a pipe from which the desk's rows are read.
+/// Standard input, where keys are typed, and a file or a pipe from which the desk's rows are read.
 #[derive(Drop)]
 pub struct KeysAndRows {
     keys: Stdin,
-    /// What was typed and not given yet, the oldest first.
+    /// The keys that were typed and not given yet, the oldest first.
     typed: ArrayVec<u8, 64>,
     is_over: bool,
-    /// Whether a read of keys failed, which ends them too.
+    /// Whether a read of keys failed, which ends the keys too.
     has_failed: bool,
     rows: File,
     pub(crate) log: HeardLog,
 }
 
-/// What asks whether a descriptor can be read.
+/// Returns a question to `poll` whether a descriptor can be read.
 fn reads_of(descriptor: RawFd) -> pollfd {
     pollfd {
         fd: descriptor,
@@ -48,7 +48,7 @@ fn reads_of(descriptor: RawFd) -> pollfd {
 }
 
 impl KeysAndRows {
-    /// The keys of standard input, and these rows.
+    /// Reads keys from standard input, and rows from this file or pipe.
     pub fn new(rt: &HostRuntime, rows: File) -> KeysAndRows
         ensures { heard_in result.log ≡ [] }
     {
@@ -62,8 +62,8 @@ impl KeysAndRows {
         }
     }
 
-    /// Waits until keys or rows can be read. Keys are read first: a scorer types less than a desk takes. A wait that fails says
-    /// that keys can be, so no call ends at once for ever.
+    /// Waits until keys or rows can be read. Keys come first: a scorer types less than a desk writes. A failed wait answers
+    /// that keys can be read (or rows, once the keys are over), so that no loop spins.
     fn wait(&self) -> Ready {
         let keys = if self.is_over {
             NO_DESCRIPTOR
@@ -95,7 +95,7 @@ impl KeysAndRows {
         self.typed.try_extend_from_slice(keys).unwrap();
     }
 
-    /// Reads what is typed. Where there is no more, or where that fails, the last keys end the desk.
+    /// Reads the keys that are typed. When there are no more, or the read fails, the last keys end the desk.
     fn read_keys(&mut self)
         ensures { heard_in self.new.log ≡ heard_in self.old.log }
     {

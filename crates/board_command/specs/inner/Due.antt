@@ -1,4 +1,4 @@
--- What is made for a file that is due.
+-- The texts that are made for files that are due.
 use Rattle.std.specs.Prelude.{◌≡◌, ℕ, Bool, true, false, ◌||◌, List, Option, Some, None, Result, Vec, IfOk, IfSome, is_some}
 use Rattle.std.specs.declared.alloc.Global.{Global}
 use Rattle.board_command.specs.Files as files
@@ -8,12 +8,12 @@ use Rattle.board_command.specs.declared.files.TheConstants.{FOREVER}
 use Rattle.board_command.specs.declared.times.TheConstants.{LONGEST_STATE_AGE}
 
 module _ {T E : Type 0} (longest : ℕ) (m : Moment) where
-  -- whether there is a file that is to be written
+  -- whether there is a file, and it is due
   abbrev pub is_due : Option (Kept T E) → Bool
   is_due None = false
   is_due (Some kept) = files.is_due kept.tried m longest
 
--- which files are to be written
+-- which files are due
 abbrev pub due_of : {T E B : Type 0} → Files T E B → Moment → Due
 due_of files m = record {
   lines = is_due FOREVER m files.text;
@@ -21,7 +21,7 @@ due_of files m = record {
   script = is_due LONGEST_STATE_AGE m files.script;
 }
 
--- those that are due here or there
+-- the texts that are due by either
 abbrev pub either : Due → Due → Due
 either one other = record {
   lines = one.lines || other.lines;
@@ -30,15 +30,15 @@ either one other = record {
 }
 
 module _ {F : Type 0} (text : List ℕ) where
-  -- what was made is the text, or it couldn't be made
+  -- a text that was made is this text, or memory ran out for it
   abbrev pub IsText : Option (Result (Vec ℕ Global) F) → Type 0
   IsText made = IfSome made (λ result. IfOk result (λ bytes. bytes.items ≡ text))
 
--- it was made where it is due
+-- the text was made if it is due
 abbrev pub IsMadeWhere : {F : Type 0} → Bool → List ℕ → Option (Result (Vec ℕ Global) F) → Type 0
 IsMadeWhere due text made = (due ≡ true → is_some made ≡ true) × IsText text made
 
--- so all three, of these lines and this value
+-- all three texts were made if they are due, from these lines and this value
 pub record AreMade (due : Due) (rows value : List ℕ) (made : Texts) : Type 0 where
   pub lines : IsMadeWhere due.lines rows made.lines
   pub state : IsMadeWhere due.state value made.state

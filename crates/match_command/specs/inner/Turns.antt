@@ -25,39 +25,39 @@ use Rattle.match_command.specs.declared.match_run.fault.MatchFault.TheVariants.{
 use Rattle.match_command.specs.inner.Online.{IsOnline}
 use Rattle.match_command.specs.MatchRun.{HoldsEither, Stays, entries_of_first, votes_for}
 
--- a book with the entry of a vote that waits
+-- a book with the entry of the desk's pending vote, if it has one
 abbrev pub with_own : List Entry → Option Entry → List Entry
 with_own book None = book
 with_own book (Some e) = book ++ e ∷ []
 
--- A seat and a book go with the votes for these entries, each of which was voted for in the first round of its place:
--- they are the book's with the own vote that waits, or the other's differed from one of them.
+-- A seat and a book match the votes for these entries, each cast in the first round of its place: the entries are those of the
+-- book and of the own pending vote, or the other desk's vote differed from one of them.
 pub record GoesWith (entries : List Entry) (seat : SeatState) (agreed : List Entry) : Type 0 where
   pub place : length agreed ≡ seat.position.place
   pub voted : ((seat.position.round ≡ 0) × (entries ≡ with_own agreed seat.mine))
       ⊎ ((seat.mine ≡ None) × (length agreed < length entries))
 
--- a desk that runs: its file holds the votes for these entries, and its seat and book go with them
+-- a running desk: its file holds the votes for these entries, and its seat and book match them
 pub record IsInTurn {Disk : Type 0} (view : FileView Disk) (entries : List Entry) (k : DeskState Disk) : Type 0 where
   pub running : k.failed ≡ false
   pub votes : k.votes ≡ votes_for entries
   pub held : Holds view k.disk (votes_for entries)
   pub goes : GoesWith entries k.seat k.book
 
--- why the stations don't agree line n, of which the table with this book would answer so
+-- why the stations don't agree line n, which a table with this book would answer so
 abbrev pub WhyNotAgreed : Result Entry Rejected → List Entry → ℕ → MatchFault → Type 0
 WhyNotAgreed answer book n (Line number why) = (number ≡ n) × (answer ≡ Err why)
 WhyNotAgreed answer book n (NotAgreed place) = place ≡ length book
 WhyNotAgreed answer book n Device = Unit {0}
 WhyNotAgreed answer book n _ = ⊥
 
--- a fault that ends a run after so many lines
+-- a fault that ends a run after this many lines
 abbrev pub EndsAfter : ℕ → MatchFault → Type 0
 EndsAfter n (Line number why) = number ≡ n + 1
 EndsAfter n (NotAgreed place) = place ≡ n
 EndsAfter n fault = Unit {0}
 
--- the fault of a run where a desk refuses to pen the entry of a line, at this place
+-- the fault of a run whose desk refuses to pen the entry of a line, at this place
 abbrev pub pen_fault : ℕ → ℕ → PenRefusal → MatchFault
 pen_fault number place PenRefusal.PlacesFull = Line number (Refused PlacesFull)
 pen_fault number place (PenRefusal.Book why) = Line number (Refused (Book why))
@@ -65,12 +65,12 @@ pen_fault number place PenRefusal.Device = Device
 pen_fault number place PenRefusal.Failed = Device
 pen_fault number place _ = NotAgreed place
 
--- The fault of a run where no desk is made on an empty disk: out of memory, or the disk's. No other refusal comes.
+-- The fault of a run that can't make a desk on an empty disk: no memory, or a failed disk. No other refusal comes.
 abbrev pub creation_fault : OpenRefusal → MatchFault
 creation_fault (OpenRefusal.Votes Refusal.NoMemory) = MatchFault.NoMemory
 creation_fault why = Device
 
--- the board as the definitions of its calls see it
+-- the state of a board, as the specs of its calls have it
 abbrev pub board_at : {B : Type 0} {b : Books B} → Board B b → BoardState
 board_at {b = b} k = boards.state_of b.content k
 
@@ -81,58 +81,58 @@ module _ {S B D : Type 0} {g : Files S D} {h : Disks D} {b : Books B} where
   abbrev pub innings_at : Desk S B D g h b → ℕ
   innings_at desk = b.innings_a_side (book_of desk)
 
-  -- it runs, with the votes for these entries
+  -- the desk runs, with the votes for these entries
   abbrev pub InTurn : List Entry → Desk S B D g h b → Type 0
   InTurn entries desk = IsInTurn (view_of desk) entries (state_of desk)
 
-  -- it runs, and no fault is due at its disk, which has room for the longest file
+  -- the desk runs, and no fault is due at its disk, which has room for the longest file
   pub record IsCalm (desk : Desk S B D g h b) : Type 0 where
     pub running : (state_of desk).failed ≡ false
     pub never : (h.faults (disk_of desk)).due ≡ Never
     pub room : (n : ℕ) → n ≤ most_votes → g.room n ≤ h.cap (disk_of desk)
 
-  -- it goes on with the same votes
+  -- the desk goes on with the same votes
   pub record KeepsTurn (old new : Desk S B D g h b) : Type 0 where
     pub turn : (entries : List Entry) → InTurn entries old → InTurn entries new
     pub calm : IsCalm old → IsCalm new
 
-  -- nothing was written to its disk
+  -- nothing was written to the desk's disk
   pub record KeepsDisk (old new : Desk S B D g h b) : Type 0 where
     pub owner : SameOwner old new
     pub disk : Stays h.seen h.images (disk_of old) (disk_of new)
 
-  -- its book has the entries that it has voted for
+  -- the desk's book has exactly the entries that it has voted for
   abbrev pub IsLevel : Desk S B D g h b → Type 0
   IsLevel desk = InTurn (book_at desk) desk
 
-  -- it takes this entry, and has voted for it
+  -- the desk takes this entry, and has voted for it
   pub record VotesFor (e : Entry) (old new : Desk S B D g h b) : Type 0 where
     pub taken : taking (innings_at old) (book_at old) e ≡ Ok e
     pub turn : InTurn (book_at old ++ e ∷ []) new
     pub calm : IsCalm old → IsCalm new
 
-  -- its disk holds just the votes for these entries; or for those
+  -- the desk's disk holds exactly the votes for book; or for more
   abbrev pub DiskHolds : Desk S B D g h b → List Entry → Type 0
   DiskHolds desk book = Holds (view_of desk) (disk_of desk) (votes_for book)
 
   abbrev pub DiskHoldsEither : Desk S B D g h b → List Entry → List Entry → Type 0
   DiskHoldsEither desk book more = HoldsEither (view_of desk) (disk_of desk) book more
 
-  -- what a desk's disk holds where this entry isn't penned
+  -- what a desk's disk holds if it refuses to pen this entry
   abbrev pub PenLeaves : Entry → MatchFault → Desk S B D g h b → Desk S B D g h b → Type 0
   PenLeaves e (Line number why) old new = DiskHolds new (book_at old)
   PenLeaves e Device old new =
       (taking (innings_at old) (book_at old) e ≡ Ok e) × DiskHoldsEither new (book_at old) (book_at old ++ e ∷ [])
   PenLeaves e fault old new = ⊥
 
-  -- what both disks hold where a line isn't agreed after this book, and it would be so with it
+  -- what both disks hold if a line isn't agreed: book is the book before it, more the book with it
   abbrev pub LineLeaves : List Entry → List Entry → MatchFault → Desk S B D g h b → Desk S B D g h b → Type 0
   LineLeaves book more (Line number why) a b' = DiskHolds a book × DiskHolds b' book
   LineLeaves book more (NotAgreed place) a b' = DiskHolds a more × DiskHolds b' more
   LineLeaves book more Device a b' = DiskHoldsEither a book more × DiskHoldsEither b' book more
   LineLeaves book more fault a b' = ⊥
 
-  -- what both disks hold where the lines of an input aren't agreed, in a match of so many innings
+  -- what both disks hold if the lines of an input aren't agreed, in a match of this many innings a side
   abbrev pub LinesLeave : ℕ → List ℕ → MatchFault → Desk S B D g h b → Desk S B D g h b → Type 0
   LinesLeave innings input Write a b' =
       DiskHolds a (entries_of_first (length (lines_of input)) innings input)
@@ -141,7 +141,7 @@ module _ {S B D : Type 0} {g : Files S D} {h : Disks D} {b : Books B} where
       (n : ℕ) × EndsAfter n fault
       × LineLeaves (entries_of_first n innings input) (entries_of_first (n + 1) innings input) fault a b'
 
-  -- both run on calm disks
+  -- both desks run on calm disks
   pub record AreCalm (a b' : Desk S B D g h b) : Type 0 where
     pub calm_a : IsCalm a
     pub calm_b : IsCalm b'
@@ -154,7 +154,7 @@ module _ {S B D : Type 0} {g : Files S D} {h : Disks D} {b : Books B} where
       → InTurn entries a → InTurn entries b' → game_of b' ≡ game_of a → boards.game_of k ≡ game_of a
       → IsOnline (game_of a) start entries before (board_at k) → IsOnline (game_of a) start entries after (board_at l)
 
-  -- both desks have agreed the same entries, of one match, and the board has as many
+  -- both desks have agreed the same entries of one match, and the board has no fewer
   pub record AreLevel (a b' : Desk S B D g h b) (k : Board B b) : Type 0 where
     pub is_a : desk_of a ≡ DeskId.A
     pub is_b : desk_of b' ≡ DeskId.B

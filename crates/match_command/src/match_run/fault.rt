@@ -8,7 +8,7 @@ use setup::StopFault;
 use std::alloc::AllocError;
 use vote_store::Refusal;
 
-/// Why `match` ends before its end.
+/// Why `match` ends early.
 #[derive(Clone, Copy)]
 pub enum MatchFault {
     /// Memory was refused.
@@ -19,9 +19,9 @@ pub enum MatchFault {
     Device,
     /// A disk has a file already.
     NotEmpty,
-    /// A pen line isn't taken. Lines are numbered from 1.
+    /// A pen line is refused. Lines are numbered from 1.
     Line { number: u64, why: Rejected },
-    /// The stations didn't agree this place in `TURNS` turns each.
+    /// The stations didn't agree this place within `TURNS` turns each.
     NotAgreed { place: u32 },
 }
 

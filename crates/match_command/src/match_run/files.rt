@@ -4,14 +4,14 @@ use setup::{StopFault, Stopped, VotesDisk, new_disk_at};
 use std::fs::{self, File};
 use std::io;
 
-/// How many bytes a votes file without a vote has at most: a header and a gate.
+/// The most bytes of a votes file without a vote: a header and a gate.
 const LONGEST_VOTELESS: u64 = 65;
 
 /// The votes file of one desk of a match.
 #[derive(Drop)]
 struct VotesFile {
     path: String,
-    /// Whether it was there before the match.
+    /// Whether the file was there before the match.
     was_there: bool,
 }
 
@@ -22,7 +22,7 @@ pub struct MatchFiles<'a> {
     b: VotesFile,
 }
 
-// one step for whoever lets it go, in place of one a part
+// one drop step for the whole value, instead of one for each part
 impl Drop for MatchFiles<'_> {
     fn drop(self) {
         let MatchFiles {
@@ -33,7 +33,7 @@ impl Drop for MatchFiles<'_> {
     }
 }
 
-/// The votes file of this name in a folder, which may not be there yet.
+/// Returns the votes file of this name in a folder, which may not be there yet.
 fn file_in<'a>(rt: &HostRuntime, folder: &'a str, name: &str) -> Result<VotesFile, Stopped<'a>> {
     match format!(in rt.alloc(); "{folder}/{name}") {
         Ok(path) => {
@@ -44,7 +44,7 @@ fn file_in<'a>(rt: &HostRuntime, folder: &'a str, name: &str) -> Result<VotesFil
     }
 }
 
-/// Takes away a file without a vote, unless another process has it to itself.
+/// Removes a file without a vote, unless another process has locked it.
 fn remove_voteless(rt: &HostRuntime, path: &str) -> io::Result<()> {
     let file = File::open(rt, path)?;
     file.try_lock()?;
@@ -55,7 +55,7 @@ fn remove_voteless(rt: &HostRuntime, path: &str) -> io::Result<()> {
 }
 
 impl VotesFile {
-    /// A disk on it, without a byte. It is made where there is none.
+    /// Opens the file as an empty disk, and makes the file if there is none.
     fn disk<'r, 'a>(
         &self,
         rt: &'r HostRuntime,
@@ -67,7 +67,7 @@ impl VotesFile {
         })
     }
 
-    /// Takes it away, where it wasn't there before and still has no vote.
+    /// Removes the file if it wasn't there before and still has no vote.
     fn take_back(&self, rt: &HostRuntime) {
         if !self.was_there {
             let _ = remove_voteless(rt, self.path.as_str());
@@ -76,7 +76,7 @@ impl VotesFile {
 }
 
 impl<'a> MatchFiles<'a> {
-    /// `a.votes` and `b.votes` in this folder. Neither is opened or made yet.
+    /// The files `a.votes` and `b.votes` in this folder. Neither is opened or made yet.
     pub fn in_folder(rt: &HostRuntime, folder: &'a str) -> Result<MatchFiles<'a>, Stopped<'a>> {
         Ok(MatchFiles {
             folder,
@@ -85,23 +85,23 @@ impl<'a> MatchFiles<'a> {
         })
     }
 
-    /// The folder that both are in.
+    /// Returns the folder that both files are in.
     pub fn folder(&self) -> &'a str {
         self.folder
     }
 
-    /// A disk on the file of desk A.
+    /// Opens the file of desk A as a disk.
     pub fn disk_a<'r>(&self, rt: &'r HostRuntime) -> Result<VotesDisk<'r>, Stopped<'a>> {
         self.a.disk(rt, self.folder)
     }
 
-    /// A disk on the file of desk B.
+    /// Opens the file of desk B as a disk.
     pub fn disk_b<'r>(&self, rt: &'r HostRuntime) -> Result<VotesDisk<'r>, Stopped<'a>> {
         self.b.disk(rt, self.folder)
     }
 
-    /// Takes away what a match that ended before its first vote has left: each file that wasn't there before and has no
-    /// vote. Both disks have to be closed.
+    /// Removes what a match that ended before its first vote has left: each file that wasn't there before and has no vote. Both
+    /// disks have to be closed.
     pub fn take_back(&self, rt: &HostRuntime) {
         self.a.take_back(rt);
         self.b.take_back(rt);

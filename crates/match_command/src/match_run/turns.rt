@@ -34,11 +34,10 @@ use setup::TURNS;
 use std::alloc::{AllocError, Global};
 use streams::{Sink, Watched, WriteFailed};
 
-/// How many milliseconds the stations of a `match` wait for a datagram.
-/// Over loopback it is there at once, or was dropped.
+/// How many milliseconds the stations of a `match` wait for a datagram. Over loopback it is there at once, or was dropped.
 const MATCH_DATAGRAM_WAIT: u64 = 10;
 
-/// Why no desk is made on an empty disk.
+/// Returns the fault of a run that can't make a desk on an empty disk.
 fn creation_fault(why: OpenRefusal) -> MatchFault
     ensures { result ≡ turns.creation_fault why }
 {
@@ -48,7 +47,7 @@ fn creation_fault(why: OpenRefusal) -> MatchFault
     }
 }
 
-/// A desk with a new file on an empty disk, and with an empty book.
+/// Makes a desk with a new file on an empty disk, and with an empty book.
 fn new_desk<D: Disk + Drop>(
     alloc: Global,
     game: u64,
@@ -66,7 +65,7 @@ fn new_desk<D: Disk + Drop>(
         (refused.0 ≡ MatchFault.NoMemory) ⊎ (refused.0 ≡ MatchFault.Device)) }
     ensures left { IfErr result (λ refused.
         StaysOrBegins D.seen D.images (room version_2 0) disk refused.1) }
-    // Out of memory, it leaves the disk as it was.
+    // If memory runs out, the disk is as it was.
     ensures stays { IfErr result (λ refused.
         refused.0 ≡ MatchFault.NoMemory → Stays D.seen D.images disk refused.1) }
     ensures blame { IsQuiet D.faults D.cap disk → IfErr result (λ refused. refused.0 ≢ MatchFault.Device) }
@@ -77,8 +76,8 @@ fn new_desk<D: Disk + Drop>(
     }
 }
 
-/// Why an entry of a line isn't penned. A desk that waits, or has used up its rounds or slots, can't agree the
-/// place.
+/// Returns the fault of a run whose desk refuses to pen the entry of a line. A desk that waits, or that has used up its rounds
+/// or slots, can't agree the place.
 fn pen_fault(number: u64, place: u32, why: desk::Refusal) -> MatchFault
     ensures { result ≡ turns.pen_fault number place why }
 {
@@ -120,7 +119,7 @@ fn pen<S: SlotsOf>(
     }
 }
 
-/// A desk takes bytes that came, and sends its reply.
+/// Has a desk take the bytes of a datagram, and send its reply.
 fn reply<S: SlotsOf, L: Link>(
     desk: &mut Desk<S, CheckedBook>,
     bytes: &[u8],
@@ -140,7 +139,7 @@ fn reply<S: SlotsOf, L: Link>(
     }
 }
 
-/// A desk takes the next datagram. It answers whether another may come.
+/// Has a desk take the next datagram, and returns whether another may come.
 fn take_next<S: SlotsOf, L: Link>(
     desk: &mut Desk<S, CheckedBook>,
     link: &mut L,
@@ -163,7 +162,7 @@ fn take_next<S: SlotsOf, L: Link>(
     }
 }
 
-/// A desk's turn: it sends what it says unasked, and takes what came.
+/// A desk's turn: it sends its unasked messages, and takes the datagrams that came.
 fn desk_turn<S: SlotsOf, L: SharedLink>(
     desk: &mut Desk<S, CheckedBook>,
     at: Asker,
@@ -186,7 +185,7 @@ fn desk_turn<S: SlotsOf, L: SharedLink>(
     Ok(())
 }
 
-/// The board takes the next datagram. It answers whether another may come. Votes that are no legal book are ignored.
+/// Has the board take the next datagram, and returns whether another may come. Votes that make no legal book are ignored.
 fn board_next<L: Link>(board: &mut Board<CheckedBook>, link: &mut L) -> bool
     ensures same { SameMatch (λ book. book.innings_a_side) board.old board.new }
     ensures online { (start : List Passed) (entries : List Entry) →
@@ -204,7 +203,7 @@ fn board_next<L: Link>(board: &mut Board<CheckedBook>, link: &mut L) -> bool
     }
 }
 
-/// The board's turn: it asks, and takes what came.
+/// The board's turn: it asks, and takes the datagrams that came.
 fn board_turn<L: SharedLink>(board: &mut Board<CheckedBook>, link: &mut L)
     ensures same { SameMatch (λ book. book.innings_a_side) board.old board.new }
     ensures online { (start : List Passed) (entries : List Entry) →
@@ -228,7 +227,7 @@ pub struct Stations<S: SlotsOf> {
     board: Board<CheckedBook>,
 }
 
-/// Two empty books, and one for a board.
+/// Makes two empty books for the desks, and one for the board.
 fn empty_books(
     alloc: Global,
     innings: u32,
@@ -244,7 +243,7 @@ fn empty_books(
     Ok((a, b, board))
 }
 
-/// Both desks with new files on empty disks, and an empty board. A refusal hands both disks back.
+/// Makes both desks with new files on empty disks, and an empty board. A refusal hands both disks back.
 pub fn new_stations<D: Disk + Drop>(
     alloc: Global,
     sheet: &MatchSheet,
@@ -377,7 +376,7 @@ impl<S: SlotsOf> Stations<S> {
         out.flush()
     }
 
-    /// The disks of desks A and B.
+    /// Returns the disks of desks A and B.
     pub fn into_disks(self) -> (S::Disk, S::Disk)
         ensures a { result.0 ≡ disk_of self.a }
         ensures b { result.1 ≡ disk_of self.b }

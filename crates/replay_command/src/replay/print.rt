@@ -17,7 +17,7 @@ use schedule_replay::{AnyDesk, Seen, World};
 use std::alloc::{AllocError, Global};
 use streams::{Sink, Watched, WriteFailed};
 
-/// Prints what the event of this number is answered.
+/// Prints the answer to the event of this number.
 fn print_event<W: Sink>(out: &mut Watched<W>, number: usize, seen: &Seen) -> Result<(), WriteFailed>
     ensures text { OnOk result (Prints W.contents out.old out.new (texts.event_line number seen.now)) }
     ensures failed { TellsFailure result out.old out.new }
@@ -25,7 +25,7 @@ fn print_event<W: Sink>(out: &mut Watched<W>, number: usize, seen: &Seen) -> Res
     writeln!(out, "{number} {seen}")
 }
 
-/// Prints a line for what each event is answered, numbered from 1.
+/// Prints a line for the answer to each event, numbered from 1.
 fn print_events<W: Sink>(out: &mut Watched<W>, outcomes: &[Seen]) -> Result<(), WriteFailed>
     ensures text { OnOk result (Prints W.contents out.old out.new (texts.event_lines outcomes.now)) }
     ensures failed { TellsFailure result out.old out.new }
@@ -36,7 +36,7 @@ fn print_events<W: Sink>(out: &mut Watched<W>, outcomes: &[Seen]) -> Result<(), 
     Ok(())
 }
 
-/// Prints how many entries a book has, and the score of the innings begun last.
+/// Prints how many entries a book has, and the score of the innings that began last.
 fn print_book<W: Sink>(out: &mut Watched<W>, entries: u32, score: &Match) -> Result<(), WriteFailed>
     ensures text { ForEachHistory score.now (λ n h.
         OnOk result (Prints W.contents out.old out.new (texts.book_words entries h))) }
@@ -51,7 +51,7 @@ fn print_book<W: Sink>(out: &mut Watched<W>, entries: u32, score: &Match) -> Res
     writeln!(out, " {entries} {runs} for {wickets}")
 }
 
-/// Prints the line of a desk, which is there if it runs.
+/// Prints the line of a desk, which is `None` if it is down.
 fn print_desk<W: Sink>(
     out: &mut Watched<W>,
     name: &str,
@@ -70,7 +70,7 @@ fn print_desk<W: Sink>(
     }
 }
 
-/// Prints the line of a board of this number.
+/// Prints the line of the board of this number.
 fn print_board<W: Sink>(
     out: &mut Watched<W>,
     number: usize,
@@ -119,7 +119,7 @@ fn print_agreed<W: Sink>(out: &mut Watched<W>, entries: usize) -> Result<(), Wri
     writeln!(out, "agreed {entries}")
 }
 
-/// Prints with which number a world refuses an event.
+/// Prints the number with which a world refuses an event.
 fn print_refusal<W: Sink>(out: &mut Watched<W>, event: u64, why: u8) -> Result<(), WriteFailed>
     ensures text { OnOk result (Prints W.contents out.old out.new (texts.refusal_line event why)) }
     ensures failed { TellsFailure result out.old out.new }
@@ -127,7 +127,7 @@ fn print_refusal<W: Sink>(out: &mut Watched<W>, event: u64, why: u8) -> Result<(
     writeln!(out, "{event} world refused {why}")
 }
 
-/// The lines of both desks and the boards of a world, as text.
+/// Returns the lines of both desks and the boards of a world.
 pub fn stations_text(alloc: Global, world: &World) -> Result<String, AllocError>
     ensures { IfOk result (λ text. (w : Configuration MemDisk) → HasConfiguration world.now w →
         string_bytes text ≡ texts.station_lines w) }
@@ -143,8 +143,8 @@ pub fn stations_text(alloc: Global, world: &World) -> Result<String, AllocError>
     }
 }
 
-/// Prints what a world answered the events of a whole schedule, how many entries are agreed, and the lines of the stations.
-/// It fails only where a write fails; how much was written then isn't said.
+/// Prints the answers to all events of a schedule, how many entries are agreed, and the lines of the stations. Fails only if a
+/// write fails; how much was written then isn't said.
 pub fn print_whole<W: Sink>(
     out: &mut Watched<W>,
     outcomes: &[Seen],
@@ -162,7 +162,7 @@ pub fn print_whole<W: Sink>(
     out.flush()
 }
 
-/// Prints what a world answered the first events of a schedule, and with which number it refuses the next event.
+/// Prints the answers to the first events of a schedule, and the number with which the world refuses the next event.
 pub fn print_refused<W: Sink>(
     out: &mut Watched<W>,
     outcomes: &[Seen],

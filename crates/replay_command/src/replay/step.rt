@@ -1,4 +1,4 @@
-//! The events of a schedule in a world.
+//! Running the events of a schedule in a world.
 
 ghost use Rattle.std.specs.Prelude.{◌≤◌, All, IfOk};
 ghost use Rattle.schedule_replay.specs.CodeWorlds.{BeginsWorld};
@@ -10,17 +10,16 @@ use headline::{Event, FileVersion};
 use schedule_replay::{Seen, World};
 use std::alloc::{AllocError, Global};
 
-/// What came of the events of a schedule.
+/// How the events of a schedule ran.
 #[derive(Drop)]
 pub enum Stepped {
-    /// The world took them all: their answers, and the world then.
+    /// The world took all events: their answers, and the world after them.
     Whole(Vec<Seen>, World),
-    /// The answers of the first ones, the number of the event that the world refuses, counted from 1, and the
-    /// number why.
+    /// The world refused an event: the answers of those before it, its number, counted from 1, and the number of the refusal.
     Refused(Vec<Seen>, u64, u8),
 }
 
-/// A new world for the match of a sheet, on files of this version.
+/// Makes a new world for the match of a sheet, on files of this version.
 fn begin(
     alloc: Global,
     sheet: &MatchSheet,
@@ -36,7 +35,7 @@ fn begin(
     }
 }
 
-/// Runs the events in a new world, up to the first that it refuses.
+/// Runs the events in a new world, up to the first that the world refuses.
 pub fn step_all(
     alloc: Global,
     sheet: &MatchSheet,

@@ -1,22 +1,22 @@
--- The fault of a run over a file of which no disk is made.
+-- The fault of a run that can't open a file as a disk.
 use Rattle.vote_store.specs.Refusal.{not_empty}
 use Rattle.machine_files.specs.declared.file_disk.OpenFault.{OpenFault}
 use Rattle.machine_files.specs.declared.file_disk.OpenFault.TheVariants.{NoMemory, Host, TooLong}
 use Rattle.setup.specs.declared.fault.StopFault.{StopFault}
 
--- where the file is to be read
+-- a file that is to be read
 abbrev pub fault_of_old : OpenFault → StopFault
 fault_of_old NoMemory = StopFault.NoMemory
 fault_of_old Host = StopFault.Read
 fault_of_old TooLong = StopFault.Read
 
--- and where a file without a byte is wanted: one that is too long isn't empty
+-- a file that has to be empty: one that is too long isn't
 abbrev pub fault_of_new : OpenFault → StopFault
 fault_of_new NoMemory = StopFault.NoMemory
 fault_of_new Host = StopFault.Write
 fault_of_new TooLong = StopFault.Votes not_empty
 
--- and where it is to be written anew
+-- a file that is to be written anew
 abbrev pub fault_of_copy : OpenFault → StopFault
 fault_of_copy NoMemory = StopFault.NoMemory
 fault_of_copy Host = StopFault.Write

@@ -9,7 +9,7 @@ use Rattle.setup.specs.Fault.{of_sheet}
 use Rattle.setup.specs.SheetText.{Tells}
 use Rattle.setup.proofs.sheet.sheet_run.Goals as goal
 
--- what is read of a sheet that is refused, but for being out of memory
+-- what the bytes of a refused sheet are read as, unless memory ran out
 abbrev IsRead : List ℕ → SheetFault → Type 0
 IsRead bytes why = (◌≡◌ {A = Result Sheet SheetFault} (Err why) (Err SheetFault.NoMemory) → ⊥) → IsReading bytes (Err why)
 

@@ -4,7 +4,7 @@ use Rattle.toml.specs.Data.{Members, get_member}
 use Rattle.station_table.specs.Stations.{DifferInStations}
 use Rattle.station_table.proofs.laws.stations_are_not_of_the_sheet.Goals as goal
 
--- a key of another length is another one
+-- a key of another length is not "stations"
 same : (key : List ℕ) (ms ns : Members) → DifferInStations ms ns → (length key ≡ 8 → ⊥) → get_member key ms ≡ get_member key ns
 same key ms ns alike other = alike key (λ e. other (ap length e))
 

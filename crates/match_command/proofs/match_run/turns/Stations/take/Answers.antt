@@ -18,7 +18,7 @@ more : (g : Over) (c : In_ok-pen g)
     → with_taken (answer_to (innings_at c.args.self.now.a) (book_at c.args.self.now.a) c.args.line.now) (book_at c.args.self.now.a) ≡ book_at c.args.self.now.a ++ c.in-Ok.entry ∷ []
 more g c = let v = voted g c in rw (← c.in-Ok.ensures.exact, v.taken) refl
 
--- both have penned it, and all three stations have agreed it
+-- both desks have penned the entry, and all three stations have agreed it
 all_agreed : (g : Over) (c : After-agree g) → OnOk c.agree.result (Agreed c.args.self.now.a c.args.self.now.b c.agree.new.self.a c.agree.new.self.b c.args.self.now.board c.agree.new.self.board
     c.in-Ok.entry (g.L.Link.log c.args.link.now) (g.L.Link.log c.agree.new.link))
 all_agreed g c =
