@@ -1,4 +1,4 @@
--- What is cast was typed, once and in order.
+-- What is cast was typed, each line once and in order.
 use Rattle.std.proofs.Common.{◌≡◌, ◌+◌, ◌-◌, ◌==◌, ◌&&◌, ◌||◌, ℕ, zero, suc, Bool, true, false, List, [], ◌∷◌, ◌++◌, arith, refl, sym, ap, ◌∙◌, subst, inl, inr}
 use Rattle.std.proofs.Common.{append-nil, append_assoc, drop, length, nat_lt, take}
 use Rattle.std.proofs.lemmas.Bool.Decides.{nat_tests}
@@ -98,7 +98,7 @@ lines_more [] ys = refl
 lines_more (Line line ∷ xs) ys = ap (λ (zs : List (List ℕ)). line ∷ zs) (lines_more xs ys)
 lines_more (End ∷ xs) ys = lines_more xs ys
 
--- ---- what was kept was typed
+-- ---- the kept lines were typed
 
 among_typed : (kept : List (List ℕ)) (typed more : List Input) → AreAmong kept (lines_of typed ++ lines_of more) → AreAmong kept (lines_of (typed ++ more))
 among_typed kept typed more h = subst (λ (ys : List (List ℕ)). AreAmong kept ys) (sym (lines_more typed more)) h
@@ -133,13 +133,13 @@ kept_typed (logs.Stopped' marker before) = typed_more (kept_of before) (typed_of
 kept_typed (logs.Quit' marker before) = kept_typed before
 kept_typed (logs.Ended' marker before) = kept_typed before
 
--- a line is handed on at once
+-- a line is given at once
 pub passes : (before : AheadLog) (may : Bool) → is_ordered before ≡ true → (may ≡ true → held_of before ≡ [])
     → (is_ordered before && (not may || (length (held_of before) == 0))) ≡ true
 passes before true ordered none = rw (ordered, none refl) refl
 passes before false ordered none = rw ordered refl
 
--- ---- what was given was kept: what was kept ends in what is held, and what stands before that has what was given
+-- ---- the given lines were kept: the kept lines end in the held ones, and those before them contain the given ones
 
 pub casting_more : (xs ys : List Input) → casting (xs ++ ys) ≡ casting xs ++ casting ys
 casting_more [] ys = refl
@@ -148,7 +148,7 @@ casting_more (Line line ∷ xs) ys =
     ∙ sym (append_assoc (if may_cast line then line ∷ [] else []) (casting xs) (casting ys))
 casting_more (End ∷ xs) ys = casting_more xs ys
 
--- the desk may cast a vote for each of these lines
+-- the desk may cast each of these lines
 abbrev AllMay : List ArrayString → Type 0
 AllMay [] = ⊤
 AllMay (line ∷ lines) = (may_cast line.bytes ≡ true) × AllMay lines
@@ -228,7 +228,7 @@ all_dropped given kept held f = record {
   may = tt;
 }
 
--- the same of the inputs that were given
+-- the same for the inputs that were given
 more_given : (xs ys : List Input) (kept : List (List ℕ)) (held : List ArrayString) → Fronted (casting xs ++ casting ys) kept held
     → Fronted (casting (xs ++ ys)) kept held
 more_given xs ys kept held f = subst (λ (given : List (List ℕ)). Fronted given kept held) (sym (casting_more xs ys)) f

@@ -1,4 +1,4 @@
--- What becomes of the lines that were typed.
+-- What becomes of typed lines.
 use Rattle.std.specs.Prelude.{◌-◌, ◌==◌, ◌&&◌, ◌||◌, ℕ, Bool, true, nat_lt, not, List, [], ◌∷◌, ◌++◌, Option, None, Some, codes, drop, if◌then◌else◌, length, take}
 use Rattle.arrayvec.specs.ArrayString.{ArrayString}
 use Rattle.links.specs.Typing.{Input, Line, End}
@@ -8,7 +8,7 @@ use Rattle.ahead.specs.declared.handed.Handed.{Handed}
 use Rattle.ahead.specs.Sorts.{is_entry, is_undo, may_cast}
 use Rattle.ahead.specs.Undoing.{handed_behind}
 
--- all that was typed, the oldest first
+-- all that was typed, oldest first
 abbrev pub typed_of : AheadLog → List Input
 typed_of logs.Empty = []
 typed_of (logs.Passed' marker before buffer count) = typed_of before ++ Line (take count.value buffer.value) ∷ []
@@ -23,7 +23,7 @@ typed_of (logs.Stopped' marker before) = typed_of before ++ End ∷ []
 typed_of (logs.Quit' marker before) = typed_of before
 typed_of (logs.Ended' marker before) = typed_of before
 
--- the lines that are held, the oldest first
+-- the held lines, oldest first
 abbrev pub held_of : AheadLog → List ArrayString
 held_of logs.Empty = []
 held_of (logs.Passed' marker before buffer count) = held_of before
@@ -38,7 +38,7 @@ held_of (logs.Stopped' marker before) = held_of before
 held_of (logs.Quit' marker before) = held_of before
 held_of (logs.Ended' marker before) = held_of before
 
--- the line for which the desk may cast a vote that it was given last, where that was held before
+-- the held line that the desk was given, if it is the last line that the desk may cast
 abbrev pub handed_of : AheadLog → Option Handed
 handed_of logs.Empty = None
 handed_of (logs.Passed' marker before buffer count) = handed_behind (handed_of before) (take count.value buffer.value)
@@ -53,7 +53,7 @@ handed_of (logs.Stopped' marker before) = handed_of before
 handed_of (logs.Quit' marker before) = handed_of before
 handed_of (logs.Ended' marker before) = handed_of before
 
--- the lines that were dropped as they were typed, and weren't told yet
+-- the lines that were dropped when typed and that the scorer wasn't told of yet
 abbrev pub lost_of : AheadLog → List ArrayString
 lost_of logs.Empty = []
 lost_of (logs.Passed' marker before buffer count) = lost_of before
@@ -68,7 +68,7 @@ lost_of (logs.Stopped' marker before) = lost_of before
 lost_of (logs.Quit' marker before) = lost_of before
 lost_of (logs.Ended' marker before) = lost_of before
 
--- the lines of which it was told that they are dropped, in the order of that
+-- the dropped lines that the scorer was told of, in the order of telling
 abbrev pub dropped_of : AheadLog → List ArrayString
 dropped_of logs.Empty = []
 dropped_of (logs.Passed' marker before buffer count) = dropped_of before
@@ -83,12 +83,12 @@ dropped_of (logs.Stopped' marker before) = dropped_of before
 dropped_of (logs.Quit' marker before) = dropped_of before
 dropped_of (logs.Ended' marker before) = dropped_of before
 
--- the oldest of lines that are held, as the desk is given it
+-- the oldest held line, as the desk is given it
 abbrev pub oldest : List ArrayString → List Input
 oldest [] = []
 oldest (line ∷ lines) = Line line.bytes ∷ []
 
--- what the desk was given, the oldest first
+-- what the desk was given, oldest first
 abbrev pub given_of : AheadLog → List Input
 given_of logs.Empty = []
 given_of (logs.Passed' marker before buffer count) = given_of before ++ Line (take count.value buffer.value) ∷ []
@@ -107,7 +107,7 @@ abbrev pub bytes_of : List ArrayString → List (List ℕ)
 bytes_of [] = []
 bytes_of (line ∷ lines) = line.bytes ∷ bytes_of lines
 
--- the lines for which the desk may cast a vote
+-- the lines that the desk may cast
 abbrev pub casting : List Input → List (List ℕ)
 casting [] = []
 casting (Line line ∷ inputs) = (if may_cast line then line ∷ [] else []) ++ casting inputs
@@ -117,8 +117,8 @@ casting (End ∷ inputs) = casting inputs
 abbrev pub but_newest : {X : Type 0} → List X → List X
 but_newest lines = take (length lines - 1) lines
 
--- the lines typed for which the desk may cast a vote, and that it was given at once, or that were held, without those that
--- were taken back, the oldest first
+-- the typed lines that the desk may cast and was given at once,
+-- and those that were held, without those taken back; oldest first
 abbrev pub kept_of : AheadLog → List (List ℕ)
 kept_of logs.Empty = []
 kept_of (logs.Passed' marker before buffer count) = kept_of before ++ casting (Line (take count.value buffer.value) ∷ [])
@@ -133,8 +133,8 @@ kept_of (logs.Stopped' marker before) = kept_of before
 kept_of (logs.Quit' marker before) = kept_of before
 kept_of (logs.Ended' marker before) = kept_of before
 
--- A line for which the desk may cast a vote is handed on at once only where none is held; only a line that may be an entry's
--- is held; and one is taken back only where one is held, by `undo`.
+-- A typed line that the desk may cast is given at once only if none is held; only a line that may be an entry's is held; and
+-- a line is taken back only if one is held, by `undo`.
 abbrev pub is_ordered : AheadLog → Bool
 is_ordered logs.Empty = true
 is_ordered (logs.Passed' marker before buffer count) =

@@ -1,4 +1,4 @@
--- When lines that are held are dropped, and what rows tell of lines.
+-- When held lines are dropped, and what rows report of lines.
 use Rattle.std.specs.Prelude.{◌≡◌, ◌⊎◌, ◌&&◌, ◌==◌, ◌++◌, ℕ, Bool, false, not, nat_lt, drop, Option, None, Some, List, [], ◌∷◌}
 use Rattle.arrayvec.specs.ArrayString.{ArrayString}
 use Rattle.links.specs.declared.{aside.Aside.Aside, keys.Typed.Typed, stand.Stand.Stand}
@@ -8,18 +8,18 @@ use Rattle.ahead.specs.Ahead.{given_of, handed_of, held_of, oldest}
 use Rattle.ahead.specs.Undoing.{handed_at}
 use Rattle.ahead.specs.Sorts.{may_cast}
 
--- the two scorers differed since the desk was seen last: it stands at the same place in a later round
+-- the two scorers have differed since the desk was last seen: it stands at the same place in a later round
 abbrev pub differs_since : Option Stand → Stand → Bool
 differs_since None at = false
 differs_since (Some seen) at = (at.place == seen.place) && nat_lt seen.round at.round
 
--- the desk was given a line for which it may cast a vote, and stands where it stood without one: it cast none for it
+-- the desk was given a line that it may cast, and stands where it stood, without a vote: it didn't cast the line
 abbrev pub is_not_taken : Option Tried → Stand → Bool
 is_not_taken None at = false
 is_not_taken (Some tried) at =
     (at.place == tried.place) && ((at.round == tried.round) && (not at.has_voted && may_cast tried.line.bytes))
 
--- the lines of which a row tells that they are dropped
+-- the lines that a row reports as dropped
 abbrev pub dropped : Aside → List ArrayString
 dropped (Aside.Dropped lines) = lines.items
 dropped (Aside.NotTaken place line lines) = lines.items
@@ -33,21 +33,21 @@ abbrev pub dropped_by : Typed → List ArrayString
 dropped_by (Typed.Aside aside) = dropped aside
 dropped_by typed = []
 
--- the line of which a row tells that it is held
+-- the line that a row reports as held
 abbrev pub held_by : Typed → List ArrayString
 held_by (Typed.Aside (Aside.Held place line)) = line ∷ []
 held_by typed = []
 
--- the line of which a row tells that it is taken back
+-- the line that a row reports as taken back
 abbrev pub taken_back_by : Typed → List ArrayString
 taken_back_by (Typed.Aside (Aside.TakenBack place line)) = line ∷ []
 taken_back_by typed = []
 
--- a row tells of no line that it is held, nor that it is taken back
+-- the row reports no line as held or as taken back
 abbrev pub HoldsNone : Aside → Type 0
 HoldsNone aside = (held_by (Typed.Aside aside) ≡ []) × (taken_back_by (Typed.Aside aside) ≡ [])
 
--- None that was held is dropped by a desk that stands so, as its clock shows this: all are held still, or all but the oldest,
+-- The desk stands at `at` and its clock shows `now`: no held line is dropped. All are held still, or all but the oldest,
 -- which the desk is given, and that is noted.
 abbrev pub Keeps : Stand → ℕ → AheadLog → AheadLog → Type 0
 Keeps at now before after =

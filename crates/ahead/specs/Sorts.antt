@@ -1,4 +1,4 @@
--- What a line that was typed is to those that are held.
+-- What a typed line means for the held lines.
 use Rattle.std.specs.Prelude.{◌||◌, ℕ, Bool, true, false, List, Option, None, Some, bytes_eq, codes, if◌then◌else◌, take}
 use Rattle.screen.specs.Words.{is_end, trimmed, word_of}
 use Rattle.screen.specs.declared.word.Word.{Word}
@@ -7,7 +7,7 @@ use Rattle.ahead.specs.declared.taking.Sort.{Sort}
 abbrev pub says_again : List ℕ → Bool
 says_again line = bytes_eq line (codes "again") || bytes_eq (codes "again ") (take 6 line)
 
--- a word that writes nothing, or any other line
+-- the sort of a word that writes no entry, or of any other line
 abbrev pub by_word : Option Word → Sort
 by_word None = Sort.Entry
 by_word (Some Word.Where) = Sort.Lists
@@ -20,7 +20,7 @@ sort_of line =
     else if says_again line then Sort.Again
     else by_word (word_of line)
 
--- the desk may cast a vote for such a line
+-- the desk may cast a line of this sort
 abbrev pub casts : Sort → Bool
 casts Sort.Quit = false
 casts Sort.Lists = false
@@ -30,7 +30,7 @@ casts sort = true
 abbrev pub may_cast : List ℕ → Bool
 may_cast line = casts (sort_of line)
 
--- it may be an entry's line: only such a line is held
+-- a line of this sort may be an entry's: only such a line is held
 abbrev pub is_entrys : Sort → Bool
 is_entrys Sort.Entry = true
 is_entrys sort = false
@@ -38,7 +38,7 @@ is_entrys sort = false
 abbrev pub is_entry : List ℕ → Bool
 is_entry line = is_entrys (sort_of line)
 
--- it takes a line back
+-- a line of this sort takes a line back
 abbrev pub takes_back : Sort → Bool
 takes_back Sort.Undo = true
 takes_back sort = false

@@ -1,4 +1,4 @@
-//! What holds of all lines that are typed. The function does nothing: it stands for the law that it ensures.
+//! What holds of all typed lines. The function does nothing: it stands for the law that it ensures.
 
 ghost use Rattle.std.specs.Prelude.{◌≡◌};
 ghost use Rattle.ahead.specs.Ahead.{typed_of};
@@ -7,8 +7,8 @@ ghost use Rattle.ahead.specs.Order.{CastsInOrder};
 use crate::taking::Ahead;
 use links::{Clock, Keys};
 
-/// The lines that the desk was given and for which it may cast a vote are lines that the keyboard gave and that weren't taken
-/// back, each at most once and in their order, and those that are held come behind them.
+/// The lines that the desk was given and may cast, followed by the held lines, are lines that were typed and weren't taken
+/// back, each at most once and in their order.
 pub fn what_is_cast_was_typed<K: Keys, C: Clock>(_ahead: &Ahead<K, C>)
     ensures order { CastsInOrder ((_ahead.now).queue).log }
     ensures typed { K.inputs (_ahead.now).keys ≡ typed_of ((_ahead.now).queue).log }

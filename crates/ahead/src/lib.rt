@@ -1,5 +1,5 @@
-//! Lines that a scorer types ahead: those that are typed while the desk's vote is pending are held, and the desk is given them
-//! one after the other, each once the place of the one before it is agreed.
+//! Lines that a scorer types ahead. A line typed while the desk's vote is pending is held; the desk is given the held lines
+//! one by one, each once the place of the one before it is agreed.
 #![tactic(auto)]
 
 mod handed;

@@ -1,18 +1,18 @@
-//! Lines that are held, and their places.
+//! Copies of held lines, and their places.
 
 ghost use Rattle.std.specs.Prelude.{◌≡◌, ◌≤◌, length, take};
 
 use arrayvec::ArrayVec;
 use links::{HeldLines, LineBuffer, Stand};
 
-/// The place of a line of which so many are held before it.
+/// Returns the place of a line with `held` lines held before it.
 pub fn place_behind(at: Stand, held: usize) -> u32 {
     let pending = u32::from(at.has_voted);
     let ahead = u32::try_from(held).unwrap_or(u32::MAX);
     at.place.saturating_add(pending).saturating_add(ahead)
 }
 
-/// Puts a line into the front of a buffer, and tells its length.
+/// Copies a text to the front of a buffer, and returns its length.
 pub fn put(text: &str, buffer: &mut LineBuffer) -> usize
     requires { length text.now ≤ 128 }
     ensures count { result ≤ 128 }
@@ -24,7 +24,7 @@ pub fn put(text: &str, buffer: &mut LineBuffer) -> usize
     count
 }
 
-/// The same lines.
+/// Returns a copy of the lines.
 pub fn copied(lines: &HeldLines) -> HeldLines
     ensures { result.items ≡ lines.now.items }
 {

@@ -1,4 +1,4 @@
-//! The lines that are held, and what is due of them.
+//! The held lines, and what is due next.
 
 ghost use Rattle.std.specs.Prelude.{◌≡◌, ◌<◌, ◌++◌, [], IfNone, None, false, length, true};
 ghost use Rattle.links.specs.Typing.{IsTyped};
@@ -12,30 +12,31 @@ use crate::tried::{Tried, differs_since, is_not_taken};
 use arrayvec::ArrayVec;
 use links::{Aside, HeldLines, LineBuffer, Stand, Typed};
 
-/// What the desk is given once all that is dropped is told.
+/// What the desk is given once the scorer was told of all dropped lines.
 #[derive(Clone, Copy)]
 pub enum Last {
     /// `quit`.
     Quit,
-    /// That there are no more lines.
+    /// The end of the lines.
     End,
 }
 
-/// The lines that are held, and what is done with the next one.
+/// The held lines, and what happens to the next one.
 #[derive(Drop)]
 pub struct Queue {
     pub(crate) held: HeldLines,
-    /// Those that were dropped as they were typed, and weren't told yet.
+    /// The lines that were dropped when typed and that the scorer wasn't told of yet.
     pub(crate) lost: HeldLines,
-    /// The line that the desk was given last, until it is seen what that came to.
+    /// The line that the desk was given last, until it is seen whether the desk cast it.
     pub(crate) tried: Option<Tried>,
-    /// The line for which the desk may cast a vote that it was given last, where that was held.
+    /// The held line that the desk was given, if it is the last line that the desk may cast.
     pub(crate) handed: Option<Handed>,
-    /// Where the desk stood last.
+    /// Where the desk was last seen to stand.
     pub(crate) seen: Option<Stand>,
-    /// Whether what is typed is dropped, until nothing more is, or `again`: it was typed before it was told why.
+    /// Whether typed lines are dropped, as they were typed before
+    /// the scorer was told why; until a pause in typing or `again`.
     pub(crate) is_deaf: bool,
-    /// Whether the lines that are held are shown.
+    /// Whether the held lines are to be shown.
     pub(crate) lists: bool,
     pub(crate) last: Option<Last>,
     pub(crate) log: AheadLog,
@@ -46,7 +47,7 @@ pub struct Queue {
 }
 
 impl Queue {
-    /// Of which nothing was typed yet.
+    /// Returns an empty queue, of which nothing was typed yet.
     pub fn new() -> Queue
         ensures given { given_of result.log ≡ [] }
         ensures typed { typed_of result.log ≡ [] }
@@ -73,7 +74,7 @@ impl Queue {
             || !self.lost.is_empty()
     }
 
-    /// Drops all lines that are held.
+    /// Drops all held lines, and returns them.
     fn drop_all(&mut self) -> HeldLines
         ensures lines { result.items ≡ held_of self.old.log }
         ensures lost { lost_of self.new.log ≡ lost_of self.old.log }
@@ -88,7 +89,7 @@ impl Queue {
         self.held.take()
     }
 
-    /// Drops all lines that are held, and tells of those that were dropped as they were typed and weren't told.
+    /// Drops all held lines, and returns them and the lines dropped when typed that the scorer wasn't told of.
     pub fn drop_rest(&mut self) -> (HeldLines, HeldLines)
         ensures held { (result.0).items ≡ held_of self.old.log }
         ensures lost { (result.1).items ≡ lost_of self.old.log }
@@ -102,7 +103,8 @@ impl Queue {
         (held, self.lost.take())
     }
 
-    /// Drops all lines that are held, and what is typed until that is told; and tells it, behind a line that wasn't taken.
+    /// Drops all held lines, and the lines typed until the scorer is told. Returns the row that tells him, with the line
+    /// that wasn't taken if that was a held one.
     fn drop_behind(&mut self, tried: Option<Tried>) -> Aside
         ensures row { dropped result ≡ held_of self.old.log }
         ensures held { held_of self.new.log ≡ [] }
@@ -120,8 +122,8 @@ impl Queue {
         }
     }
 
-    /// What became of the line that the desk was given last. Where it wasn't taken, and where the two scorers differ, all that
-    /// are held are dropped, and told in one row.
+    /// Checks what became of the line that the desk was given last. If it wasn't taken, or if the two scorers differ, drops
+    /// all held lines and returns one row about them.
     fn settle(&mut self, at: Stand) -> Option<Aside>
         ensures differs { differs_since self.old.seen at ≡ true
             → (held_of self.new.log ≡ []) × (dropped_in result ≡ held_of self.old.log) }
@@ -149,7 +151,7 @@ impl Queue {
         None
     }
 
-    /// Tells the lines that were dropped as they were typed, once no more are, or as many as there is room for.
+    /// Returns a row with the lines dropped when typed, once no more are dropped or there is no room for more.
     fn tell_lost(&mut self) -> Option<Aside>
         ensures room { IfNone result (length (lost_of self.new.log) < 24) }
         ensures held { held_of self.new.log ≡ held_of self.old.log }
@@ -169,7 +171,7 @@ impl Queue {
         Some(Aside::Dropped(self.lost.take()))
     }
 
-    /// Shows the lines that are held, where that is asked.
+    /// Returns a row with the held lines, if the scorer asked for them.
     fn show(&mut self, at: Stand) -> Option<Aside>
         ensures same { self.new.log ≡ self.old.log }
         ensures row { dropped_in result ≡ [] }
@@ -184,7 +186,7 @@ impl Queue {
         Some(Aside::Holds(place_behind(at, 0), copied(&self.held)))
     }
 
-    /// Gives the desk the oldest line held.
+    /// Gives the desk the oldest held line.
     fn hand_on(&mut self, at: Stand, now: u64, buffer: &mut LineBuffer) -> Typed
         requires { at.has_voted ≡ false }
         ensures given { IsTyped result buffer.new (given_of self.old.log) (given_of self.new.log) }
@@ -215,7 +217,7 @@ impl Queue {
         }
     }
 
-    /// Drops and tells all that are held, and then gives the desk what ends it.
+    /// Drops the held lines and returns a row with them; if none is held, gives the desk what ends it.
     fn leave(&mut self, last: Last, buffer: &mut LineBuffer) -> Typed
         ensures given { IsTyped result buffer.new (given_of self.old.log) (given_of self.new.log) }
         ensures some { result ≡ Typed.Nothing → ⊥ }
@@ -238,7 +240,7 @@ impl Queue {
         }
     }
 
-    /// What is told of the lines that are held or were dropped, if something is.
+    /// Returns a row about lines that are dropped, if there is one to print.
     fn tell(&mut self, at: Stand) -> Option<Aside>
         ensures differs { differs_since self.old.seen at ≡ true
             → (held_of self.new.log ≡ []) × (dropped_in result ≡ held_of self.old.log) }
@@ -260,7 +262,7 @@ impl Queue {
         self.tell_lost()
     }
 
-    /// What is due, before the keyboard is asked.
+    /// Does what is due before the keyboard is asked for a line.
     pub fn due(&mut self, at: Stand, now: u64, buffer: &mut LineBuffer) -> Typed
         ensures differs { differs_since self.old.seen at ≡ true
             → (held_of self.new.log ≡ []) × (dropped_by result ≡ held_of self.old.log) }

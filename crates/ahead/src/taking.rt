@@ -1,4 +1,4 @@
-//! A scorer's lines, of which some are held, and what becomes of one that is typed.
+//! A scorer's lines, some of them held, and what becomes of a typed line.
 
 ghost use Rattle.std.specs.Prelude.{◌≡◌, ◌≤◌, ◌<◌, ◌∷◌, ◌++◌, [], IfSome, IsSome, IsUtf8, false, length, take, true};
 ghost use Rattle.links.specs.Typing.{End, IsTyped, Line};
@@ -17,24 +17,24 @@ use links::{Aside, Clock, HeldLine, HeldLines, Keys, LineBuffer, Stand, Typed};
 use screen::{Word, is_end, word_of};
 use std::str;
 
-/// What a line that was typed is to those that are held.
+/// What a typed line means for the held lines.
 #[derive(Clone, Copy)]
 pub enum Sort {
-    /// Any other line: it may be an entry's.
+    /// Any other line, which may be an entry's.
     Entry,
     /// `undo`.
     Undo,
     /// `quit` or `exit`.
     Quit,
-    /// `again`, or a line behind it.
+    /// `again`, alone or before a line.
     Again,
-    /// An empty line.
+    /// An empty line, which lists the held lines.
     Lists,
-    /// Another word that writes nothing.
+    /// Another word that writes no entry.
     Asks,
 }
 
-/// Whether a line says `again`.
+/// Whether a line is `again`, alone or before a line.
 fn says_again(line: &[u8]) -> bool
     ensures { result ≡ sorts.says_again line.now }
 {
@@ -44,7 +44,7 @@ fn says_again(line: &[u8]) -> bool
     line.starts_with(b"again ")
 }
 
-/// What a word is that writes nothing, and any other line.
+/// Returns the sort of a word that writes no entry, or of any other line.
 fn by_word(word: Option<Word>) -> Sort
     ensures { result ≡ sorts.by_word word }
 {
@@ -55,14 +55,14 @@ fn by_word(word: Option<Word>) -> Sort
     }
 }
 
-/// A line without the blanks at its end.
+/// Returns a line without the blanks at its end.
 fn trimmed(line: &[u8]) -> &[u8]
     ensures { result.now ≡ words.trimmed line.now }
 {
     line.trim_ascii_end()
 }
 
-/// What a line is.
+/// Returns the sort of a line.
 pub fn sort_of(line: &[u8]) -> Sort
     ensures { result ≡ sorts.sort_of line.now }
 {
@@ -88,7 +88,7 @@ pub fn may_cast(line: &[u8]) -> bool
     }
 }
 
-/// The text of a line, if it is text.
+/// Returns a line as text, if it is UTF-8 and has at most 128 bytes.
 pub fn text_of(line: &[u8]) -> Option<HeldLine>
     ensures same { IfSome result (λ text. text.bytes ≡ line.now) }
     ensures some { IsUtf8 line.now → length line.now ≤ 128 → IsSome result }
@@ -100,7 +100,7 @@ pub fn text_of(line: &[u8]) -> Option<HeldLine>
 }
 
 impl Queue {
-    /// Gives the desk a line that was typed, at once.
+    /// Gives the desk a typed line at once.
     fn pass(&mut self, buffer: &LineBuffer, count: usize) -> Typed
         requires count { count ≤ 128 }
         requires held { may_cast (take count buffer.now) ≡ true → held_of self.old.log ≡ [] }
@@ -115,7 +115,7 @@ impl Queue {
         Typed::Line(count)
     }
 
-    /// Tells something of a line that was typed, and that the desk isn't given.
+    /// Returns a row about a typed line that the desk isn't given.
     fn put_by(&mut self, buffer: &LineBuffer, count: usize, aside: Aside) -> Typed
         ensures given { IsTyped result buffer.now (given_of self.old.log) (given_of self.new.log) }
         ensures typed { typed_of self.new.log ≡ typed_of self.old.log ++ Line (take count buffer.now) ∷ [] }
@@ -127,7 +127,7 @@ impl Queue {
         Typed::Aside(aside)
     }
 
-    /// Drops a line that was typed.
+    /// Drops a typed line, which the scorer is told of later.
     fn lose(&mut self, line: HeldLine) -> Typed
         requires { length (lost_of self.old.log) < 24 }
         ensures given { given_of self.new.log ≡ given_of self.old.log }
@@ -141,7 +141,7 @@ impl Queue {
         Typed::Nothing
     }
 
-    /// Holds a line that was typed, where there is room.
+    /// Holds a typed line. If there is no room, returns a row that says so, and the lines typed next are dropped.
     fn hold(&mut self, at: Stand, line: HeldLine, buffer: &LineBuffer, count: usize) -> Typed
         requires line { line.bytes ≡ take count buffer.now }
         requires entry { is_entry line.bytes ≡ true }
@@ -164,7 +164,7 @@ impl Queue {
         }
     }
 
-    /// Gives the desk a line that was typed, and sees what it comes to.
+    /// Gives the desk a typed line, and notes it to see whether the desk casts it.
     fn try_line(&mut self, at: Stand, line: HeldLine, buffer: &LineBuffer, count: usize) -> Typed
         requires count { count ≤ 128 }
         requires held { held_of self.old.log ≡ [] }
@@ -183,8 +183,8 @@ impl Queue {
         self.pass(buffer, count)
     }
 
-    /// Gives the desk a line that was typed, and sees what it comes to. Where it is no text the desk tells its fault, and what
-    /// is typed behind it is dropped, unless it says `again`.
+    /// Gives the desk a typed line, and notes it to see whether the desk casts it. If it is no text the desk tells its
+    /// fault, and the lines typed after it are dropped, unless it is `again`.
     fn try_text(&mut self, at: Stand, buffer: &LineBuffer, count: usize) -> Typed
         requires count { count ≤ 128 }
         requires held { held_of self.old.log ≡ [] }
@@ -203,8 +203,7 @@ impl Queue {
         }
     }
 
-    /// What becomes of a line that is no text: the desk tells its fault where none is held, and what is typed behind it is
-    /// dropped.
+    /// Takes a line that is no text: the desk tells its fault if no line is held, and the lines typed after it are dropped.
     fn take_no_text(&mut self, buffer: &LineBuffer, count: usize) -> Typed
         requires count { count ≤ 128 }
         ensures given { IsTyped result buffer.now (given_of self.old.log) (given_of self.new.log) }
@@ -219,7 +218,7 @@ impl Queue {
         self.put_by(buffer, count, Aside::NoText)
     }
 
-    /// What becomes of a line that may be an entry's, and isn't given at once.
+    /// Takes a line that may be an entry's and isn't given to the desk at once.
     fn take_entry(&mut self, at: Stand, buffer: &LineBuffer, count: usize) -> Typed
         requires count { count ≤ 128 }
         requires entry { is_entry (take count buffer.now) ≡ true }
@@ -240,7 +239,7 @@ impl Queue {
         self.hold(at, line, buffer, count)
     }
 
-    /// What becomes of `undo` that isn't given at once: it takes the newest line held back.
+    /// Takes an `undo` that isn't given to the desk at once: it takes back the newest held line.
     fn undo(&mut self, at: Stand, buffer: &LineBuffer, count: usize) -> Typed
         requires undo { is_undo (take count buffer.now) ≡ true }
         ensures given { IsTyped result buffer.now (given_of self.old.log) (given_of self.new.log) }
@@ -258,7 +257,8 @@ impl Queue {
         }
     }
 
-    /// What becomes of `undo` that was typed before it was told that lines are dropped, and of any other.
+    /// Takes an `undo`: drops it if it was typed before the scorer
+    /// was told that lines are dropped, else takes back a held line.
     fn take_undo(&mut self, at: Stand, buffer: &LineBuffer, count: usize) -> Typed
         requires count { count ≤ 128 }
         requires undo { is_undo (take count buffer.now) ≡ true }
@@ -276,7 +276,8 @@ impl Queue {
         self.undo(at, buffer, count)
     }
 
-    /// What becomes of `again`, alone or before a line: where one is held nothing differs that it could be for.
+    /// Takes `again`, alone or before a line. If a line is held the
+    /// two scorers don't differ, so `again` has nothing to answer.
     fn take_again(&mut self, at: Stand, buffer: &LineBuffer, count: usize) -> Typed
         requires count { count ≤ 128 }
         ensures given { IsTyped result buffer.now (given_of self.old.log) (given_of self.new.log) }
@@ -291,7 +292,7 @@ impl Queue {
         self.put_by(buffer, count, Aside::IsCast(at.place))
     }
 
-    /// What becomes of `quit`: what is held is dropped and told before.
+    /// Takes `quit`: the desk is given it once the held lines are dropped and the scorer is told.
     fn take_quit(&mut self, buffer: &LineBuffer, count: usize) -> Typed
         ensures given { IsTyped result buffer.now (given_of self.old.log) (given_of self.new.log) }
         ensures typed { typed_of self.new.log ≡ typed_of self.old.log ++ Line (take count buffer.now) ∷ [] }
@@ -304,7 +305,7 @@ impl Queue {
         Typed::Nothing
     }
 
-    /// What becomes of a line that the desk is given at once, unless it is `undo` that may be meant for one that was held.
+    /// Gives the desk a typed line at once, unless it is an `undo` that may be meant for a held line given just before.
     fn take_at_once(&mut self, at: Stand, now: u64, buffer: &LineBuffer, count: usize) -> Typed
         requires count { count ≤ 128 }
         requires held { held_of self.old.log ≡ [] }
@@ -320,8 +321,8 @@ impl Queue {
         }
     }
 
-    /// What becomes of a line that was typed, as the clock shows this. Where the desk's vote isn't cast and no line is held, it is
-    /// given any at once, but for `undo` that may be meant for one that was held.
+    /// Takes a typed line, at the time `now` of the clock. If the desk's vote isn't cast and no line is held, the desk is
+    /// given any line at once, except an `undo` that may be meant for a held line given just before.
     pub fn take(&mut self, at: Stand, now: u64, buffer: &LineBuffer, count: usize) -> Typed
         requires count { count ≤ 128 }
         requires room { length (lost_of self.old.log) < 24 }
@@ -351,14 +352,14 @@ impl Queue {
         }
     }
 
-    /// Nothing more is typed now.
+    /// Notes a pause in typing: lines typed from now on are not dropped.
     pub fn rest(&mut self)
         ensures same { self.new.log ≡ self.old.log }
     {
         self.is_deaf = false;
     }
 
-    /// No more lines are typed.
+    /// Notes that no more lines will be typed.
     pub fn stop(&mut self)
         ensures given { given_of self.new.log ≡ given_of self.old.log }
         ensures typed { typed_of self.new.log ≡ typed_of self.old.log ++ End ∷ [] }
@@ -371,7 +372,7 @@ impl Queue {
     }
 }
 
-/// A scorer's lines, of which some are held: the desk is given what was typed, and when.
+/// A scorer's keyboard that holds some lines back: what the desk is given of the typed lines, and when.
 #[derive(Drop)]
 pub struct Ahead<K: Keys, C: Clock> {
     keys: K,
@@ -381,7 +382,7 @@ pub struct Ahead<K: Keys, C: Clock> {
 }
 
 impl<K: Keys, C: Clock> Ahead<K, C> {
-    /// Of a keyboard that gave nothing yet, with a clock of its own.
+    /// Returns the lines of a keyboard that gave nothing yet, with this clock.
     pub fn new(keys: K, clock: C) -> Ahead<K, C>
         requires { K.inputs keys ≡ [] }
         ensures given { given_of (result.queue).log ≡ [] }
@@ -394,8 +395,8 @@ impl<K: Keys, C: Clock> Ahead<K, C> {
         }
     }
 
-    /// What isn't told yet where the desk ends by itself: the lines that are held, and behind them those that were dropped as
-    /// they were typed. All of these are dropped.
+    /// Drops what the scorer wasn't told of when the desk ends by itself,
+    /// and returns it: the held lines, and the lines dropped when typed.
     pub fn drop_rest(&mut self) -> (HeldLines, HeldLines)
         ensures held { (result.0).items ≡ held_of (self.old.queue).log }
         ensures lost { (result.1).items ≡ lost_of (self.old.queue).log }
@@ -408,7 +409,7 @@ impl<K: Keys, C: Clock> Ahead<K, C> {
         self.queue.drop_rest()
     }
 
-    /// The keyboard.
+    /// Returns the keyboard.
     pub fn keys(&self) -> &K
         ensures { result.now ≡ self.now.keys }
     {

@@ -1,4 +1,4 @@
-//! Where a desk stands behind a line that it was given.
+//! Where a desk stands after a line that it was given.
 
 ghost use Rattle.std.specs.Prelude.{◌≡◌};
 ghost use Rattle.ahead.specs.Dropping.{differs_since, is_not_taken};
@@ -15,7 +15,7 @@ pub struct Tried {
     pub was_held: bool,
 }
 
-/// Whether the two scorers differed since the desk was seen last.
+/// Whether the two scorers have differed since the desk was last seen.
 pub fn differs_since(seen: Option<Stand>, at: Stand) -> bool
     ensures { result ≡ differs_since seen at }
 {
@@ -25,7 +25,7 @@ pub fn differs_since(seen: Option<Stand>, at: Stand) -> bool
     }
 }
 
-/// Whether the desk cast no vote for the line that it was given last, and may cast one for such a line.
+/// Whether the desk cast no vote for the line that it was given last, though it may cast that line.
 pub fn is_not_taken(tried: Option<Tried>, at: Stand) -> bool
     ensures { result ≡ is_not_taken tried at }
 {

@@ -1,4 +1,4 @@
--- How long a place is.
+-- How many digits a place has.
 use Rattle.std.proofs.Common.{◌≡◌, ℕ, ◌-◌, ◌<◌, ◌≤◌, ◌/◌, ◌^◌, length, decimal, arith, ap, inl, inr}
 use Rattle.std.proofs.lemmas.Bool.{cases_lt}
 use Rattle.cards.specs.Columns.{spaces}

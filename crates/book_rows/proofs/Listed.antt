@@ -1,4 +1,4 @@
--- An entry of the front of a book.
+-- An entry of a book's front is an entry of the book.
 use Rattle.std.proofs.Common.{◌≡◌, ℕ, zero, suc, ◌<◌, List, [], ◌∷◌, take, arith}
 use Rattle.std.specs.Prelude.{slice_get, Some}
 use Rattle.notation.specs.declared.entry.Entry.{Entry}

@@ -1,4 +1,4 @@
--- The entries of an over, item by item of what stands.
+-- The entries of an over, item by item.
 use Rattle.std.proofs.Common.{◌≡◌, ℕ, ◌+◌, ◌≤◌, List, [], ◌∷◌, ◌++◌, length, drop, Option, None, Some, true, refl, sym, ap, ◌∙◌, subst, inl, inr, append-nil, append_assoc}
 use Rattle.std.specs.Prelude.{slice_get}
 use Rattle.std.specs.Io.KnownBytes.{Appends}
@@ -25,7 +25,7 @@ use Rattle.over_numbers.specs.declared.count.Count.{Count}
 use Rattle.over_numbers.specs.Counts.{counted}
 use Rattle.book_rows.specs.OverEntries.{lines_behind}
 
--- what was written so far, with the lines of what is left, is the lines of all; the crease and the count there
+-- the text written so far, with the rows of the items left, is the rows of all; and the crease and the count after k items
 pub record Telling (line : History → Placed → List ℕ) (items : List Placed) (k : ℕ) (there : Standing) (come : Count) (before behind : Option (List ℕ)) : Type 0 where
   pub history : History
   pub ends : history_after history (drop k items) ≡ history_after [] items

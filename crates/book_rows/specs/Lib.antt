@@ -1,4 +1,4 @@
--- What is claimed: Listing, OverEntries. inner: for private functions only.
+-- What is claimed: Listing, OverEntries. inner is for private functions only.
 pub mod Listing
 pub mod OverEntries
 pub mod inner

@@ -1,4 +1,4 @@
--- Entries of a book, each with the place of what corrects it.
+-- Entries of a book, each with the place of its correction.
 use Rattle.std.specs.Prelude.{ℕ, ◌+◌, ◌-◌, ◌==◌, nat_le, nat_lt, if◌then◌else◌, List, [], ◌∷◌, ◌++◌, Option, Some, None, length, drop, take, codes, decimal}
 use Rattle.notation.specs.declared.entry.Entry.{Entry}
 use Rattle.corrections.specs.Corrected.{corrected_at}
@@ -9,15 +9,15 @@ abbrev pub correction_note : Option ℕ → List ℕ
 correction_note None = []
 correction_note (Some k) = codes " (corrected at " ++ decimal k ++ codes ")"
 
--- the line of any entry of the book, as it was penned
+-- the row of a book's entry, as it was penned
 abbrev pub entry_line : List Entry → ℕ → Entry → List ℕ
 entry_line book place e = placed_entry place e ++ correction_note (corrected_at book place) ++ codes "\n"
 
--- at most twenty places are shown at once, from a first one on
+-- at most twenty entries are shown at once, from the first place on
 abbrev pub stop_of : ℕ → ℕ → ℕ
 stop_of first end = if nat_le end (first + 20) then end else first + 20
 
--- what is typed to see those that are left, if any are
+-- the line to type for the entries that are left, if any are
 abbrev pub range_word : ℕ → ℕ → List ℕ
 range_word first last = codes "go on: list " ++ decimal first ++ codes " " ++ decimal last ++ codes "\n"
 
@@ -27,15 +27,15 @@ go_on stop end = if nat_lt stop end then range_word stop (end - 1) else []
 abbrev pub entries_between : ℕ → ℕ → List Entry → List ℕ
 entries_between first stop book = lines_from (entry_line book) first (drop first (take stop book))
 
--- the entries from a place up to another one, which isn't among them
+-- the entries from place `first` up to and without `end`, at most twenty
 abbrev pub shown : ℕ → ℕ → List Entry → List ℕ
 shown first end book = entries_between first (stop_of first end) book ++ go_on (stop_of first end) end
 
--- the last entries of a book, so many at most
+-- the last entries of a book, at most so many
 abbrev pub listing : ℕ → List Entry → List ℕ
 listing most book = shown (length book - most) (length book) book
 
--- where a range ends that has this last place
+-- the place after a range's last one, within the book
 abbrev pub end_of : ℕ → List Entry → ℕ
 end_of last book = if nat_lt last (length book) then last + 1 else length book
 

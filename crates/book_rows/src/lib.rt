@@ -1,4 +1,4 @@
-//! The entries of a book, in rows: so many, those of a range of places, and those of an over.
+//! The entries of a book, a row each: the last ones, those of a range of places, and those of an over.
 #![tactic(auto)]
 
 mod listing;

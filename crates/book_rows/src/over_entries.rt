@@ -20,7 +20,7 @@ use notation::{Ball, Entry, Plain, Player, Side};
 use over_numbers::Count;
 use streams::{Sink, Watched, WriteFailed};
 
-/// Prints the over of the delivery that comes next, and its number there.
+/// Prints the number of the next delivery, as 9.2: its over, and which delivery of it.
 fn print_number<W: Sink>(out: &mut Watched<W>, count: Count) -> Result<(), WriteFailed>
     requires overs { count.overs ≤ PLACES }
     requires balls { count.balls ≤ PLACES }
@@ -32,7 +32,7 @@ fn print_number<W: Sink>(out: &mut Watched<W>, count: Count) -> Result<(), Write
     write!(out, "{number}.{ball}")
 }
 
-/// The name of who is at an end.
+/// Returns the name of the batter at an end, or `-` if it is vacant.
 fn batter_name(sheet: &MatchSheet, side: Side, batter: Option<Player>) -> &str
     ensures { result.now ≡ over.batter_name sheet.now side batter }
 {
@@ -42,7 +42,7 @@ fn batter_name(sheet: &MatchSheet, side: Side, batter: Option<Player>) -> &str
     }
 }
 
-/// Prints who bowls a delivery to whom.
+/// Prints who bowls a delivery, and to whom.
 fn print_players<W: Sink>(
     out: &mut Watched<W>,
     sheet: &MatchSheet,
@@ -58,7 +58,7 @@ fn print_players<W: Sink>(
     write!(out, " {bowler} to {batter}:")
 }
 
-/// Prints a delivery, before which the innings had come so far, with this batter at the end that is bowled to.
+/// Prints a delivery: its number after this count, bowler, batter (the striker given here) and mark.
 fn print_delivery<W: Sink>(
     out: &mut Watched<W>,
     sheet: &MatchSheet,
@@ -77,7 +77,7 @@ fn print_delivery<W: Sink>(
     print_ball(out, ball)
 }
 
-/// Prints an entry with its place, likewise.
+/// Prints an entry with its place, and a delivery as `print_delivery` does.
 fn print_item<W: Sink>(
     out: &mut Watched<W>,
     sheet: &MatchSheet,
@@ -103,7 +103,7 @@ fn print_item<W: Sink>(
     }
 }
 
-/// An over of an innings, in which this side bats.
+/// An over of an innings in which this side bats.
 #[derive(Clone, Copy)]
 struct InningsOver {
     side: Side,
@@ -111,7 +111,7 @@ struct InningsOver {
     number: u32,
 }
 
-/// The same in a line, where it is of this over.
+/// Prints an entry in a row, if it belongs to this over.
 fn print_if<W: Sink>(
     out: &mut Watched<W>,
     sheet: &MatchSheet,
@@ -135,7 +135,7 @@ fn print_if<W: Sink>(
     writeln!(out)
 }
 
-/// The crease behind an item that isn't refused.
+/// Returns the crease after an item, unchanged if the item is refused.
 fn crease_after(crease: &Crease, item: &Plain) -> Crease
     ensures { (s : State) → crease.now ≡ standing_of s → refusal s item.now ≡ None → result ≡ standing_of (after s item.now) }
 {
@@ -146,7 +146,7 @@ fn crease_after(crease: &Crease, item: &Plain) -> Crease
     next
 }
 
-/// What stands at an index.
+/// Returns the item at an index.
 fn placed_at(items: &[Placed], index: usize) -> Placed
     requires { index < length items.now }
     ensures { slice_get items.now index ≡ Some result }
@@ -154,7 +154,7 @@ fn placed_at(items: &[Placed], index: usize) -> Placed
     items[index]
 }
 
-/// Whether any of what stands is of an over of an innings.
+/// Whether any of these items belongs to an over of an innings.
 fn has_over(items: &[Placed], innings: usize, number: u32) -> bool
     requires innings { innings ≤ PLACES }
     requires items { length items.now ≤ PLACES }
@@ -204,7 +204,7 @@ fn print_lines<W: Sink, B: BookOf>(
     Ok(())
 }
 
-/// Prints the entries of an over of an innings, if it has any.
+/// Prints the entries of an over of an innings, or that there is no such over.
 fn print_over<W: Sink, B: BookOf>(
     out: &mut Watched<W>,
     sheet: &MatchSheet,
@@ -225,7 +225,7 @@ fn print_over<W: Sink, B: BookOf>(
     }
 }
 
-/// Prints the entries of an over of the innings begun last.
+/// Prints the entries of an over of the innings begun last, or that there was no play.
 pub fn print_over_last<W: Sink, B: BookOf>(
     out: &mut Watched<W>,
     sheet: &MatchSheet,
@@ -243,7 +243,7 @@ pub fn print_over_last<W: Sink, B: BookOf>(
     print_over(out, sheet, book, begun - 1, number)
 }
 
-/// Whether an innings has begun, and this side bats in it.
+/// Whether an innings has begun and this side bats in it.
 fn is_of_side(score: &Match, side: Side, innings: usize) -> bool
     ensures value { ForEachHistory score.now (λ n h. result ≡ over.is_of_side h side innings) }
     ensures begun { result ≡ true → innings < begun_in score.now }
@@ -252,7 +252,7 @@ fn is_of_side(score: &Match, side: Side, innings: usize) -> bool
     innings < score.begun() && score.side(innings) == side
 }
 
-/// The side's innings of this number, from 1, among these.
+/// Returns the side's first or second innings, by its number from 1, among these innings.
 fn innings_among(score: &Match, side: Side, number: u8, innings: &[usize]) -> Option<usize>
     ensures value { ForEachHistory score.now (λ n h. result ≡ over.innings_among h side number innings.now) }
     ensures begun { IfSome result (λ i. i < begun_in score.now) }
@@ -268,7 +268,7 @@ fn innings_among(score: &Match, side: Side, number: u8, innings: &[usize]) -> Op
     innings_among(score, side, number.saturating_sub(1), more)
 }
 
-/// Prints the entries of an over of a side's first or second innings.
+/// Prints the entries of an over of a side's first or second innings, or that this hasn't begun.
 pub fn print_over_by_side<W: Sink, B: BookOf>(
     out: &mut Watched<W>,
     sheet: &MatchSheet,

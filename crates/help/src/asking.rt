@@ -6,14 +6,14 @@ ghost use Rattle.help.specs.Words as forms;
 
 use crate::subject::{Subject, subject_of};
 
-/// Whether `--help` is among some words.
+/// Whether `--help` is among the words.
 fn has_help(words: &[String]) -> bool
     ensures { result ≡ forms.has_help words.now }
 {
     words.iter().any(|word| word.as_str() == "--help")
 }
 
-/// The word of the program's own that a text is: one of those of which `--help` behind it asks too.
+/// Returns the program's own word that a text is: one of those that take `--help` after them.
 #[tactic(auto, unfolding(crate::specs::Words::own_word))]
 pub fn own_word(text: &str) -> Option<Subject>
     ensures { result ≡ forms.own_word text.now }
@@ -26,7 +26,7 @@ pub fn own_word(text: &str) -> Option<Subject>
     }
 }
 
-/// What the words behind `help` ask about: nothing else, or one of the program's words.
+/// Returns what the words after `help` ask about: no word is `help` itself, one may be any of the program's words.
 fn topic(words: &[String]) -> Option<Subject>
     ensures { result ≡ forms.topic words.now }
 {
@@ -37,8 +37,8 @@ fn topic(words: &[String]) -> Option<Subject>
     }
 }
 
-/// What words ask about, the program's name first: `help` alone, or with one of the program's words behind it, or one of the
-/// program's own with `--help` among those behind it. Any others ask about nothing.
+/// Returns what a command line asks about, the program's name first: `help` alone or with one of the program's words, or one
+/// of its own words with `--help` somewhere after it. Any other command line asks about nothing.
 pub fn asked(words: &[String]) -> Option<Subject>
     ensures { result ≡ forms.asked words.now }
 {

@@ -8,7 +8,7 @@ use crate::subject::Subject;
 use crate::texts::help_on;
 use streams::{Sink, Watched, WriteFailed};
 
-/// Prints what a word does, and hands it on.
+/// Prints the help text of a word, and flushes it.
 pub fn print_help<W: Sink>(out: &mut Watched<W>, subject: Subject) -> Result<(), WriteFailed>
     ensures text { OnOk result (Prints W.contents out.old out.new (texts.help_on subject)) }
     ensures handed_on { OnOk result (IsHandedOn W.calls out.new) }

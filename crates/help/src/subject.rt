@@ -3,10 +3,10 @@
 ghost use Rattle.std.specs.Prelude.{◌≡◌};
 ghost use Rattle.help.specs.Words as words;
 
-/// A word of the program, of which `help` tells what it does.
+/// A word of the program that `help` explains.
 #[derive(Clone, Copy)]
 pub enum Subject {
-    /// `help` itself, or no word: a line for each of them.
+    /// `help` itself, or no word: one line for each word.
     Help,
     Desk,
     Board,
@@ -22,11 +22,11 @@ pub enum Subject {
     Migrate,
     Sheet,
     Typing,
-    /// The word of the script that begins the program.
+    /// The word of the script that starts the program.
     Start,
 }
 
-/// The word of the program that a text is.
+/// Returns the word of the program that a text is.
 pub fn subject_of(word: &str) -> Option<Subject>
     ensures { result ≡ words.subject_of word.now }
 {

@@ -227,7 +227,7 @@ begun in. The word is that of the script ./ground, which begins the program.
               script is scorer B; or left out
 ";
 
-/// What is told of a word.
+/// Returns the help text of a word.
 pub fn help_on(subject: Subject) -> &'static str
     ensures { result.now ≡ texts.help_on subject }
 {

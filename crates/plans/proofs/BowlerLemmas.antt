@@ -1,4 +1,4 @@
--- The corrections of an over, one item more.
+-- The corrections of an over, with one item more.
 use Rattle.std.proofs.lemmas.Grind.{common_steps}
 use Rattle.std.proofs.Common.{◌≡◌, ℕ, ◌+◌, ◌<◌, List, ◌∷◌, ◌++◌, length, take, drop, get_or, append_assoc, arith}
 use Rattle.std.proofs.lemmas.List.{drop_more, map-append, reverse-append}

@@ -1,4 +1,4 @@
--- A draft with a line more, and what a plan shows.
+-- A draft with one line more, and what follows from a plan.
 use Rattle.std.proofs.lemmas.Grind.{common_steps}
 use Rattle.std.proofs.Common.{◌≡◌, ℕ, suc, ◌+◌, ◌<◌, ◌≤◌, true, Option, None, List, [], ◌∷◌, ◌++◌, length, map, take, refl, sym, ◌∙◌, ap, subst, arith, append_assoc}
 use Rattle.std.proofs.lemmas.List.{append-nil, length_push, take-append-le, take_all}
@@ -27,7 +27,7 @@ scored n book (Write x) e more none = absurd cc
 scored n book (Fix p x) e more none = (let named = named-more book more (Fix p x) e in fix-scored n (book ++ more) p x named.0 named.1 ∙ none)
 scored n book (Late p x) e more none = (let named = named-more book more (Late p x) e in late-scored n (book ++ more) p x named.0 named.1 ∙ none)
 
--- lines that are taken, with one more
+-- lines that are taken, and one more
 taken-more : (n : ℕ) (book lines : List Entry) (e : Entry) → AreTaken n book lines → book_refusal n (book ++ lines) e ≡ None → AreTaken n book (lines ++ e ∷ [])
 taken-more n book lines e h h2 = grind (arith, common_steps, slice_get-push, slice_get_within, take-append-le, take_all)
 
@@ -49,11 +49,11 @@ pub plan_of-draft : (n : ℕ) (book wanted lines : List Entry) (items target : L
     → map (λ s. s.item) items ≡ map (λ s. s.item) target → IsPlan n book wanted lines
 plan_of-draft n book wanted lines items target h h2 h3 = grind (arith, common_steps, same-history)
 
--- what is scored is the book with what is wanted
+-- what is scored is the book with the wanted corrections
 pub target-scored : (n : ℕ) (book : List Entry) (target : List Placed) (r : Option Refusal) → IsStanding book target → first_refused n [] (kept target) ≡ r → first_refused_in n book ≡ r
 target-scored n book target r s e = ap (first_refused n []) (clean-standing book target s) ∙ e
 
--- ---- what a plan shows
+-- ---- what follows from a plan
 
 pub legal-lines : (n : ℕ) (book lines : List Entry) → IsLegalBook n book → AreTaken n book lines → IsLegalBook n (book ++ lines)
 legal-lines n book [] legal taken = subst (IsLegalBook n) (sym (append-nil book)) legal

@@ -1,4 +1,4 @@
--- What is read behind `plan`, and that its plan can be told.
+-- What is read after `plan`, and that its plan can be printed.
 use Rattle.std.proofs.Common.{◌≡◌, ◌<◌, ◌-◌, ℕ, zero, suc, List, [], ◌∷◌, arith, refl}
 use Rattle.std.specs.List.{after_first, before_first}
 use Rattle.std.specs.Prelude.{Result, Err, false, true}
@@ -15,18 +15,18 @@ pub reason_stays : (s : Sheet) (book : List Entry) (why : Reason) (texts : List 
 reason_stays s book why [] = refl
 reason_stays s book why (t ∷ ts) = reason_stays s book why ts
 
--- nor is it read otherwise what wasn't read
+-- what couldn't be read stays so
 pub unread_stays : (s : Sheet) (book : List Entry) (wanted : Result (List Entry) Reason) (texts : List (List ℕ)) (why : Unread) → IsUnread wanted why
     → IsUnread (with_parts s book wanted texts) why
 unread_stays s book wanted texts (Unread.Unclear unclear) e = rw e (reason_stays s book (reason_of unclear) texts)
 unread_stays s book wanted texts Unread.NoMemory e = tt
 
--- without a comma there is one part
+-- a text without a comma is one part
 pub parts_one : (more : ℕ) (text : List ℕ) → has_comma text ≡ false → parts_of more text ≡ text ∷ []
 parts_one zero text e = refl
 parts_one (suc more) text e = rw e refl
 
--- with one, that before it and those behind it
+-- a text with a comma is the part before it and the parts after it
 pub parts_more : (more : ℕ) (text first rest : List ℕ) → 0 < more → has_comma text ≡ true → first ≡ before_first is_comma text
     → rest ≡ unspaced (after_first is_comma text) → parts_of more text ≡ first ∷ parts_of (more - 1) rest
 parts_more zero text first rest h e f r = absurd (omega (arith, h))

@@ -1,4 +1,4 @@
--- What stands in a book that may not be legal, with an entry more.
+-- The items that stand in a book that may not be legal, with one more entry.
 use Rattle.std.proofs.lemmas.Grind.{common_steps}
 use Rattle.std.proofs.Common.{◌≡◌, ℕ, ◌+◌, ◌<◌, true, false, Option, List, [], ◌∷◌, ◌++◌, length, map, take, drop, get_or, reverse, refl, sym, ◌∙◌, ap, subst, arith, append_assoc, length-append}
 use Rattle.std.proofs.lemmas.Bool.{cases_Bool}
@@ -37,7 +37,7 @@ named-fix book p o h h2 = grind (arith, common_steps, slice_get_within)
 named-late : (book : List Entry) (p : ℕ) (o : Option Entry) → slice_get book p ≡ o → can_be_followed o ≡ true → (p < length book) × (is_plain (slice_get book p) ≡ true)
 named-late book p o h h2 = grind (arith, common_steps, slice_get_within)
 
--- it names the same once there are more
+-- an entry names the same entry when there are more after it
 pub named-more : (book more : List Entry) (e : Entry) → names book e ≡ true → IsNamed (book ++ more) e
 named-more book more (Write x) e = absurd cc
 named-more book more (Fix p x) e =
@@ -49,7 +49,7 @@ named-more book more (Late p x) e =
     let lt = there.0 in
     (omega (arith, lt, length-append book more), ap is_plain (slice_get-append_left book more p lt) ∙ there.1)
 
--- ---- what stands
+-- ---- the items that stand
 
 module _ (book : List Entry) (items : List Placed) (s : IsStanding book items) where
   clean-more : (e : Entry) → IsNamed book e → clean_items_of (book ++ e ∷ []) ≡ with_entry (length book) e (clean_items_of book)
@@ -62,7 +62,7 @@ module _ (book : List Entry) (items : List Placed) (s : IsStanding book items) w
   unfolding clean
   clean-standing = ap kept (sym s.stands)
 
--- the entry is made at this place, behind others
+-- the items with an entry that is made at this place, after others
 pub standing-at : (book more : List Entry) (items : List Placed) (e : Entry) (place : ℕ) → IsStanding (book ++ more) items → names book e ≡ true → IsEntry e
     → place ≡ length book + length more → IsStanding (book ++ (more ++ e ∷ [])) (with_entry place e items)
 standing-at book more items e place s named r at =
@@ -70,7 +70,7 @@ standing-at book more items e place s named r at =
     subst (λ b. IsStanding b (with_entry place e items)) (append_assoc book more (e ∷ []))
     (subst (λ p. IsStanding ((book ++ more) ++ e ∷ []) (with_entry p e items)) here (standing-more (book ++ more) items s e (named-more book more e named) r))
 
--- so it is in range
+-- those items are in range
 pub in_range-at : (book more : List Entry) (items : List Placed) (e : Entry) (place : ℕ) → IsStanding (book ++ more) items → names book e ≡ true → IsEntry e
     → place ≡ length book + length more → AreInRange (with_entry place e items)
 in_range-at book more items e place s named r at =
@@ -79,17 +79,17 @@ in_range-at book more items e place s named r at =
 pub standing-legal : (n : ℕ) (book : List Entry) (items : List Placed) → IsLegalBook n book → items ≡ clean_items_of book → All (IsItemOf book) items → IsStanding book items
 standing-legal n book items legal is all = record { fixes = fixes_below n book legal; lates = lates_below n book legal; stands = is; all_of = all }
 
--- one entry says one item
+-- entries are the same only if their items are
 pub written-same : (x y : Plain) → Write x ≡ Write y → x ≡ y
 written-same x y e = cc
 
--- ---- what the Laws see of it
+-- ---- what the Laws see of the items
 
 kept-items : (xs : List Placed) → map (λ s. s.item) (kept xs) ≡ filter (λ x. not (is_void x)) (map (λ s. s.item) xs)
 kept-items [] = refl
 kept-items (x ∷ xs) = grind (arith, common_steps, cases_Bool, kept_not, kept_first, kept-items xs)
 
--- where the same stands, they see the same
+-- where the same items stand, the Laws see the same history
 pub same-history : (a b : List Entry) (xs ys : List Placed) → IsStanding a xs → IsStanding b ys → map (λ s. s.item) xs ≡ map (λ s. s.item) ys → history_of a ≡ history_of b
 unfolding history_of
 same-history a b xs ys s t same =

@@ -1,4 +1,4 @@
--- What the public calls claim: Plans, Answers, Bowlers, Planning. inner: for private functions only.
+-- What the public calls claim: Plans, Answers, Bowlers, Planning. inner is for private functions only.
 pub mod Plans
 pub mod Answers
 pub mod Bowlers

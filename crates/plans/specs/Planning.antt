@@ -1,4 +1,4 @@
--- What is asked behind the word `plan`, and what is answered.
+-- What is asked after the word `plan`, and the answer.
 use Rattle.std.specs.Prelude.{◌≡◌, ℕ, zero, suc, ◌==◌, ◌&&◌, Bool, nat_le, nat_lt, if◌then◌else◌, Option, Some, None, List, [], ◌∷◌, ◌++◌, All, codes, drop, length, bytes_eq, Result, Ok, Err}
 use Rattle.std.specs.Char.{is_ascii_whitespace}
 use Rattle.std.specs.List.{after_first, before_first, position_or_len, prefix_len}
@@ -17,7 +17,7 @@ use Rattle.plans.specs.declared.planning.Planned.{Planned}
 
 -- ---- what is asked
 
--- corrections with a comma between two, so many behind the first at most
+-- corrections separated by commas, at most so many after the first
 abbrev pub is_comma : ℕ → Bool
 is_comma b = b == 44
 
@@ -32,7 +32,7 @@ parts_of zero text = text ∷ []
 parts_of (suc more) text =
     if has_comma text then before_first is_comma text ∷ parts_of more (unspaced (after_first is_comma text)) else text ∷ []
 
--- with one more: the first reason stays
+-- the corrections read so far and one more; the first reason stays
 abbrev pub with_part : Result (List Entry) Reason → Result Entry Reason → Result (List Entry) Reason
 with_part (Ok es) (Ok e) = Ok (es ++ e ∷ [])
 with_part (Ok es) (Err why) = Err why
@@ -42,7 +42,7 @@ abbrev pub with_parts : Sheet → List Entry → Result (List Entry) Reason → 
 with_parts s book wanted [] = wanted
 with_parts s book wanted (t ∷ ts) = with_parts s book (with_part wanted (entry_in_full s book t)) ts
 
--- `bowler n b`: the deliveries of over n of the innings begun last, each by who is so named
+-- `bowler n b`: corrections of the deliveries of over n of the innings begun last, with bowler b
 abbrev pub is_space : ℕ → Bool
 is_space b = b == 32
 
@@ -72,7 +72,7 @@ by_bowler s book text =
     if has_space text then bowled_by s book (found_number 1 8191 (before_first is_space text)) (after_first is_space text)
     else Err (Fault Missing)
 
--- all that is wanted
+-- all wanted corrections
 abbrev pub is_of_bowler : List ℕ → Bool
 is_of_bowler text = has_space text && bytes_eq (before_first is_space text) (codes "bowler")
 
@@ -81,16 +81,16 @@ wanted_in s book text =
     if is_of_bowler text then by_bowler s book (after_first is_space text)
     else with_parts s book (Ok []) (parts_of 23 text)
 
--- ---- what is answered
+-- ---- the answer
 
--- a plan of what is wanted behind `plan `, in a book of the sheet's match, or what isn't clear; or that there was no memory
+-- a plan for the text after `plan `, in a book of the sheet's match, or what isn't clear; or that there was no memory
 abbrev pub IsPlanned : Sheet → List Entry → List ℕ → Planned → Type 0
 IsPlanned s book text (Planned.Plan plan) =
     (wanted : List Entry) × (wanted_in s book text ≡ Ok wanted) × IsAnswer s.innings book wanted plan
 IsPlanned s book text (Planned.Unclear unclear) = wanted_in s book text ≡ Err (reason_of unclear)
 IsPlanned s book text Planned.NoMemory = Unit {0}
 
--- its entries have their numbers in their ranges
+-- the entries of a plan have their numbers in range
 abbrev pub IsFinePlan : Plan → Type 0
 IsFinePlan (Lines lines) = All IsEntry lines.items
 IsFinePlan (Unnamed e) = IsEntry e

@@ -1,4 +1,4 @@
--- A plan: lines that a book takes one after another, and behind which it has what is wanted.
+-- A plan: lines that a book takes one after another, and after which it has what is wanted.
 use Rattle.std.specs.Prelude.{◌≡◌, ℕ, ◌+◌, ◌≤◌, Bool, true, false, Option, Some, None, List, ◌++◌, All, length, slice_get, take}
 use Rattle.notation.specs.declared.entry.TheConstants.{PLACES}
 use Rattle.notation.specs.declared.entry.Entry.{Entry}
@@ -7,7 +7,7 @@ use Rattle.notation.specs.Written.{IsEntry}
 use Rattle.corrections.specs.CleanList.{history_of}
 use Rattle.corrections.specs.Refusal.{book_refusal}
 
--- an entry or a late one stands there; an entry of play does
+-- a `fix` may name an entry of play or a late one; a `late` an entry of play
 abbrev pub can_be_fixed : Option Entry → Bool
 can_be_fixed None = false
 can_be_fixed (Some (Write x)) = true
@@ -20,19 +20,19 @@ can_be_followed (Some (Write x)) = true
 can_be_followed (Some (Fix p x)) = false
 can_be_followed (Some (Late p x)) = false
 
--- a `fix` or a `late` that names an entry of the book of its kind
+-- a `fix` or a `late` that names an entry of its kind
 abbrev pub names : List Entry → Entry → Bool
 names book (Write x) = false
 names book (Fix p x) = can_be_fixed (slice_get book p)
 names book (Late p x) = can_be_followed (slice_get book p)
 
--- each line is taken in its turn, by a book with n innings a side that has the lines before it
+-- a book with n innings a side takes each line after the lines before it
 abbrev pub AreTaken : ℕ → List Entry → List Entry → Type 0
 AreTaken n book lines =
     (k : ℕ) (e : Entry) → slice_get lines k ≡ Some e → book_refusal n (book ++ take k lines) e ≡ None
 
--- so, with room for each; and the Laws see of the book with the lines what they would see with the wanted entries, all
--- made at once
+-- the book takes each line and has room for it; and with the lines the
+-- Laws see the same history as with the wanted entries, all made at once
 pub record IsPlan (n : ℕ) (book wanted lines : List Entry) : Type 0 where
   pub entries : All IsEntry lines
   pub taken : AreTaken n book lines

@@ -1,4 +1,4 @@
-//! The corrections by which another player bowled an over.
+//! The corrections that make another player the bowler of an over.
 
 ghost use Rattle.std.specs.Prelude.{◌≡◌, ◌<◌, ◌≤◌, ◌+◌, ◌++◌, ◌∷◌, [], All, IfOk, IfSome, MatchOption, OnOk, length};
 ghost use Rattle.notation.specs.declared.entry.TheConstants.{PLACES};
@@ -10,14 +10,14 @@ use notation::{Ball, Entry, Plain, Player};
 use over_numbers::Count;
 use std::alloc::{AllocError, Global};
 
-/// The delivery, with this player as its bowler.
+/// Returns the delivery with this player as its bowler.
 fn bowled_by(ball: Ball, bowler: Player) -> Ball
     ensures { result ≡ record ball { bowler = bowler } }
 {
     Ball { bowler, ..ball }
 }
 
-/// The correction of what stands at a place by which this player bowled it, if it is a delivery of the over.
+/// Returns the correction that makes this player the bowler of the item at a place, if that is a delivery of the over.
 fn fix_by(is_of_over: bool, bowler: Player, placed: &Placed) -> Option<Entry>
     requires { IsPlain placed.now.item }
     ensures value { MatchOption result (bowlers.fix_by is_of_over bowler placed.now.place placed.now.item ≡ [])
@@ -46,7 +46,7 @@ fn add_fix(
     ensures in_range { placed.now.place < PLACES → All IsEntry fixes.old.items → OnOk result (All IsEntry fixes.new.items) }
     ensures few { OnOk result (length fixes.new.items ≤ length fixes.old.items + 1) }
 {
-    // The prover asks which crate holds `Plain`, which `Entry` names: a local of the type tells it.
+    // The prover must know the crate of `Plain`, which `Entry` names; a local of that type tells it.
     let _item: Option<Plain> = None;
     match fix_by(is_of_over, bowler, placed) {
         Some(fix) => {
@@ -57,7 +57,7 @@ fn add_fix(
     }
 }
 
-/// The corrections by which this player bowled each delivery of an over, from 1, of the innings begun last.
+/// Returns the corrections that make this player the bowler of each delivery of an over, from 1, of the innings begun last.
 pub fn over_by<B: BookOf>(
     alloc: Global,
     book: &B,
@@ -70,7 +70,7 @@ pub fn over_by<B: BookOf>(
     ensures few { IfOk result (λ fixes. length fixes.items ≤ PLACES) }
 {
     let innings = book.score().begun().saturating_sub(1);
-    // A book has room for all its entries.
+    // The length tells the prover that a book has room for all its entries.
     let _len = book.len();
     let items = book.clean_items();
     let mut count = Count::none();

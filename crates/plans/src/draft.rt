@@ -13,29 +13,29 @@ use corrections::{BookOf, Placed};
 use notation::{Entry, PLACES, Plain};
 use std::alloc::{AllocError, Global};
 
-/// Lines that a book takes one after another, and what stands behind them.
+/// The lines that a book takes one after another, and the items that stand after them.
 #[derive(Drop)]
 pub struct Draft {
     pub lines: Vec<Entry>,
     pub items: Vec<Placed>,
 }
 
-/// What came of a line.
+/// What became of a line.
 #[derive(Clone, Copy)]
 pub enum Trial {
-    /// The book takes it.
+    /// The book takes the line.
     Taken,
-    /// The Laws would then refuse what stands at this place.
+    /// The Laws would then refuse the item at this place.
     InTheWay(u32),
-    /// It is no correction of the book, or the book has no place for it.
+    /// The line names no entry of its kind, or the book has no place left for it.
     NoRoom,
 }
 
-/// No line yet.
+/// Returns a draft without lines.
 pub fn draft_of<B: BookOf>(alloc: Global, book: &B) -> Result<Draft, AllocError>
     ensures { (n : ℕ) → IfOk result (λ draft. IsDraft n (B.content book.now) draft.lines.items draft.items.items) }
 {
-    // A book has room for all its entries.
+    // The length tells the prover that a book has room for all its entries.
     let _len = book.len();
     Ok(Draft {
         lines: Vec::new(alloc),
@@ -43,7 +43,7 @@ pub fn draft_of<B: BookOf>(alloc: Global, book: &B) -> Result<Draft, AllocError>
     })
 }
 
-/// These items, once more.
+/// Returns a copy of these items.
 fn copy_of(alloc: Global, items: &[Placed]) -> Result<Vec<Placed>, AllocError>
     ensures { IfOk result (λ copy. copy.items ≡ items.now) }
 {
@@ -53,7 +53,7 @@ fn copy_of(alloc: Global, items: &[Placed]) -> Result<Vec<Placed>, AllocError>
 }
 
 impl Draft {
-    /// The place of its next line.
+    /// Returns the place of the draft's next line.
     fn place<B: BookOf>(&self, book: &B) -> u32
         requires { length (B.content book.now) + length self.now.lines.items ≤ PLACES }
         ensures { result ≡ length (B.content book.now) + length self.now.lines.items }
@@ -61,18 +61,18 @@ impl Draft {
         book.len() + self.lines.len() as u32
     }
 
-    /// Adds a line behind which this stands.
+    /// Adds a line, after which these items stand.
     fn add(&mut self, entry: &Entry, items: Vec<Placed>) -> Result<Trial, AllocError>
         ensures { OnOk result ((self.new.lines.items ≡ self.old.lines.items ++ entry.now ∷ []) × (self.new.items ≡ items)) }
     {
-        // The prover asks which crate holds `Plain`, which `Placed` names: a local of the type tells it.
+        // The prover must know the crate of `Plain`, which `Placed` names; a local of that type tells it.
         let _item: Option<Plain> = None;
         self.lines.push(*entry)?;
         self.items = items;
         Ok(Trial::Taken)
     }
 
-    /// Adds a line, if the book takes it behind those before it.
+    /// Adds a line, if the book takes it after the lines before it.
     pub fn enter<B: BookOf>(
         &mut self,
         alloc: Global,
@@ -97,7 +97,7 @@ impl Draft {
         }
     }
 
-    /// Its lines.
+    /// Returns the draft's lines.
     pub fn into_lines(self) -> Vec<Entry>
         ensures { result ≡ self.lines }
     {

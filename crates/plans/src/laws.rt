@@ -6,7 +6,7 @@ ghost use Rattle.corrections.specs.Legal.{IsLegalBook};
 ghost use Rattle.corrections.specs.Refusal.{first_refused_in};
 ghost use Rattle.plans.specs.Plans.{IsPlan};
 
-/// A legal book stays one by the lines of a plan; and where what is wanted is against the Laws there is no plan.
+/// A legal book stays legal with the lines of a plan; and if the wanted corrections are against the Laws there is no plan.
 pub fn no_plan_against_the_laws()
     ensures legal { (n : ℕ) → (book wanted lines : List Entry) → IsLegalBook n book → IsPlan n book wanted lines
         → IsLegalBook n (book ++ lines) }

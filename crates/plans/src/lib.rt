@@ -1,5 +1,5 @@
-//! Plans: corrections that a book takes one after another, where the wanted ones are legal only together; and
-//! what is asked behind the word `plan`.
+//! Plans: corrections that a book takes one after another, for wanted ones
+//! that are legal only together; and what is asked after the word `plan`.
 #![tactic(auto)]
 
 mod bowler;

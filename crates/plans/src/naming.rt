@@ -1,4 +1,4 @@
-//! Whether a correction names an entry of its kind.
+//! Whether a correction names an entry of its kind: a `fix` an entry of play or a late one, a `late` an entry of play.
 
 ghost use Rattle.std.specs.Prelude.{◌≡◌, All, Contains, IfSome, Some, None, false, true, slice_get};
 ghost use Rattle.notation.specs.Written.{IsEntry};
@@ -7,7 +7,7 @@ ghost use Rattle.plans.specs.Plans as plans;
 use corrections::BookOf;
 use notation::Entry;
 
-/// The entry at a place of a book, if it has one there.
+/// Returns the entry at a place of a book, if the book has that place.
 #[tactic(auto, using(std::proofs::lemmas::Option::slice_get_past))]
 fn entry_at<B: BookOf>(book: &B, place: u32) -> Option<Entry>
     ensures { result ≡ slice_get (B.content book.now) place }
@@ -19,7 +19,7 @@ fn entry_at<B: BookOf>(book: &B, place: u32) -> Option<Entry>
     }
 }
 
-/// Whether it can be corrected.
+/// Whether an entry can be corrected: an entry of play or a late one.
 fn can_be_fixed(entry: Option<Entry>) -> bool
     ensures { result ≡ plans.can_be_fixed entry }
 {
@@ -31,7 +31,7 @@ fn can_be_fixed(entry: Option<Entry>) -> bool
     }
 }
 
-/// Whether a late entry may follow it.
+/// Whether a late entry may follow an entry: only an entry of play.
 fn can_be_followed(entry: Option<Entry>) -> bool
     ensures { result ≡ plans.can_be_followed entry }
 {
@@ -43,7 +43,7 @@ fn can_be_followed(entry: Option<Entry>) -> bool
     }
 }
 
-/// Whether the entry is a correction or a late entry that names an entry of the book of its kind.
+/// Whether the entry is a `fix` or a `late` that names an entry of its kind.
 pub fn names<B: BookOf>(book: &B, entry: &Entry) -> bool
     ensures { result ≡ plans.names (B.content book.now) entry.now }
 {
@@ -54,7 +54,7 @@ pub fn names<B: BookOf>(book: &B, entry: &Entry) -> bool
     }
 }
 
-/// The first of these entries that names none.
+/// Returns the first of these entries that names no entry of its kind.
 pub fn first_unnamed<B: BookOf>(book: &B, wanted: &[Entry]) -> Option<Entry>
     requires { All IsEntry wanted.now }
     ensures some { IfSome result (λ entry. IsEntry entry × Contains wanted.now entry × (plans.names (B.content book.now) entry ≡ false)) }

@@ -1,4 +1,4 @@
-//! A plan for wanted corrections, or why there is none.
+//! A plan for the wanted corrections, or why there is none.
 
 ghost use Rattle.std.specs.Prelude.{◌≡◌, ◌≤◌, ◌++◌, ℕ, List, None, All, IfOk, IfSome, length, true};
 ghost use Rattle.notation.specs.declared.entry.TheConstants.{PLACES};
@@ -19,20 +19,20 @@ use match_laws::LawRefusal;
 use notation::Entry;
 use std::alloc::{AllocError, Global};
 
-/// What can be said of wanted corrections.
+/// The answer to wanted corrections.
 #[derive(Drop)]
 pub enum Plan {
-    /// The book takes these lines one after another, and then has what is wanted.
+    /// The lines that the book takes one after another, and then has what is wanted.
     Lines(Vec<Entry>),
-    /// This one names no entry of its kind: a `fix` an entry or a late one, a `late` an entry of play.
+    /// A correction that names no entry of its kind: a `fix` an entry of play or a late one, a `late` an entry of play.
     Unnamed(Entry),
-    /// With all that is wanted the Laws refuse this item, so that there is no plan.
+    /// The first item that the Laws refuse once all wanted corrections are made, so that there is no plan.
     Against(Placed, LawRefusal),
-    /// None was found among 1,000 lines that were tried, or the book has too few places left.
+    /// No plan was found in the 1,000 lines that were tried, or the book has too few places left.
     TooLong,
 }
 
-/// The lines of a draft behind which this stands, if it does.
+/// Returns the lines of a draft, if these items stand after them.
 fn lines_to(draft: Draft, target: &[Placed]) -> Option<Vec<Entry>>
     ensures { (n : ℕ) → (book wanted : List AnEntry) → IsDraft n book draft.lines.items draft.items.items
         → IsStanding (book ++ wanted) target.now → IfSome result (λ lines. IsPlan n book wanted lines.items) }
@@ -44,7 +44,7 @@ fn lines_to(draft: Draft, target: &[Placed]) -> Option<Vec<Entry>>
     }
 }
 
-/// A plan for what the Laws don't refuse, if one is found.
+/// Returns a plan for corrections that the Laws don't refuse, if one is found.
 fn plan_to<B: BookOf>(
     alloc: Global,
     innings_a_side: u32,
@@ -69,7 +69,7 @@ fn plan_to<B: BookOf>(
     }
 }
 
-/// A plan for corrections that name entries of the book, or why none.
+/// Returns a plan for corrections that name entries of their kind, or why there is none.
 fn plan_of_named<B: BookOf>(
     alloc: Global,
     innings_a_side: u32,
@@ -89,8 +89,8 @@ fn plan_of_named<B: BookOf>(
     }
 }
 
-/// Lines by which a book comes to have these corrections and late entries, in a match with one or two innings a side; or why
-/// none.
+/// Returns the lines by which a book comes to have these corrections and late
+/// entries, in a match with one or two innings a side; or why there are none.
 pub fn plan_of<B: BookOf>(
     alloc: Global,
     innings_a_side: u32,

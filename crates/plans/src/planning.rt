@@ -1,4 +1,4 @@
-//! What is asked behind the word `plan`, and the plan.
+//! What is asked after the word `plan`, and the plan.
 
 ghost use Rattle.std.specs.Prelude.{◌≡◌, ◌≤◌, ◌+◌, [], false, length, true, All, Ok, Err, IfOk, MatchOption, MatchResult, OnOk};
 ghost use Rattle.notation.specs.declared.entry.TheConstants.{PLACES};
@@ -18,30 +18,30 @@ use notation::{Entry, LineFault, Plain, Player, number_in};
 use shorthand::{Unclear, entry_in_full};
 use std::alloc::Global;
 
-/// How many corrections are read behind the first at most.
+/// The most corrections that are read after the first.
 const MOST_MORE: u32 = 23;
 
-/// What is answered behind the word `plan`.
+/// The answer to what is asked after the word `plan`.
 #[derive(Drop)]
 pub enum Planned {
     /// A plan of what is wanted, or why there is none.
     Plan(Plan),
-    /// Something isn't clear in what is wanted.
+    /// Something isn't clear in the text.
     Unclear(Unclear),
-    /// There was no memory for it.
+    /// There was no memory for a plan.
     NoMemory,
 }
 
-/// Why it isn't known what is wanted.
+/// Why the wanted corrections couldn't be read.
 #[derive(Clone, Copy)]
 enum Unread {
-    /// Something isn't clear.
+    /// Something isn't clear in the text.
     Unclear(Unclear),
-    /// There was no memory for it.
+    /// There was no memory for them.
     NoMemory,
 }
 
-/// A text without the blanks at its beginning.
+/// Returns a text without the blanks at its beginning.
 fn unspaced(text: &str) -> &str
     ensures { result.now ≡ planning.unspaced text.now }
 {
@@ -71,7 +71,7 @@ fn add_part<B: BookOf>(
     }
 }
 
-/// What stands before the first comma, and behind it.
+/// Returns what is before the first comma, and what follows it and its blanks.
 fn cut(text: &str) -> Option<(&str, &str)>
     ensures { MatchOption result (planning.has_comma text.now ≡ false) (λ parts. (planning.has_comma text.now ≡ true)
         × (parts.0.now ≡ before_first planning.is_comma text.now)
@@ -81,7 +81,7 @@ fn cut(text: &str) -> Option<(&str, &str)>
     Some((first, unspaced(rest)))
 }
 
-/// Adds the corrections of a text, with a comma between two, so many behind the first at most.
+/// Adds the corrections of a text, separated by commas, at most `more` after the first.
 fn add_parts<B: BookOf>(
     wanted: &mut Vec<Entry>,
     more: u32,
@@ -108,7 +108,7 @@ fn add_parts<B: BookOf>(
     }
 }
 
-/// The corrections of a text, with a comma between two.
+/// Returns the corrections of a text, separated by commas.
 fn listed<B: BookOf>(
     alloc: Global,
     text: &str,
@@ -126,7 +126,7 @@ fn listed<B: BookOf>(
     Ok(wanted)
 }
 
-/// Who is the bowler of a delivery.
+/// Returns the bowler of a delivery.
 fn bowler_of(entry: Entry) -> Result<Player, Unclear>
     ensures { MatchResult result (λ player. planning.bowler_of (Ok entry) ≡ Ok player)
         (λ unclear. planning.bowler_of (Ok entry) ≡ Err (reason_of unclear)) }
@@ -137,7 +137,7 @@ fn bowler_of(entry: Entry) -> Result<Player, Unclear>
     }
 }
 
-/// Who of the side in the field is so named.
+/// Returns the player of the fielding side with this name.
 fn bowler_named<B: BookOf>(name: &str, book: &B, sheet: &MatchSheet) -> Result<Player, Unclear>
     ensures { MatchResult result
         (λ player. planning.bowler_named sheet.now (B.content book.now) name.now ≡ Ok player)
@@ -153,7 +153,7 @@ fn bowler_named<B: BookOf>(name: &str, book: &B, sheet: &MatchSheet) -> Result<P
     bowler_of(entry_in_full(line.as_str().as_bytes(), book, sheet)?)
 }
 
-/// The deliveries of an over of the innings begun last, each by who is so named.
+/// Returns corrections of each delivery of an over of the innings begun last, with the named player as the bowler.
 fn by_bowler<B: BookOf>(
     alloc: Global,
     words: &str,
@@ -181,7 +181,7 @@ fn by_bowler<B: BookOf>(
     }
 }
 
-/// What stands behind the word `bowler`, if a text begins so.
+/// Returns what follows the word `bowler`, if a text begins with it.
 fn behind_bowler(text: &str) -> Option<&str>
     ensures { MatchOption result (planning.is_of_bowler text.now ≡ false)
         (λ words. (planning.is_of_bowler text.now ≡ true) × (words.now ≡ after_first planning.is_space text.now)) }
@@ -190,7 +190,7 @@ fn behind_bowler(text: &str) -> Option<&str>
     if word == "bowler" { Some(words) } else { None }
 }
 
-/// All that is wanted.
+/// Returns all wanted corrections of a text.
 fn wanted_in<B: BookOf>(
     alloc: Global,
     text: &str,
@@ -209,7 +209,7 @@ fn wanted_in<B: BookOf>(
     }
 }
 
-/// What is answered where this stands behind `plan `.
+/// Returns the answer to the text after `plan `.
 pub fn plan_asked<B: BookOf>(alloc: Global, text: &str, book: &B, sheet: &MatchSheet) -> Planned
     ensures { planning.IsPlanned sheet.now (B.content book.now) text.now result }
 {

@@ -1,4 +1,4 @@
-//! The first of all that stands that is refused.
+//! The first item of a book that the Laws refuse.
 
 ghost use Rattle.std.specs.Prelude.{◌≡◌, ◌≤◌, Contains, IfSome, Some, None, []};
 ghost use Rattle.match_laws.specs.Stands.{ForEachHistory, answer_with};
@@ -12,7 +12,7 @@ use corrections::Placed;
 use match_laws::{LawRefusal, Match, is_void, start};
 use notation::Plain;
 
-/// Has the match take one more item that stands, or says why it is refused. `void` changes nothing.
+/// Has the match take one more item, or returns why the Laws refuse it. A void item changes nothing.
 fn take_item(score: &mut Match, item: &Plain) -> Result<(), LawRefusal>
     requires { IsPlain item.now }
     ensures { ForEachHistory score.old (λ n h. IsTaken (answer_with result score.new) n h item.now) }
@@ -24,7 +24,7 @@ fn take_item(score: &mut Match, item: &Plain) -> Result<(), LawRefusal>
     }
 }
 
-/// The first of these items that the Laws refuse behind those before it, and why, with one or two innings a side.
+/// Returns the first of these items that the Laws refuse after those before it, and why, with one or two innings a side.
 pub fn first_refused(innings_a_side: u32, items: &[Placed]) -> Option<(Placed, LawRefusal)>
     requires innings { (1 ≤ innings_a_side) × (innings_a_side ≤ 2) }
     requires in_range { AreInRange items.now }

@@ -1,5 +1,5 @@
-//! The search for a plan. The first place where the book differs from what is wanted is put right; where a later place
-//! stands in the way, that is voided first.
+//! The search for a plan: it corrects the first place where the book differs from what is wanted; if the Laws then refuse a
+//! later place, it first voids that one.
 
 ghost use Rattle.std.specs.Prelude.{◌≤◌, All, IfOk, IfSome, OnOk};
 ghost use Rattle.notation.specs.Written.{IsEntry, IsPlain};
@@ -11,10 +11,10 @@ use corrections::{BookOf, Placed};
 use notation::{Entry, PLACES, Plain};
 use std::alloc::{AllocError, Global};
 
-/// How many lines are tried at most. One is tried in some 0.3 ms where the book is full.
+/// The most lines that are tried. Each takes some 0.3 ms if the book is full.
 const MOST_TRIED: u32 = 1000;
 
-/// Enters these in their order, up to the first that isn't taken.
+/// Enters these entries in their order, up to the first that isn't taken.
 pub fn direct<B: BookOf>(
     alloc: Global,
     innings_a_side: u32,
@@ -35,12 +35,12 @@ pub fn direct<B: BookOf>(
     Ok(draft)
 }
 
-/// Whether what is wanted stands there, of a book with so many places.
+/// Whether the item that stands is the wanted one, at the same place of a book of `len` places, or both after them.
 fn is_there(stands: &Placed, wanted: &Placed, len: u32) -> bool {
     stands.place.min(len) == wanted.place.min(len) && stands.item == wanted.item
 }
 
-/// The first item that is wanted and doesn't stand there.
+/// Returns the first wanted item that doesn't stand.
 fn first_missing(items: &[Placed], target: &[Placed], len: u32) -> Option<Placed>
     requires { AreInRange target.now }
     ensures { IfSome result (λ placed. IsPlain placed.item) }
@@ -53,7 +53,7 @@ fn first_missing(items: &[Placed], target: &[Placed], len: u32) -> Option<Placed
     None
 }
 
-/// The line that has it stand there, in a book with so many places.
+/// Returns the line that makes the item stand, in a book of `len` places.
 fn line_for(placed: &Placed, len: u32) -> Option<Entry>
     requires { IsPlain placed.now.item }
     ensures { IfSome result IsEntry }
@@ -67,7 +67,7 @@ fn line_for(placed: &Placed, len: u32) -> Option<Entry>
     }
 }
 
-/// The line that strikes out the place.
+/// Returns the line that voids a place.
 fn void_of(place: u32) -> Option<Entry>
     ensures { IfSome result IsEntry }
 {
@@ -78,7 +78,7 @@ fn void_of(place: u32) -> Option<Entry>
     }
 }
 
-/// The line to be tried next: that which strikes out what is in the way, or else that which puts the first place right.
+/// Returns the next line to try: the one that voids the place in the way, or else the one that corrects the first place.
 fn next_line(
     items: &[Placed],
     target: &[Placed],
@@ -94,7 +94,7 @@ fn next_line(
     }
 }
 
-/// Tries one more line, and answers whether the search goes on.
+/// Tries one more line, and returns whether the search goes on.
 fn go_on<B: BookOf>(
     alloc: Global,
     innings_a_side: u32,
@@ -125,7 +125,7 @@ fn go_on<B: BookOf>(
     }
 }
 
-/// Lines that lead to what is wanted, or some way to it.
+/// Returns lines that lead to what is wanted, or part of the way.
 pub fn search<B: BookOf>(
     alloc: Global,
     innings_a_side: u32,

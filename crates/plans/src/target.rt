@@ -1,4 +1,4 @@
-//! What would stand in a book with the wanted corrections.
+//! The items that would stand in a book with the wanted corrections.
 
 ghost use Rattle.std.specs.Prelude.{ℕ, ◌≡◌, ◌≤◌, ◌<◌, ◌+◌, ◌++◌, All, IfOk, IsTrue, length, map, true};
 ghost use Rattle.notation.specs.declared.entry.TheConstants.{PLACES};
@@ -11,18 +11,18 @@ use corrections::{BookOf, Placed};
 use notation::{Entry, Plain};
 use std::alloc::{AllocError, Global};
 
-/// What stands in a book, once more.
+/// Returns a copy of the items that stand in a book.
 pub fn items_of<B: BookOf>(alloc: Global, book: &B) -> Result<Vec<Placed>, AllocError>
     ensures { IfOk result (λ items. IsStanding (B.content book.now) items.items) }
 {
-    // A book that has a score is legal.
+    // The score tells the prover that the book is legal.
     let _score = book.score();
     let mut items = Vec::new(alloc);
     items.extend_from_slice(book.clean_items())?;
     Ok(items)
 }
 
-/// The place of the entry at an index behind a book with so many.
+/// Returns the place of the entry at this index after a book of `len` places.
 fn place_at(len: u32, index: usize) -> u32
     requires { len + index ≤ 16384 }
     ensures { result ≡ len + index }
@@ -30,7 +30,7 @@ fn place_at(len: u32, index: usize) -> u32
     len + index as u32
 }
 
-/// What would stand in a book with all wanted corrections, whether they are legal or not.
+/// Returns the items that would stand in a book with all wanted corrections, legal or not.
 pub fn target_of<B: BookOf>(
     alloc: Global,
     book: &B,
@@ -50,14 +50,14 @@ pub fn target_of<B: BookOf>(
     Ok(items)
 }
 
-/// Whether both are the same item.
+/// Whether the two items are the same.
 fn is_equal(one: &Plain, other: &Plain) -> bool
     ensures { IsTrue result → one.now ≡ other.now }
 {
     Entry::Write(*one).is_same(&Entry::Write(*other))
 }
 
-/// Whether the same stands in both, item by item.
+/// Whether the same items stand in both lists, in the same order.
 pub fn is_same(items: &[Placed], target: &[Placed]) -> bool
     ensures { IsTrue result → map (λ s. s.item) items.now ≡ map (λ s. s.item) target.now }
 {

@@ -1,4 +1,4 @@
--- An over item by item: its marks, its runs, how many deliveries count, and the newest for which there is room.
+-- An over item by item: its marks, its runs, how many deliveries count, and the newest whose marks have room.
 use Rattle.std.proofs.lemmas.Grind.{common_steps}
 use Rattle.std.proofs.lemmas.List.{at_drop_more}
 use Rattle.std.proofs.Common.{arith, ◌≡◌, ℕ, ◌+◌, ◌<◌, Bool, List, [], ◌∷◌, ◌++◌, length, take, drop, get_or, refl, append-nil, append_assoc}
@@ -27,12 +27,12 @@ runs-bowled item over = grind arith
 pub counts-bowled : (item : Plain) (over : List Ball) → counting (bowled item over) ≡ counting over + item_counts item
 counts-bowled item over = grind arith
 
--- as `grind` finds it, by the item at k
+-- balls_more, in the form that `grind` finds by the item at k
 pub balls_at : (items : List Placed) (k : ℕ) (x : Placed) → k < length items → x ≡ get_or items k x
     → (get_or items k x ≡ get_or items k x) × (balls_of (take (k + 1) items) ≡ bowled x.item (balls_of (take k items)))
 balls_at items k x within here = (refl, balls_more items k x within here)
 
--- what a walk over the items of an over needs
+-- what a loop over the items of an over needs
 pub ruleset item_by_item =
     (arith, common_steps, balls_all, balls_at, marks-bowled, runs-bowled, counts-bowled, appends_both, appends_none, behind_both, behind_nothing)
 
@@ -43,7 +43,7 @@ with-balls : (over : List Ball) (xs : List Placed) → with_balls over xs ≡ ba
 with-balls over [] = refl
 with-balls over (x ∷ xs) = grind (arith, common_steps, bowled-first, append_assoc, (with-balls (bowled x.item over) xs), (with-balls (bowled x.item []) xs))
 
--- the deliveries among what stands here, and one item more
+-- one item more adds its delivery, if it is one, to the over
 pub balls_push : (over : List Ball) (xs : List Placed) (x : Placed) → with_balls over (xs ++ x ∷ []) ≡ bowled x.item (with_balls over xs)
 balls_push over [] x = refl
 balls_push over (y ∷ ys) x = balls_push (bowled y.item over) ys x

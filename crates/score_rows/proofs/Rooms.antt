@@ -1,4 +1,4 @@
--- The columns that are left behind texts in a row.
+-- The room left after texts in a row.
 use Rattle.std.proofs.lemmas.Grind.{common_steps}
 use Rattle.std.proofs.Common.{arith, ◌≡◌, ℕ, List, [], ◌++◌, length, length-append}
 use Rattle.std.specs.Prelude.{nat_le}
@@ -16,7 +16,7 @@ behind_both room ts us = grind (arith, common_steps, length-append)
 pub left_behind : (n : ℕ) (ts : List ℕ) → is_left (behind (Left n) ts) ≡ nat_le (length ts) n
 left_behind n ts = grind arith
 
--- one text behind another one
+-- two texts fit one after the other just if both together fit
 pub fit_both : (s : Sheet) (ts us : List ℕ) (first second : Room) → first ≡ behind (all_columns s) ts → second ≡ behind first us
     → is_left second ≡ fits s (ts ++ us)
 fit_both s ts us first second h h2 = grind (arith, common_steps, behind_both, left_behind)

@@ -1,4 +1,4 @@
--- What is claimed: Row and OverCheck, both with Limited and Fit. inner: for private functions only.
+-- What is claimed: Row and OverCheck, both with Limited and Fit. inner is for private functions only.
 pub mod Limited
 pub mod Fit
 pub mod Row

@@ -17,7 +17,7 @@ use Rattle.score_rows.specs.Fit.{all_columns, behind, fits}
 use Rattle.score_rows.specs.Row.{total_text, striker, other, bowler, newest, open_marks}
 use Rattle.score_rows.specs.Limited.{limits_line}
 
--- two parts of a row: where that has too many columns with what joins them, the second stands below, beyond this
+-- between two parts of a row: this joint, or this break if one row would have too many columns
 abbrev pub between : Bool → List ℕ → List ℕ → List ℕ
 between is_one joint beyond = if is_one then joint else beyond
 
@@ -25,7 +25,7 @@ abbrev pub in_rows : Sheet → List ℕ → List ℕ → List ℕ → List ℕ �
 in_rows s first joint beyond second =
     first ++ between (fits s (first ++ joint ++ second)) joint beyond ++ second ++ codes "\n"
 
--- all extras, byes and leg byes
+-- the sum of the extras, byes and leg byes
 abbrev pub extras_front : Extras → List ℕ
 extras_front x =
     codes "extras " ++ decimal (all_extras x) ++ codes " (b " ++ decimal x.byes ++ codes ", lb " ++ decimal x.legs
@@ -46,20 +46,20 @@ abbrev pub batters_line : Sheet → History → ℕ → List ℕ
 batters_line s h i =
     in_rows s (codes "  " ++ striker Whole s h i) (codes "  ") (codes "\n    ") (other Whole s h i)
 
--- the marks of an over, all or these newest ones, and all its runs
+-- the marks of an over, all or only the newest shown, and all its runs
 abbrev pub marked : List Ball → Bool → List Ball → List ℕ
 marked over is_all shown = open_marks over is_all shown ++ codes " = " ++ decimal (tally runs_of over)
 
 abbrev pub own_row : List Ball → Bool → List Ball → List ℕ
 own_row over is_all shown = codes "  " ++ marked over is_all shown
 
--- all marks, or else the newest for which there is room in a row of their own
+-- all marks if they fit in a row of their own, else the newest that fit
 abbrev pub over_text : Sheet → List Ball → List ℕ
 over_text s over =
     if fits s (own_row over true over) then marked over true over
     else marked over false (newest (behind (all_columns s) (own_row over false [])) over)
 
--- the bowler of the last delivery and its over, if there is one
+-- the row of the last delivery's bowler and over, if there is one
 abbrev pub over_line : Sheet → History → ℕ → List Ball → List ℕ
 over_line s h i [] = []
 over_line s h i (b ∷ older) =
@@ -68,6 +68,6 @@ over_line s h i (b ∷ older) =
 abbrev pub check_lines : Sheet → History → ℕ → List ℕ
 check_lines s h i = total_line s h i ++ batters_line s h i ++ over_line s h i (over_now h) ++ limits_line s h i
 
--- of the innings begun last
+-- the check for the innings begun last
 abbrev pub over_check : Sheet → History → List ℕ
 over_check s h = if begun h == 0 then codes "No play\n" else check_lines s h (current h)

@@ -1,2 +1,2 @@
--- What serves private functions only.
+-- Definitions for private functions only.
 pub mod Items

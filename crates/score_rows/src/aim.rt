@@ -1,4 +1,4 @@
-//! What a side needs, and how a match has ended.
+//! The runs that a side needs, and the result of a match.
 
 ghost use Rattle.std.specs.Prelude.{◌≡◌, ◌==◌, OnOk, codes, if◌then◌else◌};
 ghost use Rattle.match_laws.specs.Result.{outcome};
@@ -17,7 +17,7 @@ use streams::{Sink, Watched, WriteFailed};
 
 pub type Aim = Option<(&'static str, u32)>;
 
-/// What is needed, where nothing limits the deliveries and the match isn't decided.
+/// Returns the runs needed, if the deliveries aren't limited and the match isn't decided.
 pub fn aim(score: &Match, left: Option<u32>) -> Aim
     ensures { ForEachHistory score.now (λ n h.
         ⟦<Aim as Text>⟧.bytes result ≡ rows.aim (outcome n h) (figures.runs_needed n h) left) }
@@ -30,7 +30,7 @@ pub fn aim(score: &Match, left: Option<u32>) -> Aim
 
 pub type NeedsRow = Option<(&'static str, u32, Off, &'static str)>;
 
-/// What is needed off how many deliveries, where they are limited and the match isn't decided.
+/// Returns the row with the runs needed and the deliveries left, if these are limited and the match isn't decided.
 pub fn needs_row(score: &Match, left: Option<u32>) -> NeedsRow
     ensures { ForEachHistory score.now (λ n h.
         ⟦<NeedsRow as Text>⟧.bytes result ≡ rows.needs_row (outcome n h) (figures.runs_needed n h) left) }
@@ -59,7 +59,7 @@ fn in_wickets(count: u32) -> Counted
 
 type Ended<'a> = Option<(&'static str, &'a str, &'static str, Option<Counted>)>;
 
-/// How a match has ended, where it has.
+/// Returns the result of a match as text, if it is decided.
 fn ended(sheet: &MatchSheet, outcome: Outcome) -> Ended<'_>
     ensures { ⟦<Ended<'static> as Text>⟧.bytes result ≡ rows.result_part sheet.now outcome }
 {
@@ -85,7 +85,7 @@ fn ended(sheet: &MatchSheet, outcome: Outcome) -> Ended<'_>
     }
 }
 
-/// Prints the result of a match that is decided.
+/// Prints the result of a match, if it is decided.
 pub fn print_result<W: Sink>(
     out: &mut Watched<W>,
     sheet: &MatchSheet,
@@ -98,7 +98,7 @@ pub fn print_result<W: Sink>(
     ended(sheet, score.result()).print(out)
 }
 
-/// Whether a match has ended.
+/// Whether a match is decided.
 fn is_decided(outcome: Outcome) -> bool
     ensures { result ≡ rows.is_decided outcome }
 {
@@ -107,7 +107,7 @@ fn is_decided(outcome: Outcome) -> bool
 
 pub type ResultRow<'a> = Option<(Ended<'a>, &'static str)>;
 
-/// How a match has ended, where it has, on a row of its own.
+/// Returns a row with this outcome, if it is a decision.
 fn ended_row(sheet: &MatchSheet, outcome: Outcome) -> ResultRow<'_>
     ensures { ⟦<ResultRow<'static> as Text>⟧.bytes result ≡ rows.result_row sheet.now outcome }
 {
@@ -118,7 +118,7 @@ fn ended_row(sheet: &MatchSheet, outcome: Outcome) -> ResultRow<'_>
     }
 }
 
-/// The result of a match that is decided, on a row of its own.
+/// Returns a row with the result of a match, if it is decided.
 pub fn result_row<'a>(sheet: &'a MatchSheet, score: &Match) -> ResultRow<'a>
     ensures { ForEachHistory score.now (λ n h.
         ⟦<ResultRow<'static> as Text>⟧.bytes result ≡ rows.result_row sheet.now (outcome n h)) }

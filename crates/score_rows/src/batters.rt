@@ -1,4 +1,4 @@
-//! Who is at the ends. Where a row cuts the names of both so that they look alike, their numbers stand before them.
+//! The batters at the ends. If a row cuts both names so that they look alike, their numbers stand before them.
 
 ghost use Rattle.std.specs.Prelude.{◌≡◌};
 ghost use Rattle.cards.specs.Begun.{ForInnings};
@@ -10,7 +10,7 @@ use cards::{Innings, MatchSheet};
 use match_laws::BattingRow;
 use notation::{Player, Side};
 
-/// Whether these players of a side have names that look alike in a form.
+/// Whether the names of these two players of a side look alike as the form cuts them.
 fn are_both_alike(
     form: Form,
     sheet: &MatchSheet,
@@ -33,7 +33,7 @@ fn are_both_alike(
     }
 }
 
-/// Whether the names of the batters at both ends look alike in a form.
+/// Whether the names of the batters at both ends look alike as the form cuts them.
 fn are_ends_alike(form: Form, innings: Innings<'_>) -> bool
     ensures { ForInnings innings.entry (λ s h i. result ≡ rows.are_ends_alike form s h i) }
 {
@@ -49,7 +49,7 @@ fn are_ends_alike(form: Form, innings: Innings<'_>) -> bool
 
 pub type Number = Option<(u32, &'static str)>;
 
-/// The number of who is at an end, where the names look alike.
+/// Returns a batter's number to stand before his name, if the two names look alike.
 fn number(is_alike: bool, batter: Option<Player>) -> Number
     ensures { ⟦<Number as Text>⟧.bytes result ≡ rows.number_text is_alike batter }
 {
@@ -66,7 +66,7 @@ pub type BatterFigures = (
     (u32, &'static str, &'static str),
 );
 
-/// A batter's runs and the balls that he faced, with this mark behind.
+/// Returns a batter's runs and the balls he faced, followed by this mark.
 fn batter_figures(row: &BattingRow, mark: &'static str) -> BatterFigures
     ensures { ⟦<BatterFigures as Text>⟧.bytes result ≡ rows.batter_figures row.now.runs row.now.faced mark.now }
 {
@@ -75,7 +75,7 @@ fn batter_figures(row: &BattingRow, mark: &'static str) -> BatterFigures
 
 pub type Batter<'a> = (Name<'a>, Option<BatterFigures>);
 
-/// Who is at an end, with this mark behind.
+/// Returns the batter at an end with his figures and this mark, or `-` if the end is vacant.
 fn batter<'a>(
     form: Form,
     innings: Innings<'a>,
@@ -95,7 +95,7 @@ fn batter<'a>(
 
 pub type End<'a> = (Number, Batter<'a>);
 
-/// The striker.
+/// Returns the striker, marked `*`.
 pub fn striker(form: Form, innings: Innings<'_>) -> End<'_>
     ensures { ForInnings innings.entry (λ s h i. ⟦<End<'static> as Text>⟧.bytes result ≡ rows.striker form s h i) }
 {
@@ -106,7 +106,7 @@ pub fn striker(form: Form, innings: Innings<'_>) -> End<'_>
     )
 }
 
-/// The batter at the other end.
+/// Returns the batter at the other end.
 pub fn other(form: Form, innings: Innings<'_>) -> End<'_>
     ensures { ForInnings innings.entry (λ s h i. ⟦<End<'static> as Text>⟧.bytes result ≡ rows.other form s h i) }
 {
@@ -119,7 +119,7 @@ pub fn other(form: Form, innings: Innings<'_>) -> End<'_>
 
 pub type Batters<'a> = (End<'a>, &'static str, End<'a>);
 
-/// The striker, and the batter at the other end.
+/// Returns the striker and the batter at the other end.
 pub fn batters(form: Form, innings: Innings<'_>) -> Batters<'_>
     ensures { ForInnings innings.entry (λ s h i. ⟦<Batters<'static> as Text>⟧.bytes result ≡ rows.batters form s h i) }
 {

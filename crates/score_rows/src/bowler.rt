@@ -1,4 +1,4 @@
-//! Who bowled the last delivery.
+//! The bowler of the last delivery.
 
 ghost use Rattle.std.specs.Prelude.{◌≡◌, ◌<◌};
 ghost use Rattle.match_laws.specs.History.{begun};
@@ -19,7 +19,7 @@ pub type Figures = (
     (&'static str, u32, &'static str, (u32, &'static str, u32)),
 );
 
-/// A bowler's overs, maidens, runs and wickets.
+/// Returns a bowler's overs, maidens, runs and wickets.
 fn figures(row: &BowlingRow) -> Figures
     ensures { ⟦<Figures as Text>⟧.bytes result ≡ rows.figures row.now }
 {
@@ -31,7 +31,7 @@ fn figures(row: &BowlingRow) -> Figures
 
 pub type BowlerText<'a> = (Name<'a>, &'static str, Figures);
 
-/// A bowler of the side, by his row.
+/// Returns a bowler of a side with his figures.
 fn bowler_text<'a>(
     form: Form,
     sheet: &'a MatchSheet,
@@ -50,7 +50,7 @@ fn bowler_text<'a>(
 
 pub type Bowler<'a> = Option<(&'static str, BowlerText<'a>)>;
 
-/// Who bowled the last delivery, if there is one.
+/// Returns this bowler of the innings with his figures, if there is one.
 pub fn bowler<'a>(form: Form, innings: Innings<'a>, bowler: Option<Player>) -> Bowler<'a>
     ensures { ForInnings innings.entry (λ s h i.
         ⟦<Bowler<'static> as Text>⟧.bytes result ≡ rows.bowler form s h i bowler) }
@@ -63,7 +63,7 @@ pub fn bowler<'a>(form: Form, innings: Innings<'a>, bowler: Option<Player>) -> B
 
 pub type Bowling<'a> = (Bowler<'a>, Past);
 
-/// The bowler of the last delivery, and whether he is past his overs.
+/// Returns the bowler of the last delivery, and that he has bowled more overs than allowed, if the row tells that.
 pub fn bowling<'a, B: BookOf>(
     form: Form,
     sheet: &'a MatchSheet,

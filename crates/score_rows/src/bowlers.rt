@@ -1,4 +1,4 @@
-//! Who may bowl the next delivery.
+//! The players who may bowl the next delivery.
 
 ghost use Rattle.std.specs.Prelude.{◌≡◌, ◌<◌, OnOk, true};
 ghost use Rattle.std.specs.List.{list_all};
@@ -19,7 +19,7 @@ use streams::{Sink, Watched, WriteFailed};
 
 type Yet = Option<(&'static str, u32, &'static str)>;
 
-/// How many overs a player has yet, where they are limited.
+/// Returns how many overs a player has left, if a bowler's overs are limited.
 fn yet<B: BookOf>(book: &B, most: Option<u16>, player: Player) -> Yet
     ensures { ⟦<Yet as Text>⟧.bytes result ≡ limited.yet_text most player (history_of (B.content book.now)) }
 {
@@ -31,7 +31,7 @@ fn yet<B: BookOf>(book: &B, most: Option<u16>, player: Player) -> Yet
 
 type BowlerRow<'a> = (u32, &'static str, &'a str, (Yet, &'static str));
 
-/// The row of a player of the side that fields.
+/// Returns the row of a player of the fielding side.
 fn bowler_row<'a, B: BookOf>(
     sheet: &'a MatchSheet,
     book: &B,
@@ -48,7 +48,7 @@ fn bowler_row<'a, B: BookOf>(
     (u32::from(player.number()), " ", name, (yet, "\n"))
 }
 
-/// Prints it, where he may bowl.
+/// Prints the player's row if he may bowl the next delivery.
 fn print_if_may<W: Sink, B: BookOf>(
     out: &mut Watched<W>,
     sheet: &MatchSheet,
@@ -68,7 +68,7 @@ fn print_if_may<W: Sink, B: BookOf>(
     }
 }
 
-/// Prints those of these numbers who may bowl.
+/// Prints the rows of those among these numbers who may bowl.
 fn print_among<W: Sink, B: BookOf>(
     out: &mut Watched<W>,
     sheet: &MatchSheet,
@@ -92,7 +92,7 @@ fn print_among<W: Sink, B: BookOf>(
     print_among(out, sheet, book, innings, more)
 }
 
-/// Prints those who may.
+/// Prints the rows of all who may bowl.
 fn print_all<W: Sink, B: BookOf>(
     out: &mut Watched<W>,
     sheet: &MatchSheet,
@@ -113,7 +113,7 @@ fn print_all<W: Sink, B: BookOf>(
     )
 }
 
-/// Prints who may bowl the next delivery, in a row each, with the overs that he has yet where they are limited.
+/// Prints a row for each player who may bowl the next delivery, with his overs left if these are limited.
 pub fn print_bowlers<W: Sink, B: BookOf>(
     out: &mut Watched<W>,
     sheet: &MatchSheet,

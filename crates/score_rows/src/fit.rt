@@ -1,4 +1,4 @@
-//! The row of an innings, and what of it is shown, so that it fits.
+//! The row of an innings, fitted to the columns of the sheet.
 
 ghost use Rattle.std.specs.Prelude.{◌≡◌, ◌<◌, [], false};
 ghost use Rattle.match_laws.specs.History.{begun};
@@ -22,7 +22,7 @@ use corrections::{BookOf, Placed, overs_of};
 
 pub type Back<'a> = (Bowling<'a>, OpenMarks<'a>, &'static str, (Aim, OverEnd));
 
-/// The row of an innings, behind its batters.
+/// Returns the part of an innings' row after the batters.
 #[tactic(auto, unfolding(crate::specs::Row::back))]
 fn back<'a, B: BookOf>(
     form: Form,
@@ -53,7 +53,7 @@ fn back<'a, B: BookOf>(
 
 pub type Line<'a> = (Ahead<'a>, Back<'a>);
 
-/// The bowler's row of an innings, with all marks of the open over or with these.
+/// Returns the bowler's row of an innings, with all marks of the open over or only the marks shown.
 fn line<'a, B: BookOf>(
     form: Form,
     is_all: bool,
@@ -77,7 +77,7 @@ fn line<'a, B: BookOf>(
     )
 }
 
-/// The same with all of them.
+/// Returns the bowler's row of an innings with all marks of the open over.
 #[tactic(auto, unfolding(crate::specs::Row::whole_line))]
 fn whole_line<'a, B: BookOf>(
     form: Form,
@@ -92,7 +92,7 @@ fn whole_line<'a, B: BookOf>(
     line(form, true, overs_of(book).this, sheet, book, innings)
 }
 
-/// What is left of a row behind it without any.
+/// Returns the room left after the bowler's row without any marks.
 #[tactic(auto, unfolding(crate::specs::Row::bare_line))]
 fn bare_room<B: BookOf>(form: Form, sheet: &MatchSheet, book: &B, innings: usize) -> Room
     requires { innings < begun (history_of (B.content book.now)) }
@@ -102,7 +102,7 @@ fn bare_room<B: BookOf>(form: Form, sheet: &MatchSheet, book: &B, innings: usize
     line(form, false, &[], sheet, book, innings).behind(Room::row(sheet))
 }
 
-/// The same with as many as there is room for.
+/// Returns the bowler's row of an innings with as many of the newest marks as there is room for.
 #[tactic(auto, unfolding(crate::specs::Row::short_line))]
 fn short_line<'a, B: BookOf>(
     form: Form,
@@ -119,7 +119,7 @@ fn short_line<'a, B: BookOf>(
     line(form, false, shown, sheet, book, innings)
 }
 
-/// Whether the row of an innings fits in a form, with all marks of the open over.
+/// Whether the row of an innings fits in this form with all marks of the open over.
 #[tactic(auto, using(crate::proofs::Rooms::left_behind))]
 fn is_fit<B: BookOf>(form: Form, sheet: &MatchSheet, book: &B, innings: usize) -> bool
     requires { innings < begun (history_of (B.content book.now)) }
@@ -130,7 +130,7 @@ fn is_fit<B: BookOf>(form: Form, sheet: &MatchSheet, book: &B, innings: usize) -
     line.behind(Room::row(sheet)).is_left()
 }
 
-/// Whether a form has room for the row of an innings without the marks of the open over.
+/// Whether the row of an innings fits in this form without the marks of the open over.
 #[tactic(auto, using(crate::proofs::Rooms::left_behind))]
 fn has_room<B: BookOf>(form: Form, sheet: &MatchSheet, book: &B, innings: usize) -> bool
     requires { innings < begun (history_of (B.content book.now)) }
@@ -140,8 +140,8 @@ fn has_room<B: BookOf>(form: Form, sheet: &MatchSheet, book: &B, innings: usize)
     bare_room(form, sheet, book, innings).is_left()
 }
 
-/// The first form in which the row of an innings fits with all marks, or else the first of the last four that has room for
-/// it without them, or else the last.
+/// Returns the first form in which the row of an innings fits with all marks; else the first of the last four forms in which
+/// it fits without them; else the last form.
 #[tactic(auto, unfolding(crate::specs::Row::form_of))]
 pub fn form_of<B: BookOf>(sheet: &MatchSheet, book: &B, innings: usize) -> Form
     requires { innings < begun (history_of (B.content book.now)) }
@@ -175,7 +175,7 @@ pub fn form_of<B: BookOf>(sheet: &MatchSheet, book: &B, innings: usize) -> Form
     }
 }
 
-/// The row of an innings in a form: all of it where it fits.
+/// Returns the row of an innings in this form: with all marks if it fits, else with the newest that fit.
 #[tactic(auto, using(crate::proofs::Rooms::left_behind), unfolding(crate::specs::Row::line_in))]
 pub fn line_in<'a, B: BookOf>(
     form: Form,

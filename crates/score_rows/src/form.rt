@@ -1,4 +1,4 @@
-//! What of a row is shown, so that it fits the columns of a screen.
+//! The forms of a row, by which it fits the columns of a screen.
 
 ghost use Rattle.std.specs.Prelude.{◌≡◌, ◌-◌, ◌<◌, take, true};
 ghost use Rattle.cards.specs.Sheet as sheets;
@@ -7,12 +7,12 @@ ghost use Rattle.score_rows.specs.Fit as fit;
 
 use crate::text::Text;
 
-/// What of a row is shown, the most first.
+/// What a row shows, from the most to the least.
 #[derive(Clone, Copy)]
 pub enum Form {
-    /// The team's name and the players'.
+    /// The team's name and the players' full names.
     Whole,
-    /// The players' names.
+    /// The players' full names, without the team's.
     WithoutTeam,
     /// Twelve letters of a player's name.
     TwelveLetters,
@@ -28,11 +28,11 @@ pub enum Form {
     FiveLetters,
     /// Four letters of a player's name.
     FourLetters,
-    /// The same, without of how many overs the innings is.
+    /// Four letters, and no number of overs of the innings.
     WithoutLimit,
-    /// The same, and what is told of limits stands below the row.
+    /// As `WithoutLimit`, with the bowler's limit and a free hit on rows below.
     FiguresAlone,
-    /// Eight letters of a player's name, and the bowler has a row of his own, below which stands what is told of limits.
+    /// Eight letters of a player's name; the bowler on a row of his own, with his limit and a free hit on rows below it.
     TwoRows,
 }
 
@@ -44,7 +44,7 @@ impl Form {
         matches!(self, Form::Whole)
     }
 
-    /// The most letters of a player's name that are shown.
+    /// Returns the most letters of a player's name that are shown.
     pub fn letters(self) -> usize
         ensures value { result ≡ fit.letters self }
         ensures some { 0 < result }
@@ -61,7 +61,7 @@ impl Form {
         }
     }
 
-    /// Of how many overs an innings is, where that is shown.
+    /// Returns the number of overs of an innings, if the form shows it.
     pub fn limit_in(self, overs: Option<u16>) -> Option<u16>
         ensures { result ≡ fit.limit_in self overs }
     {
@@ -71,7 +71,7 @@ impl Form {
         }
     }
 
-    /// Whether what is told of limits stands in the row, and not below it.
+    /// Whether the bowler's limit and a free hit stand in the row, not below it.
     pub fn is_beside(self) -> bool
         ensures { result ≡ fit.is_beside self }
     {
@@ -85,14 +85,14 @@ impl Form {
         matches!(self, Form::TwoRows)
     }
 
-    /// A bowler's overs, where they stand in the row.
+    /// Returns a bowler's most overs if the form tells his limit in the row.
     pub fn beside(self, most: Option<u16>) -> Option<u16>
         ensures { result ≡ fit.beside self most }
     {
         if self.is_beside() { most } else { None }
     }
 
-    /// A bowler's overs, where they stand below it.
+    /// Returns a bowler's most overs if the form tells his limit below the row.
     pub fn below(self, most: Option<u16>) -> Option<u16>
         ensures { result ≡ fit.below self most }
     {
@@ -107,14 +107,14 @@ pub fn is_plain(text: &[u8]) -> bool
     text.iter().all(|byte| *byte >= 32 && *byte <= 126)
 }
 
-/// Whether a name has more letters than are shown.
+/// Whether a name is printable ASCII and has more than `most` letters.
 pub fn is_long(name: &str, most: usize) -> bool
     ensures { result ≡ fit.is_long most name.now }
 {
     name.len() > most && is_plain(name.as_bytes())
 }
 
-/// Whether two names look alike as they are cut.
+/// Whether two names look alike when cut to `most` letters.
 pub fn are_alike(one: &str, other: &str, most: usize) -> bool
     requires { 0 < most }
     ensures { result ≡ fit.are_alike most one.now other.now }
@@ -122,7 +122,7 @@ pub fn are_alike(one: &str, other: &str, most: usize) -> bool
     is_long(one, most) && is_long(other, most) && front_of(one, most) == front_of(other, most)
 }
 
-/// The letters of a long name that are shown.
+/// Returns the letters of a long name that are shown: one fewer than `most`, which leaves room for the point.
 pub fn front_of(name: &str, most: usize) -> &str
     requires some { 0 < most }
     requires long { fit.is_long most name.now ≡ true }
@@ -132,10 +132,10 @@ pub fn front_of(name: &str, most: usize) -> &str
     front
 }
 
-/// A name as it is shown, and the point behind one that is cut.
+/// A name as it is shown: its letters, and the point after a cut one.
 pub type Name<'a> = (&'a str, &'static str);
 
-/// A name of at most so many letters.
+/// Returns a name cut to at most `most` letters.
 pub fn cut(name: &str, most: usize) -> Name<'_>
     requires { 0 < most }
     ensures { ⟦<Name<'static> as Text>⟧.bytes result ≡ fit.cut most name.now }

@@ -1,4 +1,4 @@
-//! The row of an innings, to its batters.
+//! The front of an innings' row, up to its batters.
 
 ghost use Rattle.std.specs.Prelude.{◌≡◌};
 ghost use Rattle.cards.specs.Begun.{ForInnings};
@@ -12,7 +12,7 @@ use cards::Innings;
 
 pub type Runs = (u32, &'static str, u32);
 
-/// A total and its wickets.
+/// Returns the total and the wickets.
 fn runs(innings: Innings<'_>) -> Runs
     ensures { ForInnings innings.entry (λ s h i. ⟦<Runs as Text>⟧.bytes result ≡ rows.runs_text h i) }
 {
@@ -23,7 +23,7 @@ fn runs(innings: Innings<'_>) -> Runs
 
 pub type Team<'a> = Option<(&'a str, &'static str)>;
 
-/// The side, where it is shown.
+/// Returns the batting side's name, if the form shows it.
 fn team<'a>(form: Form, innings: Innings<'a>) -> Team<'a>
     ensures { ForInnings innings.entry (λ s h i. ⟦<Team<'static> as Text>⟧.bytes result ≡ rows.team_text form s h i) }
 {
@@ -36,7 +36,7 @@ fn team<'a>(form: Form, innings: Innings<'a>) -> Team<'a>
 
 pub type Total<'a> = (&'a str, &'static str, Runs);
 
-/// The side, its total and its wickets.
+/// Returns the batting side's name, its total and its wickets.
 pub fn total(innings: Innings<'_>) -> Total<'_>
     ensures { ForInnings innings.entry (λ s h i. ⟦<Total<'static> as Text>⟧.bytes result ≡ rows.total_text s h i) }
 {
@@ -45,7 +45,7 @@ pub fn total(innings: Innings<'_>) -> Total<'_>
 
 pub type OversFront = (&'static str, u32, &'static str, u32);
 
-/// The overs called, and the counting deliveries since.
+/// Returns the overs called, and the deliveries counted since.
 fn overs_front(innings: Innings<'_>) -> OversFront
     ensures { ForInnings innings.entry (λ s h i. ⟦<OversFront as Text>⟧.bytes result ≡ rows.overs_front h i) }
 {
@@ -55,7 +55,7 @@ fn overs_front(innings: Innings<'_>) -> OversFront
 
 pub type Overs = (OversFront, OfOvers, &'static str);
 
-/// The overs of an innings, of so many where they are limited.
+/// Returns the overs of an innings, with how many it may have if the form shows that.
 fn overs(form: Form, innings: Innings<'_>) -> Overs
     ensures { ForInnings innings.entry (λ s h i. ⟦<Overs as Text>⟧.bytes result ≡ rows.overs_text form s h i) }
 {
@@ -65,7 +65,7 @@ fn overs(form: Form, innings: Innings<'_>) -> Overs
 
 pub type Front<'a> = ((Team<'a>, Runs, Overs, &'static str), Batters<'a>);
 
-/// The row of an innings, to its batters.
+/// Returns the front of an innings' row, with its batters.
 fn front<'a>(form: Form, innings: Innings<'a>) -> Front<'a>
     ensures { ForInnings innings.entry (λ s h i. ⟦<Front<'static> as Text>⟧.bytes result ≡ rows.front form s h i) }
 {
@@ -82,7 +82,7 @@ fn front<'a>(form: Form, innings: Innings<'a>) -> Front<'a>
 
 pub type Above<'a> = Option<(Front<'a>, &'static str)>;
 
-/// The row of the batters, where the bowler has his own below it.
+/// Returns the batters' row, if the form puts the bowler on a row of his own below it.
 pub fn above<'a>(form: Form, innings: Innings<'a>) -> Above<'a>
     ensures { ForInnings innings.entry (λ s h i. ⟦<Above<'static> as Text>⟧.bytes result ≡ rows.above form s h i) }
 {
@@ -95,7 +95,7 @@ pub fn above<'a>(form: Form, innings: Innings<'a>) -> Above<'a>
 
 pub type Ahead<'a> = Option<Front<'a>>;
 
-/// What stands before the bowler in his row.
+/// Returns what stands before the bowler in his row: the front, unless that has a row of its own.
 pub fn ahead<'a>(form: Form, innings: Innings<'a>) -> Ahead<'a>
     ensures { ForInnings innings.entry (λ s h i. ⟦<Ahead<'static> as Text>⟧.bytes result ≡ rows.ahead form s h i) }
 {

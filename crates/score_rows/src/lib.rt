@@ -1,4 +1,4 @@
-//! How a match stands, in a row that is fitted to a screen; the check of an over; who may bowl.
+//! The state of a match in a row that is fitted to a screen; the check of an over; and who may bowl.
 #![tactic(auto)]
 
 mod aim;

@@ -1,4 +1,4 @@
-//! What a desk tells of what the sheet limits.
+//! The rows about what the sheet limits: overs, a bowler's overs, and free hits.
 
 ghost use Rattle.std.specs.Prelude.{◌≡◌, ◌<◌};
 ghost use Rattle.match_laws.specs.History.{begun};
@@ -16,7 +16,7 @@ use notation::Player;
 
 pub type OfOvers = Option<(&'static str, u32)>;
 
-/// Of how many overs an innings is, where the sheet says it.
+/// Returns ` of` and the overs of an innings, if these are limited.
 pub fn of_overs(overs: Option<u16>) -> OfOvers
     ensures { ⟦<OfOvers as Text>⟧.bytes result ≡ limited.of_overs overs }
 {
@@ -28,7 +28,7 @@ pub fn of_overs(overs: Option<u16>) -> OfOvers
 
 type TwoPlaces = (u64, &'static str, u64, u64);
 
-/// Hundredths, with two places.
+/// Returns a number of hundredths as a decimal with two places.
 fn two_places(hundredths: u64) -> TwoPlaces
     ensures { ⟦<TwoPlaces as Text>⟧.bytes result ≡ rates.two_places hundredths }
 {
@@ -37,7 +37,7 @@ fn two_places(hundredths: u64) -> TwoPlaces
 
 type Rate = Option<(&'static str, TwoPlaces, &'static str)>;
 
-/// A rate, where there is one.
+/// Returns a rate in brackets, if there is one.
 fn rate(hundredths: Option<u64>) -> Rate
     ensures { ⟦<Rate as Text>⟧.bytes result ≡ limited.rate_text hundredths }
 {
@@ -49,14 +49,14 @@ fn rate(hundredths: Option<u64>) -> Rate
 
 pub type Off = (&'static str, u32, Rate);
 
-/// Off how many deliveries so many runs are needed, and how many that is an over.
+/// Returns the deliveries left to score these runs, and the runs an over that this asks for.
 pub fn off(runs: u32, left: u32) -> Off
     ensures { ⟦<Off as Text>⟧.bytes result ≡ limited.off_text runs left }
 {
     (" off ", left, rate(an_over(runs, left)))
 }
 
-/// How many deliveries are left, where the sheet limits the overs.
+/// Returns how many deliveries are left in an innings, if the sheet limits its overs.
 pub fn left_now(innings: Innings<'_>) -> Option<u32>
     ensures { ForInnings innings.entry (λ s h i. result ≡ limited.left_now s h i) }
 {
@@ -66,14 +66,14 @@ pub fn left_now(innings: Innings<'_>) -> Option<u32>
     }
 }
 
-/// Whether the next delivery is a free hit.
+/// Whether the next delivery is a free hit, by the sheet and the book.
 fn is_free<B: BookOf>(sheet: &MatchSheet, book: &B) -> bool
     ensures { result ≡ limited.is_free sheet.now (history_of (B.content book.now)) }
 {
     sheet.limits().free_hits() && is_free_hit(book)
 }
 
-/// That the next delivery is a free hit, where it is and is told here.
+/// Returns the note of a free hit, if the next delivery is one and the note belongs here.
 pub fn free<B: BookOf>(is_here: bool, sheet: &MatchSheet, book: &B) -> &'static str
     ensures { result.now ≡ limited.free_text is_here sheet.now (history_of (B.content book.now)) }
 {
@@ -84,7 +84,7 @@ pub fn free<B: BookOf>(is_here: bool, sheet: &MatchSheet, book: &B) -> &'static 
     }
 }
 
-/// The same on a row of its own.
+/// Returns a row with the note of a free hit, if the next delivery is one and the note belongs here.
 pub fn free_row<B: BookOf>(is_here: bool, sheet: &MatchSheet, book: &B) -> &'static str
     ensures { result.now ≡ limited.free_row is_here sheet.now (history_of (B.content book.now)) }
 {
@@ -97,7 +97,7 @@ pub fn free_row<B: BookOf>(is_here: bool, sheet: &MatchSheet, book: &B) -> &'sta
 
 pub type Past = Option<(&'static str, u32)>;
 
-/// That a bowler is past his overs, where he is.
+/// Returns that a bowler is past his most overs, if he is.
 fn past_of(most: u16, bowled: u32) -> Past
     ensures { ⟦<Past as Text>⟧.bytes result ≡ limited.past_text most bowled }
 {
@@ -108,7 +108,7 @@ fn past_of(most: u16, bowled: u32) -> Past
     }
 }
 
-/// The same of who bowls, if anybody does.
+/// Returns that this bowler is past his most overs, if he is; nothing if there is no bowler or no limit.
 pub fn past<B: BookOf>(book: &B, most: Option<u16>, bowler: Option<Player>) -> Past
     ensures { ⟦<Past as Text>⟧.bytes result ≡ limited.past most (history_of (B.content book.now)) bowler }
 {
@@ -120,7 +120,7 @@ pub fn past<B: BookOf>(book: &B, most: Option<u16>, bowler: Option<Player>) -> P
 
 type Rest = Option<(&'static str, u32)>;
 
-/// What is left of an over.
+/// Returns the deliveries beyond whole overs, after a point, if there are any.
 fn rest(deliveries: u32) -> Rest
     ensures { ⟦<Rest as Text>⟧.bytes result ≡ limited.rest_text deliveries }
 {
@@ -143,14 +143,14 @@ fn overs_word(deliveries: u32) -> &'static str
 
 type Left = (u32, Rest, &'static str);
 
-/// How many overs so many deliveries are.
+/// Returns a number of deliveries in overs.
 fn left(deliveries: u32) -> Left
     ensures { ⟦<Left as Text>⟧.bytes result ≡ limited.left_text deliveries }
 {
     (deliveries / 6, rest(deliveries % 6), overs_word(deliveries))
 }
 
-/// That all overs are bowled.
+/// Returns that all overs of the innings are bowled.
 fn all_bowled(overs: u16) -> Left
     ensures { ⟦<Left as Text>⟧.bytes result ≡ limited.all_bowled overs }
 {
@@ -162,7 +162,7 @@ fn all_bowled(overs: u16) -> Left
     (u32::from(overs), None, word)
 }
 
-/// What is left of an innings of so many overs.
+/// Returns what is left of an innings of this many overs.
 fn innings_left(innings: Innings<'_>, overs: u16) -> Left
     ensures { ForInnings innings.entry (λ s h i. ⟦<Left as Text>⟧.bytes result ≡ limited.innings_left overs h i) }
 {
@@ -180,7 +180,7 @@ type BowledOf<'a> = (
     (u32, &'static str, u32),
 );
 
-/// In how many overs a bowler has bowled, of how many.
+/// Returns a bowler's name, with how many overs he has bowled in and how many he may.
 fn bowled_of<'a, B: BookOf>(
     sheet: &'a MatchSheet,
     book: &B,
@@ -204,7 +204,7 @@ fn bowled_of<'a, B: BookOf>(
 
 type BowlerPart<'a> = Option<BowledOf<'a>>;
 
-/// The same of the bowler of the last delivery, where bowlers are limited and there is one.
+/// Returns that text for the bowler of the last delivery, if there is one and bowlers are limited.
 fn bowler_part<'a, B: BookOf>(
     sheet: &'a MatchSheet,
     book: &B,
@@ -224,7 +224,7 @@ fn bowler_part<'a, B: BookOf>(
 
 pub type BowlerRow<'a> = Option<(BowledOf<'a>, &'static str)>;
 
-/// The same on a row of its own.
+/// Returns that text as a row of its own.
 fn bowler_line<'a, B: BookOf>(
     sheet: &'a MatchSheet,
     book: &B,
@@ -242,7 +242,7 @@ fn bowler_line<'a, B: BookOf>(
     }
 }
 
-/// A row of its own with it, where he is past his overs.
+/// Returns that text as a row of its own, if the player is past his most overs.
 fn past_line<'a, B: BookOf>(
     sheet: &'a MatchSheet,
     book: &B,
@@ -261,7 +261,7 @@ fn past_line<'a, B: BookOf>(
     }
 }
 
-/// The same of the bowler of the last delivery, where bowlers are limited and there is one.
+/// Returns such a row for the bowler of the last delivery, if there is one and bowlers are limited.
 pub fn past_row<'a, B: BookOf>(
     sheet: &'a MatchSheet,
     book: &B,
@@ -281,7 +281,7 @@ pub fn past_row<'a, B: BookOf>(
 
 type LeftLine<'a> = (&'static str, Left, BowlerPart<'a>, &'static str);
 
-/// The overs left of so many, and the bowler behind them.
+/// Returns the row with what is left of an innings of this many overs, and its bowler's overs.
 fn left_line<'a, B: BookOf>(
     sheet: &'a MatchSheet,
     book: &B,
@@ -309,7 +309,7 @@ fn left_line<'a, B: BookOf>(
 
 type LineFor<'a> = (Option<LeftLine<'a>>, BowlerRow<'a>);
 
-/// What is left, of overs or of the bowler alone.
+/// Returns the row with what is left of the innings, or with the bowler's overs alone if the innings isn't limited.
 fn line_for<'a, B: BookOf>(
     sheet: &'a MatchSheet,
     book: &B,
@@ -332,7 +332,8 @@ fn line_for<'a, B: BookOf>(
 
 pub type LimitsLine<'a> = Option<LineFor<'a>>;
 
-/// What is left of an innings and of the bowler's overs, in a line, where the sheet limits either and the innings is open.
+/// Returns the row with what is left of the innings and of the
+/// bowler's overs, if the sheet limits either and an innings is open.
 pub fn limits_line<'a, B: BookOf>(sheet: &'a MatchSheet, book: &B, innings: usize) -> LimitsLine<'a>
     requires { innings < begun (history_of (B.content book.now)) }
     ensures { ⟦<LimitsLine<'static> as Text>⟧.bytes result

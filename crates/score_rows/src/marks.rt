@@ -1,4 +1,4 @@
-//! The marks of an over, and its runs.
+//! The marks of an over's deliveries, and the over's runs.
 
 ghost use Rattle.std.specs.Prelude.{◌≡◌, ◌≤◌, OnOk, length};
 ghost use Rattle.notation.specs.declared.entry.TheConstants.{PLACES};
@@ -31,7 +31,7 @@ fn mark_text(mark: Mark) -> MarkText
 
 type BallMark = (&'static str, MarkText, &'static str);
 
-/// A delivery's mark, behind a space.
+/// Returns a delivery's mark, after a space.
 fn ball_mark(ball: &Ball) -> BallMark
     ensures { ⟦<BallMark as Text>⟧.bytes result ≡ laws.spaced_mark ball.now }
 {
@@ -40,7 +40,7 @@ fn ball_mark(ball: &Ball) -> BallMark
 
 type ItemMark = Option<BallMark>;
 
-/// An item's mark, where it is a delivery.
+/// Returns an item's mark, if it is a delivery.
 fn item_mark(item: &Plain) -> ItemMark
     ensures { ⟦<ItemMark as Text>⟧.bytes result ≡ items.item_mark item.now }
 {
@@ -96,7 +96,7 @@ fn left_out(is_all: bool) -> &'static str
     if is_all { "" } else { " <" }
 }
 
-/// The marks of the open over: all, or these.
+/// Returns the marks of the open over: of all its deliveries, or of those shown.
 pub fn open_marks<'a>(over: &[Placed], is_all: bool, shown: &'a [Placed]) -> OpenMarks<'a>
     ensures { ⟦<OpenMarks<'static> as Text>⟧.bytes result
         ≡ rows.open_marks (balls_of over.now) is_all (balls_of shown.now) }
@@ -107,7 +107,7 @@ pub fn open_marks<'a>(over: &[Placed], is_all: bool, shown: &'a [Placed]) -> Ope
     Some((" ", left_out(is_all), Marks { over: shown }))
 }
 
-/// The newest of an over's items, as many as there is room for.
+/// Returns the newest items of an over, as many as there is room for.
 pub fn newest_of(over: &[Placed], room: Room) -> &[Placed]
     ensures { balls_of result.now ≡ rows.newest room (balls_of over.now) }
 {
@@ -124,7 +124,7 @@ pub fn newest_of(over: &[Placed], room: Room) -> &[Placed]
     over
 }
 
-/// The runs of an item.
+/// Returns the runs of an item: 0 if it is no delivery.
 fn item_runs(item: &Plain) -> u32
     ensures value { result ≡ items.item_runs item.now }
     ensures bound { result ≤ 260 }
@@ -135,7 +135,7 @@ fn item_runs(item: &Plain) -> u32
     }
 }
 
-/// The runs of the deliveries of an over.
+/// Returns the runs of an over's deliveries.
 pub fn runs_of(over: &[Placed]) -> u32
     requires { length over.now ≤ PLACES }
     ensures { result ≡ tally runs_of (balls_of over.now) }

@@ -26,7 +26,7 @@ use streams::{Sink, Watched, WriteFailed};
 
 type InRows<'a, A, B> = (A, &'a str, B, &'a str);
 
-/// Two parts of a row, or of two where that has too many columns.
+/// Returns two parts joined in one row, or in two rows if one would have too many columns.
 #[tactic(auto, using(crate::proofs::Rooms::behind_both, crate::proofs::Rooms::left_behind))]
 fn in_rows<'a, A: Text, B: Text>(
     sheet: &MatchSheet,
@@ -47,7 +47,7 @@ fn in_rows<'a, A: Text, B: Text>(
     (first, between, second, "\n")
 }
 
-/// All extras of an innings.
+/// Returns the sum of an innings' extras.
 fn all_extras(extras: &Extras) -> u64
     ensures { result ≡ card.all_extras extras.now }
 {
@@ -65,7 +65,7 @@ type ExtrasText = (
     ),
 );
 
-/// All extras, and of which kinds they are.
+/// Returns the sum of an innings' extras, and how many there are of each kind.
 fn extras_text(extras: &Extras) -> ExtrasText
     ensures { ⟦<ExtrasText as Text>⟧.bytes result ≡ check.extras_text extras.now }
 {
@@ -83,7 +83,7 @@ fn extras_text(extras: &Extras) -> ExtrasText
 
 type TotalLine<'a> = InRows<'a, (&'static str, Total<'a>), ExtrasText>;
 
-/// The total and the extras.
+/// Returns the row of the total and the extras.
 fn total_line(innings: Innings<'_>) -> TotalLine<'_>
     ensures { ForInnings innings.entry (λ s h i. ⟦<TotalLine<'static> as Text>⟧.bytes result ≡ check.total_line s h i) }
 {
@@ -99,7 +99,7 @@ fn total_line(innings: Innings<'_>) -> TotalLine<'_>
 
 type BattersLine<'a> = InRows<'a, (&'static str, End<'a>), End<'a>>;
 
-/// Both batters.
+/// Returns the row of both batters.
 fn batters_line(innings: Innings<'_>) -> BattersLine<'_>
     ensures { ForInnings innings.entry (λ s h i. ⟦<BattersLine<'static> as Text>⟧.bytes result ≡ check.batters_line s h i) }
 {
@@ -114,7 +114,7 @@ fn batters_line(innings: Innings<'_>) -> BattersLine<'_>
 
 type Marked<'a> = (OpenMarks<'a>, &'static str, u32);
 
-/// The marks of an over, all or these, and all its runs.
+/// Returns the marks of an over, all or only those shown, and all its runs.
 fn marked<'a>(over: &[Placed], is_all: bool, shown: &'a [Placed]) -> Marked<'a>
     requires { length over.now ≤ PLACES }
     ensures { ⟦<Marked<'static> as Text>⟧.bytes result
@@ -123,7 +123,7 @@ fn marked<'a>(over: &[Placed], is_all: bool, shown: &'a [Placed]) -> Marked<'a>
     (open_marks(over, is_all, shown), " = ", runs_of(over))
 }
 
-/// What is left of a row of their own.
+/// Returns the room left in a row that holds these marks alone.
 #[tactic(auto, using(crate::proofs::Rooms::behind_both))]
 fn own_room(sheet: &MatchSheet, over: &[Placed], is_all: bool, shown: &[Placed]) -> Room
     requires { length over.now ≤ PLACES }
@@ -134,7 +134,7 @@ fn own_room(sheet: &MatchSheet, over: &[Placed], is_all: bool, shown: &[Placed])
     marked.behind(Room::row(sheet).text("  "))
 }
 
-/// An over with all marks that have room in a row of their own, or else the newest.
+/// Returns an over with all its marks if they fit in a row of their own, else with the newest that fit.
 #[tactic(auto, using(crate::proofs::Rooms::left_behind))]
 fn over_text<'a>(sheet: &MatchSheet, over: &'a [Placed]) -> Marked<'a>
     requires { length over.now ≤ PLACES }
@@ -149,7 +149,7 @@ fn over_text<'a>(sheet: &MatchSheet, over: &'a [Placed]) -> Marked<'a>
 
 type OverLine<'a> = Option<InRows<'a, Bowler<'a>, Marked<'a>>>;
 
-/// The bowler of the last delivery and its over, if there is one.
+/// Returns the row of the last delivery's bowler and over, if there is one.
 fn over_line<'a, B: BookOf>(sheet: &'a MatchSheet, book: &'a B, innings: usize) -> OverLine<'a>
     requires { innings < begun (history_of (B.content book.now)) }
     ensures { ⟦<OverLine<'static> as Text>⟧.bytes result ≡ check.over_line sheet.now
@@ -173,7 +173,7 @@ fn over_line<'a, B: BookOf>(sheet: &'a MatchSheet, book: &'a B, innings: usize) 
 
 type CheckLines<'a> = (TotalLine<'a>, BattersLine<'a>, OverLine<'a>, LimitsLine<'a>);
 
-/// The check of an over of an innings.
+/// Returns the rows of the check of an over.
 fn check_lines<'a, B: BookOf>(sheet: &'a MatchSheet, book: &'a B, innings: usize) -> CheckLines<'a>
     requires { innings < begun (history_of (B.content book.now)) }
     ensures { ⟦<CheckLines<'static> as Text>⟧.bytes result
@@ -193,8 +193,8 @@ fn check_lines<'a, B: BookOf>(sheet: &'a MatchSheet, book: &'a B, innings: usize
 }
 
 /// Prints what two scorers compare after an over: the total with the extras, both batters, and the bowler of the last
-/// delivery with its over. A row that has more columns than the sheet takes is broken in two, and of an over that is too long
-/// even so the oldest marks are left out.
+/// delivery with its over. A row that has more columns than the sheet allows is broken in two; an over that is too long even
+/// then loses its oldest marks.
 pub fn print_check<W: Sink, B: BookOf>(
     out: &mut Watched<W>,
     sheet: &MatchSheet,

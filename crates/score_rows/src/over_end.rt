@@ -1,4 +1,4 @@
-//! What stands behind the row of an over that is over, and isn't called.
+//! The note after the row of an over that is complete but not called.
 
 ghost use Rattle.std.specs.Prelude.{◌≡◌, ◌≤◌, OnOk, length};
 ghost use Rattle.notation.specs.declared.entry.TheConstants.{PLACES};
@@ -16,7 +16,7 @@ use corrections::{BookOf, Placed, bowler_of, overs_of};
 use notation::{Plain, Player};
 use streams::{Sink, Watched, WriteFailed};
 
-/// One, where the item is a delivery that counts.
+/// Returns 1 if the item is a delivery that counts, else 0.
 fn item_counts(item: &Plain) -> u32
     ensures value { result ≡ items.item_counts item.now }
     ensures bound { result ≤ 1 }
@@ -27,7 +27,7 @@ fn item_counts(item: &Plain) -> u32
     }
 }
 
-/// How many deliveries of an over count.
+/// Returns how many deliveries of an over count.
 fn counting_of(over: &[Placed]) -> u32
     requires { length over.now ≤ PLACES }
     ensures { result ≡ counting (balls_of over.now) }
@@ -45,7 +45,7 @@ fn is_ball(item: &Plain) -> bool
     matches!(item, Plain::Ball(_))
 }
 
-/// An over without its last delivery.
+/// Returns the items of an over before its last delivery.
 #[tactic(auto, using(crate::proofs::Items::balls_push))]
 fn older_of(over: &[Placed]) -> &[Placed]
     ensures older { balls_of result.now ≡ rows.older_of (balls_of over.now) }
@@ -61,7 +61,7 @@ fn older_of(over: &[Placed]) -> &[Placed]
     }
 }
 
-/// Whether these are two bowlers.
+/// Whether these are two different bowlers.
 fn are_two(bowler: Option<Player>, other: Option<Player>) -> bool
     ensures { result ≡ rows.are_two bowler other }
 {
@@ -71,7 +71,7 @@ fn are_two(bowler: Option<Player>, other: Option<Player>) -> bool
     }
 }
 
-/// Whether six deliveries counted before the over's last one, and another bowled that than the one before it.
+/// Whether six deliveries counted before the over's last one, and a different bowler bowled the last one.
 fn is_uncalled(over: &[Placed]) -> bool
     requires { length over.now ≤ PLACES }
     ensures { result ≡ rows.is_uncalled (balls_of over.now) }
@@ -80,7 +80,7 @@ fn is_uncalled(over: &[Placed]) -> bool
     counting_of(older) >= 6 && are_two(bowler_of(over), bowler_of(older))
 }
 
-/// That an over isn't called, where a bowler began another one.
+/// Returns that the over isn't called, if a different bowler has begun the next one.
 fn uncalled(over: &[Placed]) -> &'static str
     requires { length over.now ≤ PLACES }
     ensures { result.now ≡ rows.uncalled_text (balls_of over.now) }
@@ -94,7 +94,7 @@ fn uncalled(over: &[Placed]) -> &'static str
 
 pub type OverEnd = Option<(&'static str, u32, &'static str, &'static str)>;
 
-/// How many deliveries of the open over count, from the sixth on.
+/// Returns how many deliveries of the open over count, if six or more do.
 pub fn over_end(over: &[Placed]) -> OverEnd
     requires { length over.now ≤ PLACES }
     ensures { ⟦<OverEnd as Text>⟧.bytes result ≡ rows.over_end (balls_of over.now) }
@@ -108,7 +108,7 @@ pub fn over_end(over: &[Placed]) -> OverEnd
 
 type Note = Option<(&'static str, Option<(u32, &'static str)>)>;
 
-/// Of an over that was called with another number of deliveries that count than six, that number.
+/// Returns how many deliveries counted in a called over, if they aren't six.
 fn note(count: u32) -> Note
     ensures { ⟦<Note as Text>⟧.bytes result ≡ rows.called_note count }
 {
@@ -121,7 +121,7 @@ fn note(count: u32) -> Note
     }
 }
 
-/// Prints of the over of a book that was called last how many of its deliveries count, where they aren't six.
+/// Prints how many deliveries counted in the book's last called over, if they aren't six.
 pub fn print_over_note<W: Sink, B: BookOf>(
     out: &mut Watched<W>,
     book: &B,

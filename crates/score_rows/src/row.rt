@@ -1,4 +1,4 @@
-//! How a match stands: a row that is fitted to its columns, and those below it.
+//! The state of a match: a row that is fitted to its columns, and the rows below it.
 
 ghost use Rattle.std.specs.Prelude.{◌≡◌, ◌<◌, OnOk};
 ghost use Rattle.match_laws.specs.History.{begun};
@@ -18,7 +18,7 @@ use streams::{Sink, Watched, WriteFailed};
 
 type LimitsBelow<'a> = (BowlerRow<'a>, &'static str);
 
-/// What is told of limits and has no room in a row.
+/// Returns the rows about limits that have no room in the row.
 fn limits_below<'a, B: BookOf>(
     form: Form,
     sheet: &'a MatchSheet,
@@ -37,7 +37,7 @@ fn limits_below<'a, B: BookOf>(
     )
 }
 
-/// Prints the row of an innings, and those below it.
+/// Prints the row of an innings, and the rows below it.
 fn print_innings<W: Sink, B: BookOf>(
     out: &mut Watched<W>,
     sheet: &MatchSheet,
@@ -64,11 +64,11 @@ fn print_innings<W: Sink, B: BookOf>(
     result_row(sheet, score).print(out)
 }
 
-/// Prints how the match of a book stands, in one row. Where it has more columns than the sheet takes the team's name is left
+/// Prints the state of a book's match in one row. If that has more columns than the sheet allows, the team's name is left
 /// out, then players' names are cut, down to four letters (numbers tell apart two batters whose names then look alike), then
-/// the oldest marks of the over are left out. Where the row is too long with no mark at all, it goes without of how many overs
-/// the innings is, and if need be what is told of limits stands on rows below, and at last the bowler on one of his own. Below
-/// stand too what is needed in a chase of limited overs, and the result.
+/// the oldest marks of the over are left out. If the row is too long with no mark at all, the number of overs of the innings
+/// is left out, then a bowler's limit and a free hit go to rows below, and at last the bowler goes to a row of his own. The
+/// rows below also have the runs needed in a chase of limited overs, and the result.
 pub fn print_row<W: Sink, B: BookOf>(
     out: &mut Watched<W>,
     sheet: &MatchSheet,

@@ -1,4 +1,4 @@
-//! Values that are texts: strings, numbers, and several in a row. How wide one is and what is printed of it are said once.
+//! Values that are texts: strings, numbers, and several in a row. Each states its width and its print once.
 
 #![tactic(auto, using(crate::proofs::Rooms::behind_both, crate::proofs::Rooms::behind_nothing))]
 
@@ -10,16 +10,16 @@ use crate::room::Room;
 use itoa::Buffer;
 use streams::{Sink, Watched, WriteFailed};
 
-/// A value that is a text.
+/// A value that can be measured and printed as a text.
 pub trait Text {
-    /// The text.
+    /// The bytes of the text.
     ghost bytes: { Self → List ℕ };
 
-    /// What is left of a row behind it.
+    /// Returns the room left in a row after the text.
     fn behind(&self, room: Room) -> Room
         ensures { result ≡ fit.behind room (bytes self.now) };
 
-    /// Prints it.
+    /// Prints the text.
     fn print<W: Sink>(&self, out: &mut Watched<W>) -> Result<(), WriteFailed>
         ensures text { OnOk result (Prints W.contents out.old out.new (bytes self.now)) }
         ensures failed { TellsFailure result out.old out.new };
@@ -66,7 +66,7 @@ impl Text for u64 {
     }
 }
 
-/// A text, or none.
+/// The text of a value that may be absent: empty if it is.
 impl<T: Text> Text for Option<T> {
     ghost bytes = { elim [ None ↦ [] | Some text ↦ T.bytes text ] };
 
@@ -85,7 +85,7 @@ impl<T: Text> Text for Option<T> {
     }
 }
 
-/// One behind the other.
+/// Two texts, one after the other.
 impl<A: Text, B: Text> Text for (A, B) {
     ghost bytes = { λ texts. A.bytes texts.0 ++ B.bytes texts.1 };
 

@@ -1,4 +1,4 @@
--- Plain text is text.
+-- Printable bytes are ASCII.
 use Rattle.std.proofs.Common.{◌≡◌, ◌<◌, ℕ, zero, suc, nat_le, List, [], ◌∷◌, true, get_or, arith, lit<}
 use Rattle.std.specs.List.{list_all}
 use Rattle.std.specs.Str.{IsAscii}

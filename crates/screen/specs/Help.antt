@@ -1,9 +1,9 @@
--- What the words of a desk do, with a line for each as it is typed.
+-- What each word of a desk does, with an example line as it is typed.
 use Rattle.std.specs.Prelude.{ℕ, List, codes}
 use Rattle.screen.specs.declared.topic.Topic.{Topic}
 use Rattle.screen.specs.declared.topic.Topic.TheVariants.{Innings, In, Ball, Gone, Over, Penalty, Swap, End, Close, Void, Fix, Late, Again, Undo, Listing, Score, Card, Players, Bowlers, Who, Plan, Quit, Short}
 
--- the forms of all lines, in full and in short
+-- the forms of all lines, full and short
 abbrev pub help : List ℕ
 help = codes "innings S       S: home away\nin n            n: 1 to 11\nball b K r [short s] [B] [dead] [out H W f [crossed]]\n  K: bat bye leg wide nb nbbye nbleg    B: four six overthrow\n  H: bowled caught lbw stumped hitwicket hittwice obstructing runout\n  W: striker other    f: 0 none, 12 a substitute\ngone L n        L: timedout retiredout retiredhurt runout\nover            ends the over; over n [S i]: the entries of the n-th one\npenalty S x y   by Law x.y\nswap\nend C           C: allout nobatter declared forfeited overs\nclose, void     the match is over; nothing, in place of what is struck out\nfix p E         place p, or the ball 9.2, is to read E, any line above\nlate p E        E, any line above, belongs after place p\nagain [E]       E, or what you wrote before, where you two differ\nundo            takes back the line held last; none held: voids the last entry\nlist [n], a b   the last n entries, 12 left out; those of the places a to b\nscore, card [n] this over and the total; both cards of this innings or the n-th\nplayers, who    both sides; who isn't out or in; an empty line: where you stand\nbowlers         who may bowl the next ball\nplan E, E ..    how to enter fix and late lines that are legal only together\nhelp [word]     this, or more on one of these words; short: short lines\nquit, exit      ends; the same command goes on\n"
 

@@ -1,4 +1,4 @@
--- What is claimed: Both, Sides, Waiting, Sentences, Near, Words, Help. Sights has what else is shown of a desk.
+-- What is claimed: Both, Sides, Waiting, Sentences, Near, Words, Help. Sights has what a page shows of a desk.
 pub mod Both
 pub mod Sides
 pub mod Waiting

@@ -1,4 +1,4 @@
--- What a desk says behind the name of a fault and of a refusal: a sentence for each.
+-- The sentences that a desk prints after the name of a fault or a refusal: one for each.
 use Rattle.std.specs.Prelude.{ℕ, List, codes}
 use Rattle.notation.specs.declared.fault.LineFault.{LineFault}
 use Rattle.notation.specs.declared.fault.LineFault.TheVariants.{TooLong, UnknownWord, BadNumber, Missing, Extra, Spaces}

@@ -8,24 +8,24 @@ use Rattle.cards.specs.Sheet.{Sheet, Team, player_in, team_of}
 abbrev pub player_text : Team → ℕ → List ℕ
 player_text team n = decimal n ++ codes " " ++ player_in team n
 
--- before each player but the first
+-- what stands before each player but the first
 abbrev pub comma : Bool → List ℕ
 comma true = []
 comma false = codes ", "
 
--- with a comma between two
+-- the players with these numbers, with commas between them
 abbrev pub listed : Team → Bool → List ℕ → List ℕ
 listed team is_first [] = []
 listed team is_first (n ∷ ns) = comma is_first ++ player_text team n ++ listed team false ns
 
--- before a player at this place of a row of three: the first of each row begins it
+-- what stands before a player in this column of a row of three: the first column begins a new row
 abbrev pub before_player : ℕ → List ℕ
 before_player column = if column == 0 then codes "\n  " else codes ", "
 
 abbrev pub next_column : ℕ → ℕ
 next_column column = if column == 2 then 0 else column + 1
 
--- three in a row
+-- the players with these numbers, three in a row, from this column on
 abbrev pub in_rows : Team → ℕ → List ℕ → List ℕ
 in_rows team column [] = []
 in_rows team column (n ∷ ns) = before_player column ++ player_text team n ++ in_rows team (next_column column) ns

@@ -1,4 +1,4 @@
--- Who of the side that bats isn't out and isn't in, three in a row. s is the sheet, h the history and i the innings.
+-- The batting side's players who are neither out nor in, three in a row. s is the sheet, h the history and i the innings.
 use Rattle.std.specs.Prelude.{ℕ, ◌==◌, Bool, true, false, if◌then◌else◌, Option, Some, None, List, [], ◌∷◌, ◌++◌, codes}
 use Rattle.ball_laws.specs.History.{History}
 use Rattle.ball_laws.specs.Over.{numbers}
@@ -9,7 +9,7 @@ use Rattle.match_laws.specs.declared.rows.Fate.{Fate}
 use Rattle.cards.specs.Sheet.{Sheet, name_of, team_of}
 use Rattle.screen.specs.Sides.{before_player, next_column, player_text}
 
--- he hasn't come in yet, or is retired hurt
+-- a player with this fate waits: he hasn't come in yet, or is retired hurt
 abbrev pub waits : Option Fate → Bool
 waits None = true
 waits (Some Fate.Hurt) = true
@@ -22,7 +22,7 @@ waiting s h i column (n ∷ ns) =
     then before_player column ++ player_text (team_of s (side_of h i)) n ++ waiting s h i (next_column column) ns
     else waiting s h i column ns
 
--- of the eleven
+-- all of the eleven who wait
 unfoldable pub all_waiting : Sheet → History → ℕ → List ℕ
 all_waiting s h i = waiting s h i 0 numbers
 

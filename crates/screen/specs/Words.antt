@@ -1,4 +1,4 @@
--- The words that are no entry's, as a scorer types them.
+-- The words by which a scorer asks for something, and which write no entry.
 use Rattle.std.specs.Prelude.{ℕ, ◌-◌, ◌==◌, Bool, true, false, ◌||◌, length, take, drop, Option, Some, None, if◌then◌else◌, List, [], ◌∷◌, codes, bytes_eq, option_map}
 use Rattle.std.specs.Char.{is_ascii_whitespace}
 use Rattle.std.specs.List.{list_all, suffix_len}
@@ -10,7 +10,7 @@ use Rattle.cards.specs.Sheet.{is_printable}
 use Rattle.screen.specs.declared.{topic.Topic.Topic, word.Word.Word}
 use Rattle.screen.specs.declared.topic.Topic.TheVariants.{Innings, In, Ball, Gone, Over, Penalty, Swap, End, Close, Void, Fix, Late, Again, Undo, Listing, Score, Card, Players, Bowlers, Who, Plan, Quit, Short}
 
--- the words that begin a line of an entry, but marks
+-- the topics of the words that begin an entry's line, except marks
 abbrev pub line_topic : Token → Option Topic
 line_topic t =
     if bytes_eq t (codes "innings") then Some Innings
@@ -28,7 +28,7 @@ line_topic t =
     else if bytes_eq t (codes "again") then Some Again
     else None
 
--- the words of a desk, and `short`
+-- the topics of a desk's own words, and of `short`
 abbrev pub desk_topic : Token → Option Topic
 desk_topic t =
     if bytes_eq t (codes "undo") then Some Undo
@@ -43,11 +43,11 @@ desk_topic t =
     else if bytes_eq t (codes "short") then Some Short
     else None
 
--- the word that is asked about
+-- the topic that a word names
 abbrev pub topic_of : Token → Option Topic
 topic_of t = or_else (line_topic t) (desk_topic t)
 
--- one token; nothing at all is an empty one
+-- what a line of one token asks for; an empty line is one empty token
 abbrev pub single : Token → Option Word
 single t =
     if length t == 0 then Some Word.Where
@@ -61,7 +61,7 @@ single t =
     else if bytes_eq t (codes "plan") then Some (Word.More Plan)
     else None
 
--- two tokens
+-- what a line of two tokens asks for
 abbrev pub going : Token → Option Word
 going t = if bytes_eq t (codes "on") then Some Word.GoOn else None
 
@@ -74,7 +74,7 @@ pair t u =
     else if bytes_eq t (codes "help") then option_map Word.More (topic_of u)
     else None
 
--- three tokens
+-- what a line of three tokens asks for
 abbrev pub range : Option ℕ → Option ℕ → Option Word
 range (Some first) (Some last) = Some (Word.Range first last)
 range first last = None
@@ -83,7 +83,7 @@ abbrev pub triple : Token → Token → Token → Option Word
 triple t u v =
     if bytes_eq t (codes "list") then range (found_number 0 8191 u) (found_number 0 8191 v) else None
 
--- four tokens
+-- what a line of four tokens asks for
 abbrev pub side_in : Token → Option Side
 side_in t = if bytes_eq t (codes "home") then Some Home else if bytes_eq t (codes "away") then Some Away else None
 
@@ -95,20 +95,20 @@ abbrev pub quadruple : Token → Token → Token → Token → Option Word
 quadruple t u v w =
     if bytes_eq t (codes "over") then over_of (found_number 1 8191 u) (side_in v) (found_number 1 2 w) else None
 
--- two tokens and more
+-- what a line of two tokens or more asks for
 abbrev pub several : Token → Token → List Token → Option Word
 several t u [] = pair t u
 several t u (v ∷ []) = triple t u v
 several t u (v ∷ w ∷ []) = quadruple t u v w
 several t u (v ∷ w ∷ x ∷ ts) = None
 
--- `plan` with anything behind it is one
+-- what a line asks for; `plan` may have anything after it
 abbrev pub word_from : List Token → Option Word
 word_from [] = None
 word_from (t ∷ []) = single t
 word_from (t ∷ u ∷ ts) = if bytes_eq t (codes "plan") then Some Word.Plan else several t u ts
 
--- of `plan` the line alone doesn't say what is shown
+-- the word is `plan`, whose answer depends on more than the word
 abbrev pub is_plan : Word → Bool
 is_plan Word.Plan = true
 is_plan word = false
@@ -120,11 +120,11 @@ trimmed line = take (length line - suffix_len is_ascii_whitespace line) line
 abbrev pub asked : List ℕ → Option Word
 asked line = if list_all is_printable line then word_from (tokens line) else None
 
--- what a line asks for, if it is such a word
+-- what a line asks for, if it is one of these words
 unfoldable pub word_of : List ℕ → Option Word
 word_of line = asked (trimmed line)
 
--- what stands behind `plan `, of a printable line
+-- what follows `plan ` in a printable line
 abbrev pub plain : List ℕ → List ℕ
 plain text = if list_all is_printable text then text else []
 

@@ -10,11 +10,11 @@ use cards::{MatchSheet, batting_card, bowling_card};
 use corrections::BookOf;
 use streams::{Sink, Watched, WriteFailed};
 
-/// What stands over the columns of the batting card.
+/// The header of the batting card's columns.
 const BATTING_HEAD: &str =
     "batting                                                    R    B  4s  6s\n";
 
-/// What stands over the columns of the bowling card.
+/// The header of the bowling card's columns.
 const BOWLING_HEAD: &str = "bowling               O   M    R   W  Wd  Nb\n";
 
 /// Prints both cards of an innings.
@@ -34,7 +34,7 @@ fn print_innings<W: Sink, B: BookOf>(
     bowling_card(sheet, score, innings, out)
 }
 
-/// Prints both cards of an innings, with a line over their columns.
+/// Prints both cards of an innings, each under the header of its columns.
 fn print_headed<W: Sink, B: BookOf>(
     out: &mut Watched<W>,
     sheet: &MatchSheet,
@@ -53,7 +53,7 @@ fn print_headed<W: Sink, B: BookOf>(
     bowling_card(sheet, score, innings, out)
 }
 
-/// Prints both cards of the innings with this number, from 1, if it has begun.
+/// Prints both cards of the innings with this number, counted from 1, or `no such innings yet`.
 pub fn print_cards_of<W: Sink, B: BookOf>(
     out: &mut Watched<W>,
     sheet: &MatchSheet,

@@ -1,5 +1,5 @@
-//! What a scorer is told: the cards and the sides; what a word asks for, and what is told of it; and a sentence for each
-//! fault and each refusal.
+//! What a scorer is shown: the cards and the sides; what each word asks
+//! for, with its help; and a sentence for each fault and each refusal.
 #![tactic(auto)]
 
 mod both;

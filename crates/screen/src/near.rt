@@ -1,4 +1,4 @@
-//! What a scorer is told of a word that stands where another must.
+//! The row that tells a scorer of an unknown word, with the known words near it.
 
 ghost use Rattle.std.specs.Prelude.{◌≡◌, ◌++◌, OnOk, true};
 ghost use Rattle.notation.specs.Written.{tokens};
@@ -8,21 +8,21 @@ ghost use Rattle.screen.specs.Near as near;
 use notation::Tokens;
 use streams::{Sink, Watched, WriteFailed};
 
-/// The words that a scorer may type, and the first of the marks.
+/// The words that a scorer may type, and from the marks `b1`, `lb1`, `wd1` and `nb1`.
 const VOCABULARY: &str =
     "wide wd nb lbw bowled caught stumped runout hitwicket hittwice obstructing striker other crossed b1 lb1 wd1 nb1 bat bye leg nbbye nbleg four six dot overthrow short dead over in innings home away gone retiredhurt retiredout timedout penalty swap end allout nobatter declared forfeited overs close void fix late again undo list score card players bowlers who plan help quit exit";
 
-/// How many near words are told at most.
+/// The most near words that are shown.
 const MOST_NEAR: usize = 3;
 
-/// Whether both have the same letters, in either case.
+/// Whether the token and the word have the same letters, in either case.
 fn is_same(token: &[u8], word: &[u8]) -> bool
     ensures { result ≡ near.is_same token.now word.now }
 {
     token.eq_ignore_ascii_case(word)
 }
 
-/// Whether both are the same but for the first two letters, which have changed places.
+/// Whether the token is the word with its first two letters swapped, in either case.
 fn is_swapped(token: &[u8], word: &[u8]) -> bool
     ensures { result ≡ near.is_swapped token.now word.now }
 {
@@ -43,8 +43,8 @@ fn is_swapped(token: &[u8], word: &[u8]) -> bool
         && is_same(rest, word_rest)
 }
 
-/// Whether the token is the word but for one letter and the case of letters: another one, one too many, one too few, or two
-/// that have changed places.
+/// Whether the token is at most one slip away from the word, in either case of
+/// letters: one letter replaced, added or left out, or two neighbours swapped.
 fn one_off(token: &[u8], word: &[u8]) -> bool
     ensures { result ≡ near.one_off token.now word.now }
 {
@@ -63,7 +63,7 @@ fn one_off(token: &[u8], word: &[u8]) -> bool
         || is_swapped(token, word)
 }
 
-/// Whether the word begins with the token, of two letters or more.
+/// Whether the token has two letters or more and the word begins with it, in either case.
 fn is_beginning(token: &[u8], word: &[u8]) -> bool
     ensures { result ≡ near.is_beginning token.now word.now }
 {
@@ -73,7 +73,7 @@ fn is_beginning(token: &[u8], word: &[u8]) -> bool
     is_same(token, &word[..token.len()])
 }
 
-/// Whether the word is near the token.
+/// Whether the word is near the token: another word, one slip away from it or begun by it.
 fn is_near(token: &str, word: &str) -> bool
     ensures { result ≡ near.is_near token.now word.now }
 {
@@ -83,7 +83,7 @@ fn is_near(token: &str, word: &str) -> bool
     one_off(token.as_bytes(), word.as_bytes()) || is_beginning(token.as_bytes(), word.as_bytes())
 }
 
-/// Prints a near word.
+/// Prints a near word, after the heading if it is the first and after a comma if not.
 fn print_word<W: Sink>(out: &mut Watched<W>, is_first: bool, word: &str) -> Result<(), WriteFailed>
     ensures text { OnOk result (Prints W.contents out.old out.new (near.before_near is_first ++ word.now)) }
     ensures failed { TellsFailure result out.old out.new }
@@ -95,7 +95,7 @@ fn print_word<W: Sink>(out: &mut Watched<W>, is_first: bool, word: &str) -> Resu
     }
 }
 
-/// Prints those of these words that are near, the first ones, so many at most.
+/// Prints the first of these words that are near the token, at most this many.
 fn print_nearest<W: Sink>(
     out: &mut Watched<W>,
     token: &str,
@@ -120,7 +120,7 @@ fn print_nearest<W: Sink>(
     print_nearest(out, token, words, most - 1, false)
 }
 
-/// The words among which those that are near are looked for.
+/// Returns the words among which near ones are searched.
 #[tactic(auto, unfolding(crate::specs::Near::vocabulary))]
 fn vocabulary() -> &'static str
     ensures { result.now ≡ near.vocabulary }
@@ -128,7 +128,7 @@ fn vocabulary() -> &'static str
     VOCABULARY
 }
 
-/// Prints all that are near, three at most.
+/// Prints the words near the token, at most three.
 fn print_all_near<W: Sink>(out: &mut Watched<W>, token: &str) -> Result<(), WriteFailed>
     ensures text { OnOk result (Prints W.contents out.old out.new
         (near.near_text true (near.nearest 3 token.now (tokens near.vocabulary)))) }
@@ -137,7 +137,7 @@ fn print_all_near<W: Sink>(out: &mut Watched<W>, token: &str) -> Result<(), Writ
     print_nearest(out, token, &mut Tokens::new(vocabulary()), MOST_NEAR, true)
 }
 
-/// Prints that a word stands where another must, and up to three that are near it.
+/// Prints that the token is an unknown word, with up to three words near it.
 pub fn print_unknown<W: Sink>(out: &mut Watched<W>, token: &str) -> Result<(), WriteFailed>
     ensures text { OnOk result (Prints W.contents out.old out.new (near.unknown_text token.now)) }
     ensures failed { TellsFailure result out.old out.new }

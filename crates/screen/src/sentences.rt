@@ -1,4 +1,4 @@
-//! What a desk says behind the name of a fault and of a refusal.
+//! The sentences that a desk prints after the name of a fault or a refusal.
 
 ghost use Rattle.std.specs.Prelude.{◌≡◌};
 ghost use Rattle.screen.specs.Sentences as sentences;
@@ -8,7 +8,7 @@ use desk::Refusal;
 use match_laws::LawRefusal;
 use notation::LineFault;
 
-/// What a line's fault is.
+/// Returns the sentence for a line's fault.
 pub fn fault_sentence(why: LineFault) -> &'static str
     ensures { result.now ≡ sentences.of_fault why }
 {
@@ -22,7 +22,7 @@ pub fn fault_sentence(why: LineFault) -> &'static str
     }
 }
 
-/// Why the ends, the over and the players don't allow an entry.
+/// Returns the sentence for a refusal by the ends, the over or the players.
 fn ball_sentence(why: BallRefusal) -> &'static str
     ensures { result.now ≡ sentences.of_ball why }
 {
@@ -43,7 +43,7 @@ fn ball_sentence(why: BallRefusal) -> &'static str
     }
 }
 
-/// Why the Laws don't allow an entry.
+/// Returns the sentence for a refusal by the Laws.
 fn law_sentence(why: LawRefusal) -> &'static str
     ensures { result.now ≡ sentences.of_law why }
 {
@@ -59,7 +59,7 @@ fn law_sentence(why: LawRefusal) -> &'static str
     }
 }
 
-/// Why a book doesn't take an entry.
+/// Returns the sentence for a refusal by the book.
 fn book_sentence(why: corrections::Refusal) -> &'static str
     ensures { result.now ≡ sentences.of_book why }
 {
@@ -74,7 +74,7 @@ fn book_sentence(why: corrections::Refusal) -> &'static str
     }
 }
 
-/// Why a desk doesn't take an entry.
+/// Returns the sentence for a refusal by the desk.
 pub fn refusal_sentence(why: Refusal) -> &'static str
     ensures { result.now ≡ sentences.of_desk why }
 {

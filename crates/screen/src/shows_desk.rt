@@ -1,4 +1,4 @@
-//! What a desk is shown through, beside the rows that it tells.
+//! How a desk is shown, beside the rows that it prints.
 
 ghost use Rattle.std.specs.Prelude.{◌≡◌, IfSome};
 ghost use Rattle.notation.specs.Written.{IsEntry};
@@ -9,15 +9,15 @@ use corrections::BookOf;
 use links::HeldLine;
 use notation::Entry;
 
-/// Shows where a desk stands, as a page does. It is handed what its scorer may see: the book, the position, the own vote there
-/// and the lines that are held, and nothing of the other desk's.
+/// Shows where a desk stands, as a page does. It gets only what the desk's own scorer may see: the book, the position, his
+/// own vote there and the held lines, and nothing of the other desk's.
 pub trait ShowsDesk<B: BookOf> {
     ghost use Rattle.screen.specs.Sights.{DeskSight, sight_at};
 
-    /// How it goes on once this was handed to it.
+    /// How it may change when it is shown a sight of the desk.
     ghost goes_on: { Self → DeskSight → Self → Type 0 };
 
-    /// Shows this, where that is new, at this time in milliseconds since some moment.
+    /// Shows the desk, if that is new, at the time `now` in milliseconds since some fixed moment.
     fn show(
         &mut self,
         sheet: &MatchSheet,
@@ -30,11 +30,11 @@ pub trait ShowsDesk<B: BookOf> {
         requires { IfSome own IsEntry }
         ensures { goes_on self.old (sight_at sheet.now (B.innings_a_side book.now) (B.content book.now) at own) self.new };
 
-    /// For how many milliseconds it may be left alone since it was shown the desk: none where it has more to do at once.
+    /// Returns how many milliseconds may pass before it must be shown the desk again: 0 if it has more to do at once.
     fn longest_wait(&self) -> u64;
 }
 
-/// Nothing but the rows of a desk is shown.
+/// No view of the desk but its printed rows.
 #[derive(Clone, Copy)]
 pub struct RowsAlone;
 

@@ -1,4 +1,4 @@
-//! Both sides.
+//! Both sides, by the players' numbers and names.
 
 ghost use Rattle.std.specs.Prelude.{◌≡◌, ◌<◌, ◌++◌, OnOk, true};
 ghost use Rattle.std.specs.List.{list_all};
@@ -12,7 +12,7 @@ use cards::MatchSheet;
 use notation::{Player, Side};
 use streams::{Sink, Watched, WriteFailed};
 
-/// Prints a player by number and name, behind a comma unless he is the first.
+/// Prints a player by number and name, after a comma unless he is the first.
 pub fn print_player<W: Sink>(
     out: &mut Watched<W>,
     sheet: &MatchSheet,
@@ -33,7 +33,7 @@ pub fn print_player<W: Sink>(
     }
 }
 
-/// The place in a row of three behind this one.
+/// Returns the next column in a row of three.
 pub fn next_column(column: u8) -> u8
     requires { column < 3 }
     ensures column { result ≡ sides.next_column column }
@@ -48,7 +48,7 @@ fn before_player(column: u8) -> &'static str
     if column == 0 { "\n  " } else { ", " }
 }
 
-/// Prints a player by number and name, at this place of a row of three.
+/// Prints a player by number and name, in this column of a row of three.
 pub fn print_next<W: Sink>(
     out: &mut Watched<W>,
     sheet: &MatchSheet,
@@ -65,7 +65,7 @@ pub fn print_next<W: Sink>(
     print_player(out, sheet, side, player, true)
 }
 
-/// Prints the players of these numbers, three in a row.
+/// Prints the players with these numbers, three in a row, from this column on.
 fn print_each<W: Sink>(
     out: &mut Watched<W>,
     sheet: &MatchSheet,
@@ -89,7 +89,7 @@ fn print_each<W: Sink>(
     print_each(out, sheet, side, next_column(column), more)
 }
 
-/// Prints all players of a side.
+/// Prints all players of a side, three in a row.
 fn print_all<W: Sink>(
     out: &mut Watched<W>,
     sheet: &MatchSheet,

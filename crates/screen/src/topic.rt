@@ -1,10 +1,10 @@
-//! The words that a scorer can ask about.
+//! The words that a scorer can ask `help` about.
 
 ghost use Rattle.std.specs.Prelude.{◌≡◌};
 ghost use Rattle.screen.specs.Help as texts;
 ghost use Rattle.screen.specs.Words as words;
 
-/// A word of which `help` tells more.
+/// A word that `help` explains.
 #[derive(Clone, Copy)]
 pub enum Topic {
     Innings,
@@ -29,11 +29,11 @@ pub enum Topic {
     Who,
     Plan,
     Quit,
-    /// Short lines.
+    /// Short lines, by `help short`.
     Short,
 }
 
-/// What `help` shows.
+/// The text of `help`.
 pub const HELP: &str = "\
 innings S       S: home away
 in n            n: 1 to 11
@@ -60,7 +60,7 @@ help [word]     this, or more on one of these words; short: short lines
 quit, exit      ends; the same command goes on
 ";
 
-/// What `help short` shows.
+/// The text of `help short`.
 const HELP_SHORT: &str = "\
 A delivery:  [B:] [RUNS] [OPTIONS] [OUT]   at least one of the last three
 B: bowls, as 10: or usher:   Left out: who bowled the last ball of this over, so
@@ -86,19 +86,19 @@ Names, in any case, for n, b, B: and f: the whole name, the last word of one
 fix p, late p and again: short lines stand behind them too.
 ";
 
-/// What `help ball` shows.
+/// The text of `help ball`.
 const HELP_BALL: &str = "\
 ball b K r [short s] [B] [dead] [out H W f [crossed]]: a delivery of bowler b
   ball 10 bat 0 out caught striker 4
 ";
 
-/// What `help undo` shows.
+/// The text of `help undo`.
 const HELP_UNDO: &str = "\
 undo: takes back the line held last; none held: fix p void of the last entry
   undo
 ";
 
-/// What `help plan` shows.
+/// The text of `help plan`.
 const HELP_PLAN: &str = "\
 plan E, E ..: the lines, one after another, by which fix and late lines E hold
   plan fix 3 2, fix 4 1
@@ -106,7 +106,7 @@ plan bowler n b: those by which b bowled over n of the innings begun last
   plan bowler 8 usher
 ";
 
-/// The word of the language of lines.
+/// Returns the topic of a word that begins an entry's line.
 fn line_topic(word: &str) -> Option<Topic>
     ensures { result ≡ words.line_topic word.now }
 {
@@ -128,7 +128,7 @@ fn line_topic(word: &str) -> Option<Topic>
     }
 }
 
-/// The word that is no entry's.
+/// Returns the topic of one of a desk's own words, or of `short`.
 fn desk_topic(word: &str) -> Option<Topic>
     ensures { result ≡ words.desk_topic word.now }
 {
@@ -147,14 +147,14 @@ fn desk_topic(word: &str) -> Option<Topic>
     }
 }
 
-/// The word that is asked about, if there is more to tell of it.
+/// Returns the topic that a word names, if `help` explains it.
 pub fn topic_of(word: &str) -> Option<Topic>
     ensures { result ≡ words.topic_of word.now }
 {
     line_topic(word).or(desk_topic(word))
 }
 
-/// What is told of a word.
+/// Returns the help text of a topic.
 pub fn help_on(topic: Topic) -> &'static str
     ensures { result.now ≡ texts.help_on topic }
 {

@@ -1,4 +1,4 @@
-//! Who of the side that bats isn't out and isn't in.
+//! The batting side's players who wait: who are neither out nor in.
 
 ghost use Rattle.std.specs.Prelude.{◌≡◌, ◌<◌, ◌++◌, OnOk, codes, true};
 ghost use Rattle.std.specs.List.{list_all};
@@ -17,14 +17,14 @@ use match_laws::Fate;
 use notation::{Player, Side};
 use streams::{Sink, Watched, WriteFailed};
 
-/// Whether he hasn't come in yet, or is retired hurt.
+/// Whether a player with this fate waits: he hasn't come in yet, or is retired hurt.
 fn waits(fate: Option<Fate>) -> bool
     ensures { result ≡ waiting.waits fate }
 {
     matches!(fate, None | Some(Fate::Hurt))
 }
 
-/// Prints those of the players of these numbers who wait.
+/// Prints the waiting players among these numbers, three in a row, from this column on.
 fn print_those<W: Sink>(
     out: &mut Watched<W>,
     innings: Innings<'_>,
@@ -50,7 +50,7 @@ fn print_those<W: Sink>(
     print_those(out, innings, next_column(column), more)
 }
 
-/// Prints all of a side who wait.
+/// Prints all waiting players of the side that bats.
 #[tactic(auto, unfolding(crate::specs::Waiting::all_waiting))]
 fn print_all<W: Sink>(out: &mut Watched<W>, innings: Innings<'_>) -> Result<(), WriteFailed>
     ensures text { ForInnings innings.entry (λ s h i. OnOk result (Prints W.contents out.old out.new
@@ -61,7 +61,7 @@ fn print_all<W: Sink>(out: &mut Watched<W>, innings: Innings<'_>) -> Result<(), 
     print_those(out, innings, 0, &all)
 }
 
-/// Prints the name of a side, before those who wait.
+/// Prints a side's name and a colon, before its waiting players.
 fn print_head<W: Sink>(
     out: &mut Watched<W>,
     sheet: &MatchSheet,
@@ -74,7 +74,7 @@ fn print_head<W: Sink>(
     write!(out, "{team}:")
 }
 
-/// Prints the side that bats in an innings, and who of it waits.
+/// Prints the side that bats in an innings, and its waiting players.
 fn print_lines<W: Sink, B: BookOf>(
     out: &mut Watched<W>,
     sheet: &MatchSheet,
@@ -97,7 +97,7 @@ fn print_lines<W: Sink, B: BookOf>(
     writeln!(out)
 }
 
-/// Prints who of the side that bats isn't out and isn't in, three in a row.
+/// Prints the waiting players of the side that bats, three in a row.
 pub fn print_waiting<W: Sink, B: BookOf>(
     out: &mut Watched<W>,
     sheet: &MatchSheet,

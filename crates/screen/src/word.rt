@@ -1,4 +1,4 @@
-//! The words that are no entry's, as a scorer types them.
+//! The words by which a scorer asks for something, and which write no entry.
 
 ghost use Rattle.std.specs.Prelude.{◌≡◌, drop, option_map};
 ghost use Rattle.notation.specs.Written.{found_number};
@@ -10,27 +10,27 @@ use crate::topic::{Topic, topic_of};
 use notation::{Side, Tokens, number_in};
 use std::str;
 
-/// How many entries `list` shows where it isn't said.
+/// How many entries `list` shows if no number is given.
 const LISTED: u32 = 12;
 
-/// How many it looks at at most.
+/// The largest number that `list` takes.
 const MOST_LISTED: u16 = 8192;
 
 /// The last place of a book.
 const LAST_PLACE: u16 = 8191;
 
-/// What a scorer asks for beside entries. None is written.
+/// What a scorer asks for beside entries. None of it is written down.
 #[derive(Clone, Copy)]
 pub enum Word {
     /// An empty line: where the match and the desk stand.
     Where,
-    /// `list`: so many entries of the book, the last ones.
+    /// `list`: the last entries of the book, this many.
     Entries(u32),
-    /// `list` with two places: the entries from the one to the other.
+    /// `list` with two places: the entries from the first to the last of them.
     Range(u32, u32),
     /// `over` with a number: the entries of this over of the innings begun last.
     Over(u32),
-    /// `over` with a number, a side and 1 or 2: of an over of the side's first or second innings.
+    /// `over` with a number, a side and 1 or 2: the entries of this over of the side's first or second innings.
     OverOf(u32, Side, u8),
     /// `score`: the check of an over.
     Total,
@@ -42,11 +42,11 @@ pub enum Word {
     Sides,
     /// `bowlers`: who may bowl the next delivery.
     Bowlers,
-    /// `who`: who isn't out and isn't in.
+    /// `who`: the batting side's players who are neither out nor in.
     Waiting,
-    /// `plan` with corrections behind it: lines by which the book comes to have them.
+    /// `plan` with corrections after it: the lines by which the book comes to have these corrections.
     Plan,
-    /// `go on`: a desk that was held up goes on with its file as it is.
+    /// `go on`: a held-up desk goes on with its file as it is.
     GoOn,
     /// `help`: the forms of all lines.
     Forms,
@@ -54,7 +54,7 @@ pub enum Word {
     More(Topic),
 }
 
-/// What one token asks for.
+/// Returns what a line of one token asks for.
 fn single(token: &str) -> Option<Word>
     ensures { result ≡ words.single token.now }
 {
@@ -74,7 +74,7 @@ fn single(token: &str) -> Option<Word>
     }
 }
 
-/// What `list` with this token asks for.
+/// Returns what `list` with this token asks for: a number from 1 to 8192.
 fn listed(token: &str) -> Option<Word>
     ensures { result ≡ option_map Word.Entries (found_number 1 8192 token.now) }
 {
@@ -82,7 +82,7 @@ fn listed(token: &str) -> Option<Word>
     Some(Word::Entries(u32::from(count)))
 }
 
-/// What `card` with this token asks for.
+/// Returns what `card` with this token asks for: a number from 1 to 4.
 fn carded(token: &str) -> Option<Word>
     ensures { result ≡ option_map Word.CardsOf (found_number 1 4 token.now) }
 {
@@ -90,7 +90,7 @@ fn carded(token: &str) -> Option<Word>
     Some(Word::CardsOf(number as u8))
 }
 
-/// What `list` with these tokens asks for.
+/// Returns what `list` with these tokens asks for: two places, each from 0 to 8191.
 fn ranged(first: &str, last: &str) -> Option<Word>
     ensures { result ≡ words.range (found_number 0 8191 first.now) (found_number 0 8191 last.now) }
 {
@@ -99,7 +99,7 @@ fn ranged(first: &str, last: &str) -> Option<Word>
     Some(Word::Range(u32::from(first), u32::from(last)))
 }
 
-/// What `over` with this token asks for.
+/// Returns what `over` with this token asks for: a number from 1 to 8191.
 fn numbered(token: &str) -> Option<Word>
     ensures { result ≡ option_map Word.Over (found_number 1 8191 token.now) }
 {
@@ -107,7 +107,7 @@ fn numbered(token: &str) -> Option<Word>
     Some(Word::Over(u32::from(number)))
 }
 
-/// The side that a token names.
+/// Returns the side that a token names, `home` or `away`.
 fn side_in(token: &str) -> Option<Side>
     ensures { result ≡ words.side_in token.now }
 {
@@ -118,7 +118,7 @@ fn side_in(token: &str) -> Option<Side>
     }
 }
 
-/// What `over` with these tokens asks for.
+/// Returns what `over` with these tokens asks for: a number from 1 to 8191, a side, and 1 or 2.
 fn numbered_of(number: &str, side: &str, innings: &str) -> Option<Word>
     ensures { result ≡ words.over_of (found_number 1 8191 number.now) (words.side_in side.now) (found_number 1 2 innings.now) }
 {
@@ -128,7 +128,7 @@ fn numbered_of(number: &str, side: &str, innings: &str) -> Option<Word>
     Some(Word::OverOf(u32::from(number), side, innings as u8))
 }
 
-/// What four tokens ask for.
+/// Returns what a line of four tokens asks for.
 fn quadruple(token: &str, next: &str, third: &str, fourth: &str) -> Option<Word>
     ensures { result ≡ words.quadruple token.now next.now third.now fourth.now }
 {
@@ -138,7 +138,7 @@ fn quadruple(token: &str, next: &str, third: &str, fourth: &str) -> Option<Word>
     }
 }
 
-/// What three tokens ask for.
+/// Returns what a line of three tokens asks for.
 fn triple(token: &str, next: &str, third: &str) -> Option<Word>
     ensures { result ≡ words.triple token.now next.now third.now }
 {
@@ -148,14 +148,14 @@ fn triple(token: &str, next: &str, third: &str) -> Option<Word>
     }
 }
 
-/// What `help` with this token asks for.
+/// Returns what `help` with this token asks for.
 fn more(token: &str) -> Option<Word>
     ensures { result ≡ option_map Word.More (words.topic_of token.now) }
 {
     Some(Word::More(topic_of(token)?))
 }
 
-/// What `go` with this token asks for.
+/// Returns what `go` with this token asks for.
 fn going(token: &str) -> Option<Word>
     ensures { result ≡ words.going token.now }
 {
@@ -165,7 +165,7 @@ fn going(token: &str) -> Option<Word>
     }
 }
 
-/// What two tokens ask for.
+/// Returns what a line of two tokens asks for.
 fn pair(token: &str, next: &str) -> Option<Word>
     ensures { result ≡ words.pair token.now next.now }
 {
@@ -179,7 +179,7 @@ fn pair(token: &str, next: &str) -> Option<Word>
     }
 }
 
-/// What two tokens and more ask for.
+/// Returns what a line of two tokens or more asks for.
 fn several(token: &str, next: &str, tokens: &mut Tokens<'_>) -> Option<Word>
     ensures { result ≡ words.several token.now next.now tokens.old }
 {
@@ -196,7 +196,7 @@ fn several(token: &str, next: &str, tokens: &mut Tokens<'_>) -> Option<Word>
     }
 }
 
-/// What tokens ask for.
+/// Returns what a line of these tokens asks for.
 fn word_from(tokens: &mut Tokens<'_>) -> Option<Word>
     ensures { result ≡ words.word_from tokens.old }
 {
@@ -210,7 +210,7 @@ fn word_from(tokens: &mut Tokens<'_>) -> Option<Word>
     several(token, next, tokens)
 }
 
-/// A line without the blanks at its end.
+/// Returns a line without the blanks at its end.
 fn trimmed(line: &[u8]) -> &[u8]
     ensures { result.now ≡ words.trimmed line.now }
 {
@@ -224,7 +224,7 @@ fn is_plain(line: &[u8]) -> bool
     line.iter().all(|byte| *byte >= 32 && *byte <= 126)
 }
 
-/// All but the first bytes, so many.
+/// Returns all but the first `count` bytes of a text.
 fn behind(text: &[u8], count: usize) -> &[u8]
     ensures { result.now ≡ drop count text.now }
 {
@@ -234,7 +234,7 @@ fn behind(text: &[u8], count: usize) -> &[u8]
     &text[count..]
 }
 
-/// A text, if it is printable ASCII.
+/// Returns a text if it is printable ASCII, and the empty text if not.
 fn plain(text: &[u8]) -> &str
     ensures { result.now ≡ words.plain text.now }
 {
@@ -247,14 +247,14 @@ fn plain(text: &[u8]) -> &str
     }
 }
 
-/// What stands behind `plan ` in a line that begins so.
+/// Returns what follows `plan ` in a line that begins with it.
 pub fn behind_plan(line: &[u8]) -> &str
     ensures { result.now ≡ words.behind_plan line.now }
 {
     plain(behind(trimmed(line), 5))
 }
 
-/// What a line without blanks at its end asks for.
+/// Returns what a line without blanks at its end asks for.
 fn asked(line: &[u8]) -> Option<Word>
     ensures { result ≡ words.asked line.now }
 {
@@ -267,7 +267,7 @@ fn asked(line: &[u8]) -> Option<Word>
     }
 }
 
-/// What a line asks for, if it is one of these words, with any blanks behind it.
+/// Returns what a line asks for if it is one of these words, with any blanks at its end.
 #[tactic(auto, unfolding(crate::specs::Words::word_of))]
 pub fn word_of(line: &[u8]) -> Option<Word>
     ensures { result ≡ words.word_of line.now }
@@ -275,7 +275,7 @@ pub fn word_of(line: &[u8]) -> Option<Word>
     asked(trimmed(line))
 }
 
-/// Whether the line ends the desk: `quit` or `exit`, with any blanks behind it.
+/// Whether the line ends the desk: `quit` or `exit`, with any blanks at its end.
 #[tactic(auto, unfolding(crate::specs::Words::is_end))]
 pub fn is_end(line: &[u8]) -> bool
     ensures { result ≡ words.is_end line.now }

@@ -8,7 +8,7 @@ use Rattle.std.specs.List.{list_all, suffix_len}
 use Rattle.notation.specs.Written.{Token, tokens, is_visible, is_token, is_spaced}
 use Rattle.shorthand.specs.Words.{trimmed}
 
--- these are tokens, of the first of which some may be left out
+-- tokens, the first of which may lack some of its first bytes
 abbrev go_on : List Token → Bool
 go_on [] = true
 go_on (w ∷ ws) = list_all is_visible w && list_all is_token ws

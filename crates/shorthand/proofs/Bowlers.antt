@@ -1,4 +1,4 @@
--- Who bowls and bats by what stands, and by the Laws' history of the book.
+-- Who bowls and bats, by the items and by the Laws' history of the book.
 use Rattle.std.proofs.Common.{◌≡◌, List, [], ◌∷◌, refl, ◌∙◌, append-nil}
 use Rattle.notation.specs.declared.entry.Entry.{Entry}
 use Rattle.ball_laws.specs.History.{History}

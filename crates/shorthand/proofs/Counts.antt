@@ -1,4 +1,4 @@
--- How many players fit.
+-- How many players a text fits.
 use Rattle.std.proofs.Common.{◌≡◌, ℕ, ◌≤◌, ◌<◌, List, [], ◌∷◌, get_or, refl, arith}
 use Rattle.std.proofs.lemmas.List.Elements.{All-from_recursion, All-get_or}
 use Rattle.ball_laws.specs.Over.{numbers}

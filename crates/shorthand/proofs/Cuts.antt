@@ -1,4 +1,4 @@
--- A token before and behind the cut.
+-- A token before and after the cut.
 use Rattle.std.proofs.Common.{◌≡◌, ℕ, List, [], ◌∷◌, ◌++◌, refl}
 use Rattle.shorthand.specs.Marks.{cut}
 

@@ -1,4 +1,4 @@
--- What a line of one mark is in full.
+-- The full form of a line of one mark.
 use Rattle.std.proofs.lemmas.Grind.{common_steps}
 use Rattle.std.proofs.Common.{◌≡◌, ℕ, ◌+◌, ◌≤◌, ◌<◌, List, [], ◌∷◌, ◌++◌, length, Option, Some, None, Ok, Err, refl, sym, ap, ◌∙◌, codes, decimal, arith, append_assoc, length-append}
 use Rattle.std.proofs.lemmas.Bool.Decides.{nat_tests}
@@ -19,7 +19,7 @@ use Rattle.shorthand.specs.Lines.{joined, plus}
 use Rattle.shorthand.specs.Full.{begins_delivery, by_answer, by_letter, by_same_bowler, in_full, item_from, runs_from, same_bowler, unnamed, words_in_full}
 use Rattle.shorthand.specs.inner.Marking.{ball_line}
 
--- ---- what holds of each token of the tables that is a mark, and of its kind and its runs
+-- ---- a claim P of a token, its kind and its runs, that holds of each row of the tables
 
 abbrev EachRow : (Token → Token → Type 0) → List (Token × Token) → Type 0
 EachRow P [] = Unit {0}
@@ -33,7 +33,7 @@ pub record EachMark (P : Token → Token → Token → Type 0) : Type 0 where
   pub said : EachWord P run_words
   pub written : EachRow (λ l kind. EachRow (λ f runs. P (l ++ f) kind runs) figures) letters
 
--- a token that stands in a row
+-- P holds of a token in a row
 of_row : (P : Token → Token → Type 0) (rows : List (Token × Token)) (t v : Token) → EachRow P rows → in_row rows t ≡ Some v → P t v
 of_row P [] t v each is = absurd (cc)
 of_row P (row ∷ rows) t v each is = grind (arith, bytes_eq-Decides t row.0, of_row P rows t v)
@@ -48,7 +48,7 @@ cut_whole [] = refl
 cut_whole (b ∷ []) = refl
 cut_whole (b ∷ c ∷ bs) = ap (λ u. b ∷ u) (cut_whole (c ∷ bs))
 
--- so it holds of each mark
+-- so P holds of each mark
 module _ (P : Token → Token → Token → Type 0) (each : EachMark P) (t : Token) (m : Token × Token) where
   of_both : (kind runs : Option Token) → in_row letters (cut t).0 ≡ kind → in_row figures (cut t).1 ≡ runs → both kind runs ≡ Some m → P t m.0 m.1
   of_both (Some kind) (Some runs) k r is =
@@ -65,7 +65,7 @@ module _ (P : Token → Token → Token → Type 0) (each : EachMark P) (t : Tok
   pub of_mark : mark t ≡ Some m → P t m.0 m.1
   of_mark is = of_either (said_runs t) refl is
 
--- ---- a mark is no full line, and word by word a delivery of the bowler of the last one
+-- ---- a mark is no full line, and word by word it is a delivery of the last delivery's bowler
 
 abbrev IsRead : Token → Token → Token → Type 0
 IsRead t kind runs =
@@ -77,7 +77,7 @@ each_read : EachMark IsRead
 unfolding line_answer all_of entry_at placed_at plain_at skip word_at begins_delivery by_letter by_same_bowler item_from runs_from unnamed
 each_read = assumption
 
--- ---- its text
+-- ---- the text of a mark's full form
 
 plus_more : (text w : List ℕ) → 0 < length text → length text + 1 + length w ≤ 96 → plus (Ok text) (Ok w) ≡ Ok (text ++ 32 ∷ w)
 plus_more text w h h2 = grind (arith, common_steps, nat_tests, length-append)

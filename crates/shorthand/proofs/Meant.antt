@@ -1,4 +1,4 @@
--- Whom a name may mean, of a list of all players.
+-- Whom a name may mean, in a list of all players.
 use Rattle.std.proofs.Common.{◌≡◌, ℕ, List, filter, ap}
 use Rattle.notation.specs.Written.{Token}
 use Rattle.ball_laws.specs.Over.{numbers}

@@ -1,4 +1,4 @@
--- What lines are in full, as whoever reads lines judges them.
+-- The full forms of lines, as the reader of lines judges them.
 use Rattle.std.proofs.lemmas.Grind.{common_steps}
 use Rattle.std.proofs.Common.{◌≡◌, ℕ, ◌≤◌, List, [], ◌∷◌, length, true, false}
 use Rattle.std.proofs.Common.{Result, Ok, Err, refl, inl, inr, arith, IfOk, lit≤}
@@ -15,7 +15,7 @@ use Rattle.shorthand.specs.Laws.{FullLinesStand, IsReadOrRefused, TakenLinesAreR
 use Rattle.shorthand.specs.Words.{trimmed}
 use Rattle.shorthand.proofs.Blanks.{untrimmed}
 
--- an entry's line is tokens with one space between them
+-- an entry's line is tokens with single spaces between them
 entry_apart : (line : List ℕ) (e : Entry) → line_answer line ≡ Ok e → is_spaced line ≡ true
 unfolding line_answer
 entry_apart line e h = grind arith
@@ -63,7 +63,7 @@ taken_lines_are_read = record {
   read = λ s book line text h. read_or_refused text (line_answer text) refl;
 }
 
--- what isn't tokens with one space between them has a fault of the line
+-- a line that isn't tokens with single spaces between them has a fault of the line as a whole
 pub other_fault : (line : List ℕ) (f : LineFault) → line_answer line ≡ Err f → is_spaced line ≡ false → is_of_line f ≡ true
 unfolding line_answer
 other_fault line f h apart = grind arith

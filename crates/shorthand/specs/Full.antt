@@ -1,5 +1,5 @@
--- What a line of a scorer is in full, word by word, in the order of the table that scorers have. What no rule speaks
--- of stays as it is, so that whoever reads the line in full finds its faults.
+-- The full form of a scorer's line, word by word, in the order of the table that scorers have. Words that no rule covers
+-- stay as typed, so that reading the full line finds their faults.
 use Rattle.std.specs.Prelude.{ℕ, ◌==◌, length, Bool, true, false, ◌||◌, ◌&&◌, if◌then◌else◌}
 use Rattle.std.specs.Prelude.{Option, Some, None, List, [], ◌∷◌, map, codes, decimal, is_some, Result, Ok, Err}
 use Rattle.std.specs.List.{before_first, after_first}
@@ -25,7 +25,7 @@ use Rattle.shorthand.specs.Undo.{last_standing}
 
 -- ---- OUT: [out] HOW [WHO] [F] [crossed]
 
--- a fielder where none has a part, unless it is none
+-- a fielder is named for a way of being out in which none has a part; 0 names nobody
 abbrev pub refused_fielder : Option Unaided → Token → Option Unaided
 refused_fielder None t = None
 refused_fielder (Some how) t = if bytes_eq t (codes "0") then None else Some how
@@ -34,18 +34,18 @@ abbrev pub fielder_word : Sheet → Side → Option Unaided → Token → List T
 fielder_word s side (Some how) t ts = Err (no_fielder how t) ∷ []
 fielder_word s side None t ts = (fielder s side t ts).0 ∷ as_typed (fielder s side t ts).1
 
--- the fielder of the side: 0 where none is named
+-- the fielder: 0 if none is named
 abbrev pub by_fielder : Sheet → Side → Token → List Token → List Word
 by_fielder s side how [] = Ok (codes "0") ∷ []
 by_fielder s side how (t ∷ ts) =
     if bytes_eq t (codes "crossed") then Ok (codes "0") ∷ as_typed (t ∷ ts)
     else fielder_word s side (refused_fielder (without_fielder how) t) t ts
 
--- run out and obstructing the field must say who is out
+-- run out and obstructing the field need who is out
 abbrev pub needs_who : Token → Bool
 needs_who how = is_one_of (codes "runout" ∷ codes "obstructing" ∷ []) how
 
--- who is out, the striker where nothing is said, and the fielder
+-- who is out, the striker if nothing is said, and the fielder
 abbrev pub who_is_out : Sheet → Side → Token → List Token → List Word
 who_is_out s side how [] = if needs_who how then [] else Ok (codes "striker") ∷ by_fielder s side how []
 who_is_out s side how (t ∷ ts) =
@@ -53,7 +53,7 @@ who_is_out s side how (t ∷ ts) =
     else if needs_who how then as_typed (t ∷ ts)
     else Ok (codes "striker") ∷ by_fielder s side how (t ∷ ts)
 
--- the way, by its own word or by another
+-- the way of being out, by its own word or a short one, who is out, and the fielder
 abbrev pub dismissal : Sheet → Side → List Token → List Word
 dismissal s side [] = []
 dismissal s side (t ∷ ts) = Ok (way_of t) ∷ who_is_out s side (way_of t) ts
@@ -63,7 +63,7 @@ run_out s side ts = Ok (codes "out") ∷ Ok (codes "runout") ∷ who_is_out s si
 
 -- ---- [OPTIONS] [OUT]
 
--- options stay as they are, until a batter is out
+-- options stay as typed, up to the dismissal
 abbrev pub behind_runs : Sheet → Side → List Token → List Word
 behind_runs s side [] = []
 behind_runs s side (t ∷ ts) =
@@ -72,29 +72,29 @@ behind_runs s side (t ∷ ts) =
     else if is_run_out t ts then run_out s side (behind_one ts)
     else Ok t ∷ behind_runs s side ts
 
--- the tokens begin options, or say that a batter is out
+-- the tokens begin the options or the dismissal
 abbrev pub is_behind_runs : Token → List Token → Bool
 is_behind_runs t ts =
     is_one_of (codes "short" ∷ codes "overthrow" ∷ codes "dead" ∷ codes "out" ∷ []) t || (is_how t || is_run_out t ts)
 
 -- ---- [RUNS] [OPTIONS] [OUT]
 
--- a number stands next
+-- a number comes next
 abbrev pub has_number : List Token → Bool
 has_number [] = false
 has_number (t ∷ ts) = is_digit_first t
 
--- a kind without a run unless a number follows
+-- a kind with 0 runs unless a number follows
 abbrev pub from_none : Sheet → Side → List Token → List Word
 from_none s side ts = if has_number ts then behind_runs s side ts else Ok (codes "0") ∷ behind_runs s side ts
 
--- no mark: no runs where none are named, otherwise a kind and a number, as in a full line
+-- no mark: bat 0 if no runs are named, otherwise a kind and a number as in a full line
 abbrev pub unmarked : Sheet → Side → Token → List Token → List Word
 unmarked s side t ts =
     if is_behind_runs t ts then Ok (codes "bat") ∷ Ok (codes "0") ∷ behind_runs s side (t ∷ ts)
     else behind_runs s side (t ∷ ts)
 
--- a kind alone: `wd`, `wide`, `nb`, `noball` and `no ball` with no run of the batters, `lb` before a number
+-- a kind alone: `wd`, `wide`, `nb`, `noball` and `no ball` with no run of the batters, and `lb` before a number
 abbrev pub by_kind : Sheet → Side → Token → List Token → List Word
 by_kind s side t ts =
     if bytes_eq t (codes "wd") then Ok (codes "wide") ∷ Ok (codes "0") ∷ behind_runs s side ts
@@ -108,7 +108,7 @@ abbrev pub marked : Sheet → Side → Option (Token × Token) → Token → Lis
 marked s side (Some m) t ts = Ok m.0 ∷ Ok m.1 ∷ behind_runs s side ts
 marked s side None t ts = by_kind s side t ts
 
--- a letter that means two things to scorers is refused with both
+-- a letter that means two things is refused, with both meanings named
 abbrev pub unless_two : Option Letter → List Word → List Word
 unless_two (Some letter) ws = Err (TwoMeanings letter) ∷ []
 unless_two None ws = ws
@@ -122,29 +122,29 @@ runs s side (t ∷ ts) = runs_from s side t ts
 
 -- ---- [B:] [RUNS] [OPTIONS] [OUT]
 
--- the tokens with this one before them, where it isn't empty
+-- the tokens, with this one before them unless it is empty
 abbrev pub behind_colon : Token → List Token → List Token
 behind_colon t ts = if length t == 0 then ts else t ∷ ts
 
--- the bowler of the last delivery
+-- the last delivery's bowler
 abbrev pub same_bowler : Option ℕ → Word
 same_bowler None = Err WhoBowls
 same_bowler (Some n) = Ok (decimal n)
 
--- the token is a kind, by its own word or by another
+-- the token is a kind, by its own word or another
 abbrev pub is_kind : Token → Bool
 is_kind t = is_one_of (codes "wd" ∷ codes "noball" ∷ codes "lb" ∷ map kind_text all_kinds) t
 
--- the tokens begin what a delivery brought
+-- the tokens begin a delivery's outcome
 unfoldable pub begins_delivery : Token → List Token → Bool
 begins_delivery t ts = is_some (mark t) || (is_kind t || (is_no_ball t ts || is_behind_runs t ts))
 
--- what a delivery brought is next, or a letter that means two things
+-- a delivery's outcome comes next, or a letter that means two things
 abbrev pub has_delivery : List Token → Bool
 has_delivery [] = false
 has_delivery (t ∷ ts) = begins_delivery t ts || is_some (two_meanings t)
 
--- a bowler's name with no colon behind it, where a delivery follows
+-- a bowler's name without a colon, if a delivery's outcome follows
 abbrev pub is_someone : Found → Bool
 is_someone NoOne = false
 is_someone found = true
@@ -155,13 +155,13 @@ spoken s side t ts bowler =
     then Ok (codes "ball") ∷ number_word side t bowler.0 ∷ runs s side bowler.1
     else as_typed (t ∷ ts)
 
--- a bowler's whole name of several words before a colon, else a name with none
+-- a bowler's whole name of several words before a colon, else a name without a colon
 abbrev pub by_colon : Sheet → Side → Token → List Token → Option (ℕ × Token × List Token) → List Word
 by_colon s side t ts (Some found) =
     Ok (codes "ball") ∷ Ok (decimal found.0) ∷ runs s side (behind_colon found.1 found.2)
 by_colon s side t ts None = spoken s side t ts (named (team_of s side) Anyone t ts)
 
--- no word that begins a line, and no number
+-- the token begins no line and is no number
 abbrev pub may_name : Token → Bool
 may_name t = if is_line_word t || is_digit_first t then false else true
 
@@ -180,12 +180,12 @@ by_same_bowler s at t ts =
 unfoldable pub by_letter : Sheet → Point → Token → List Token → List Word
 by_letter s at t ts = unless_two (two_meanings t) (by_same_bowler s at t ts)
 
--- a delivery of the bowler who is named before a colon, with this behind it
+-- a delivery whose bowler is named before a colon, with `more` after the colon
 unfoldable pub colon_delivery : Sheet → Side → Token → Token → List Token → List Word
 colon_delivery s side name more ts =
     Ok (codes "ball") ∷ (player s side Anyone name []).0 ∷ runs s side (behind_colon more ts)
 
--- a delivery that isn't begun by `ball`, or any other line
+-- a delivery that doesn't begin with `ball`, or any other line
 unfoldable pub unnamed : Sheet → Point → Token → List Token → List Word
 unnamed s at t ts =
     if names_bowler t then colon_delivery s (opponent at.batting) (before_first is_colon t) (after_first is_colon t) ts
@@ -201,7 +201,7 @@ abbrev pub bowler_first : Sheet → Side → List Token → List Word
 bowler_first s side [] = []
 bowler_first s side (t ∷ ts) = (player s side Anyone t ts).0 ∷ runs s side (player s side Anyone t ts).1
 
--- who leaves is in, unless he is timed out
+-- a batter who leaves is in, unless he is timed out
 abbrev pub leavers : Token → Among → Among
 leavers t among = if bytes_eq t (codes "timedout") then Anyone else among
 
@@ -209,7 +209,7 @@ abbrev pub left_so : Sheet → Side → Among → List Token → List Word
 left_so s side among [] = []
 left_so s side among (t ∷ ts) = Ok t ∷ batter_first s side (leavers t among) ts
 
--- a line but `fix` and `late`, where it belongs, with who is in there
+-- a line other than `fix` and `late`, by who bowls, bats and is in where it belongs
 unfoldable pub item_from : Sheet → Point → Among → Token → List Token → List Word
 item_from s at among t ts =
     if bytes_eq t (codes "/") then Ok (codes "over") ∷ as_typed ts
@@ -225,16 +225,16 @@ abbrev pub item : Sheet → List Entry → Belongs → List Token → List Word
 item s book belongs [] = []
 item s book belongs (t ∷ ts) = item_at s book belongs t ts
 
--- where a `late` line and a `fix` line of place p belong
+-- where a `late` or a `fix` line of place p belongs
 abbrev pub belonging : Bool → ℕ → Belongs
 belonging is_late p = if is_late then After p else At p
 
--- a place, and what belongs there; where no place stands, all as it stands
+-- a place and the line that belongs there, or the words as typed if the token is no place
 abbrev pub at_place : Sheet → List Entry → Bool → Token → List Token → Option ℕ → List Word
 at_place s book is_late t ts None = as_typed (t ∷ ts)
 at_place s book is_late t ts (Some p) = Ok t ∷ item s book (belonging is_late p) ts
 
--- a delivery by its over and its number there, as `9.2`: its place, and what belongs there
+-- the place of a delivery that is named by its over and its number there, as `9.2`, and the line that belongs there
 abbrev pub at_ball : Sheet → List Entry → Bool → Token → List Token → Option ℕ → List Word
 at_ball s book is_late t ts None = Err (no_such_ball t) ∷ []
 at_ball s book is_late t ts (Some p) = Ok (decimal p) ∷ item s book (belonging is_late p) ts
@@ -247,7 +247,7 @@ abbrev pub placed : Sheet → List Entry → Bool → List Token → List Word
 placed s book is_late [] = []
 placed s book is_late (t ∷ ts) = ball_or_place s book is_late t ts (named_ball t)
 
--- `undo`: the entry of this place is void
+-- `undo`: the line that makes the entry at this place void
 abbrev pub undoing : Option ℕ → List Token → List Word
 undoing None ts = Err NothingStands ∷ []
 undoing (Some p) ts = Ok (codes "fix") ∷ Ok (decimal p) ∷ Ok (codes "void") ∷ as_typed ts
@@ -259,9 +259,9 @@ words_in_full s book (t ∷ ts) =
     else if bytes_eq t (codes "undo") then undoing (last_standing book) ts
     else item_at s book Last t ts
 
--- ---- a word that is none
+-- ---- an unknown word
 
--- the line is refused for a word that stands where another must
+-- the line is refused for an unknown word
 abbrev pub lacks_word : Result Entry LineFault → Bool
 lacks_word (Err NoWord) = true
 lacks_word read = false
@@ -270,7 +270,7 @@ abbrev pub is_cut_there : Result (List ℕ) Reason → Bool
 is_cut_there (Ok text) = lacks_word (line_answer text)
 is_cut_there (Err reason) = false
 
--- that word: the first with which the line, cut behind it, is refused so
+-- the first word at which the line, if it ended there, would be refused for an unknown word
 abbrev pub word_from : Result (List ℕ) Reason → List Token → Option Token
 word_from front [] = None
 word_from front (t ∷ ts) = if is_cut_there (plus front (Ok t)) then Some t else word_from (plus front (Ok t)) ts
@@ -279,31 +279,31 @@ abbrev pub or_word : List ℕ → Option Token → Result (List ℕ) Reason
 or_word text None = Ok text
 or_word text (Some t) = Err (unknown_word t)
 
--- of a word that asks for something, what stands behind it
+-- the word after one of a desk's words
 abbrev pub asked_for : List Token → Option Token
 asked_for (t ∷ u ∷ ts) = if is_desk_word t then Some u else None
 asked_for _ = None
 
--- the word for which a text is refused, if it is
+-- the unknown word for which a text is refused, if there is one
 abbrev pub lacking : List ℕ → Option Token
 lacking text =
     if lacks_word (line_answer text) then or_else (asked_for (tokens text)) (word_from (Ok []) (tokens text)) else None
 
--- a text in full, unless it is refused for a word: then that word
+-- a text in full, or the unknown word for which it is refused
 abbrev pub with_words : Result (List ℕ) Reason → Result (List ℕ) Reason
 with_words (Err reason) = Err reason
 with_words (Ok text) = or_word text (lacking text)
 
 -- ---- a line
 
--- a fault of the line as a whole, and not of one of its words
+-- a fault of the line as a whole, not of one of its words
 abbrev pub is_of_line : LineFault → Bool
 is_of_line TooLong = true
 is_of_line Spaces = true
 is_of_line _ = false
 
--- by what a line says of itself: an entry's line is in full; one that is too long, or that isn't tokens with one space
--- between them, has no full form; any other is put in full word by word
+-- an entry's line is its own full form; a line that is too long, or isn't tokens with single spaces between them, has no
+-- full form; any other line is put in full word by word
 abbrev pub by_word : Sheet → List Entry → List ℕ → Result (List ℕ) Reason
 by_word s book line = with_words (joined (words_in_full s book (tokens line)))
 
@@ -314,11 +314,11 @@ put_in_full s book line (Err f) = if is_of_line f then Err (Fault f) else by_wor
 abbrev pub by_answer : Sheet → List Entry → List ℕ → Result (List ℕ) Reason
 by_answer s book line = put_in_full s book line (line_answer line)
 
--- a line in full, or what isn't clear in it: the blanks at its end are no part of it
+-- a line in full, or what isn't clear in it; blanks at its end don't count
 unfoldable pub in_full : Sheet → List Entry → List ℕ → Result (List ℕ) Reason
 in_full s book line = by_answer s book (trimmed line)
 
--- the entry that a line means: what is read in full
+-- the entry that a line means: the one read from its full form
 abbrev pub or_fault : Result Entry LineFault → Result Entry Reason
 or_fault (Ok e) = Ok e
 or_fault (Err f) = Err (Fault f)

@@ -1,5 +1,5 @@
--- What is claimed: Full, and what it stands on: Points, Names, Marks, Words, Lines. Worked computes examples, Laws
--- says what holds of all lines, Candidates whom a name may mean.
+-- What is claimed: Full, which rests on Points, Names, Marks, Words and Lines. Worked computes examples, Laws says what
+-- holds of all lines, and Candidates says whom a name may mean.
 pub mod Words
 pub mod Points
 pub mod Names

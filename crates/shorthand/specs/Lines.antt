@@ -5,9 +5,8 @@ use Rattle.notation.specs.declared.{fault.LineFault.LineFault, entry.Side.Side}
 use Rattle.notation.specs.declared.fault.LineFault.TheVariants.{TooLong}
 use Rattle.shorthand.specs.declared.unclear.{Letter.Letter, Unaided.Unaided, Unclear.Unclear}
 
--- what isn't clear in a line: its words, who bowls, which player of a side a name means, what `undo` undoes, which of
--- its two meanings a letter has, what a fielder has to do with a way of being out, a word that is none, or a delivery
--- that there isn't
+-- what isn't clear in a line: its words, who bowls, which player of a side a name means, what `undo` undoes, which of its two
+-- meanings a letter has, what a fielder has to do with a way of being out, an unknown word, or a delivery that doesn't exist
 pub data Reason : Type 0 where
   Fault : LineFault → Reason
   WhoBowls : Reason
@@ -34,20 +33,20 @@ reason_of (Unclear.NoSuchBall t) = NoSuchBall t.bytes
 abbrev pub Word : Type 0
 Word = Result Token Reason
 
--- the tokens as they stand
+-- the tokens as typed
 abbrev pub as_typed : List Token → List Word
 as_typed ts = map Ok ts
 
--- a text with a word more, behind a space where it isn't the first
+-- a text with one word more, after a space unless it is the first
 abbrev pub spaced : List ℕ → Token → List ℕ
 spaced [] w = w
 spaced (b ∷ bs) w = (b ∷ bs) ++ 32 ∷ w
 
--- at most 96 bytes
+-- a text of at most 96 bytes, or that it is too long
 abbrev pub within : List ℕ → Result (List ℕ) Reason
 within text = if nat_le (length text) 96 then Ok text else Err (Fault TooLong)
 
--- a line with a word more: the first reason stays
+-- a line with one word more; the first reason stays
 abbrev pub plus : Result (List ℕ) Reason → Word → Result (List ℕ) Reason
 plus (Ok text) (Ok w) = within (spaced text w)
 plus (Ok text) (Err reason) = Err reason
@@ -57,6 +56,6 @@ abbrev pub plus_all : Result (List ℕ) Reason → List Word → Result (List �
 plus_all line [] = line
 plus_all line (w ∷ ws) = plus_all (plus line w) ws
 
--- the words with one space between them, in at most 96 bytes; or the first reason why not
+-- the words with single spaces between them, in at most 96 bytes; or the first reason against them
 abbrev pub joined : List Word → Result (List ℕ) Reason
 joined ws = plus_all (Ok []) ws

@@ -1,4 +1,4 @@
--- The marks of a delivery's runs: letters, of which there may be none, and a figure.
+-- The marks of a delivery's runs: letters, or none, and a figure.
 use Rattle.std.specs.Prelude.{Option, Some, None, List, [], ◌∷◌, codes}
 use Rattle.notation.specs.Written.{Token}
 use Rattle.match_laws.specs.History.{or_else}
@@ -10,7 +10,7 @@ letters =
     ([], codes "bat") ∷ (codes "b", codes "bye") ∷ (codes "lb", codes "leg") ∷ (codes "wd", codes "wide")
     ∷ (codes "nb", codes "nb") ∷ (codes "nbb", codes "nbbye") ∷ (codes "nblb", codes "nbleg") ∷ []
 
--- the figure, and the runs that it stands for: 4 and 6 are boundaries, and a dot is a 0
+-- the figure, and the runs that it stands for: 4 and 6 are boundaries, and a dot is 0
 abbrev pub figures : List (Token × Token)
 figures =
     (codes ".", codes "0") ∷ (codes "0", codes "0") ∷ (codes "1", codes "1") ∷ (codes "2", codes "2") ∷ (codes "3", codes "3")
@@ -26,10 +26,10 @@ cut [] = ([], [])
 cut (b ∷ []) = ([], b ∷ [])
 cut (b ∷ c ∷ bs) = (b ∷ (cut (c ∷ bs)).0, (cut (c ∷ bs)).1)
 
--- the kind and the runs that letters and a figure stand for
+-- the kind and the runs of letters and a figure
 abbrev pub written_mark : Token → Option (Token × Token)
 written_mark t = both (in_row letters (cut t).0) (in_row figures (cut t).1)
 
--- the kind and the runs that a mark stands for, said in a word or written
+-- the kind and the runs of a mark, said in a word or written
 abbrev pub mark : Token → Option (Token × Token)
 mark t = or_else (said_runs t) (written_mark t)

@@ -1,6 +1,5 @@
--- Players by number and by name. A player is meant, in letters of either case, by his whole name as it is shown; else by
--- a token that is the last word of his name and no other's; else by one that begins a word of his name and of no other's
--- in the team.
+-- Players by number and by name. A text means a player, in either case of letters, if it is his whole name as shown; else if
+-- it is the last word of his name alone; else if it begins a word of his name and of no other's in the team.
 use Rattle.std.specs.Prelude.{ℕ, ◌==◌, Bool, true, false, ◌||◌, ◌&&◌, if◌then◌else◌, Option, Some, None, List, [], ◌∷◌, filter, take, length, decimal, nat_le, nat_lt, codes, Result, Ok, Err}
 use Rattle.std.specs.Char.{is_ascii_digit}
 use Rattle.std.specs.List.{list_any, position_or_len, before_first, after_first}
@@ -35,13 +34,13 @@ abbrev pub is_last_of : List Token → Token → Bool
 is_last_of [] t = false
 is_last_of (w ∷ ws) t = ends_in w ws t
 
--- how a name and a text fit: the text is the name; its last word; the beginning of one of its words
+-- how a text fits a name: it is the name, its last word, or the beginning of one of its words
 abbrev pub fits : Fit → List ℕ → Token → Bool
 fits Whole name t = is_same name t
 fits LastWord name t = is_last_of (tokens name) t
 fits Beginning name t = list_any (λ w. begins_with w t) (tokens name)
 
--- who is looked at: anyone of the side, or who is at one of these ends
+-- whom a name may mean: anyone of the side, or the batters at these ends
 abbrev pub is_at : Option ℕ → ℕ → Bool
 is_at None n = false
 is_at (Some m) n = m == n
@@ -53,7 +52,7 @@ is_among (AnEnd ends) n = is_at ends.striker n || is_at ends.other n
 abbrev pub suits : Among → Fit → Team → Token → ℕ → Bool
 suits among fit team t n = is_among among n && fits fit (player_in team n) t
 
--- the players of a team among these whom the text so fits
+-- the players of a team, among these, whose names the text fits in this way
 abbrev pub fitting : Among → Fit → Team → Token → List ℕ
 fitting among fit team t = filter (λ n. suits among fit team t n) numbers
 
@@ -66,14 +65,14 @@ abbrev pub one_or_else : Found → Found → Found
 one_or_else (One n) others = One n
 one_or_else _ others = others
 
--- whom a word means: whose last word it is, else who has a word that begins so
+-- whom a word means: the player whose last word it is, else the one with a word that begins with it
 abbrev pub meant : Among → Team → Token → Found
 meant among team t = one_or_else (found_in (fitting among LastWord team t)) (found_in (fitting among Beginning team t))
 
 abbrev pub meant_by : Team → Token → Found
 meant_by team t = meant Anyone team t
 
--- among several the one who is among these, if it is one
+-- if several are found, the one of the others if it is just one
 abbrev pub among_several : Found → Found → Found
 among_several Several (One n) = One n
 among_several found others = found
@@ -84,12 +83,12 @@ abbrev pub alone : Found → List Token → Option (ℕ × List Token)
 alone (One n) ts = Some (n, ts)
 alone _ ts = None
 
--- the one player whose whole name the words are, with the tokens behind them
+-- the one player with exactly this name, and the tokens after it
 abbrev pub exactly : Team → Result (List ℕ) Reason → List Token → Option (ℕ × List Token)
 exactly team (Ok name) ts = alone (found_in (fitting Anyone Whole team name)) ts
 exactly team (Err reason) ts = None
 
--- the most of these words that are one player's whole name, as they go on from the first ones
+-- the player named by the longest run of words from `front` on that is a whole name, and the tokens after it
 abbrev pub whole_name : Team → Result (List ℕ) Reason → List Token → Option (ℕ × List Token)
 whole_name team front [] = exactly team front []
 whole_name team front (t ∷ ts) = or_else (whole_name team (plus front (Ok t)) ts) (exactly team front (t ∷ ts))
@@ -97,7 +96,7 @@ whole_name team front (t ∷ ts) = or_else (whole_name team (plus front (Ok t)) 
 abbrev pub is_colon : ℕ → Bool
 is_colon b = b == 58
 
--- `B:`, be it alone or before what the delivery brought, as `10:4`
+-- the token has a bowler's name and a colon: `B:` alone, or before the outcome as in `10:4`
 abbrev pub names_bowler : Token → Bool
 names_bowler t = nat_lt (position_or_len is_colon t) (length t) && nat_lt 0 (length (before_first is_colon t))
 
@@ -105,7 +104,7 @@ abbrev pub with_token : Option (ℕ × List Token) → Token → Option (ℕ × 
 with_token None t = None
 with_token (Some found) t = Some (found.0, t, found.1)
 
--- the player whose whole name stands before the first colon, what stands behind that in its token, and the tokens behind
+-- the player whose whole name stands before the first colon, what follows the colon in its token, and the tokens after
 abbrev pub colon_name : Team → Result (List ℕ) Reason → List Token → Option (ℕ × Token × List Token)
 colon_name team front [] = None
 colon_name team front (t ∷ ts) =
@@ -117,18 +116,18 @@ abbrev pub named_or : Option (ℕ × List Token) → Found → List Token → Fo
 named_or (Some whole) found ts = (One whole.0, whole.1)
 named_or None found ts = (found, ts)
 
--- whom the words mean that begin with t, and the tokens behind them: the most of them that are a whole name, else t
--- alone; among several the one who is among these
+-- whom the words from t on mean, and the tokens after them: the longest run that is a whole name, else t alone; if t means
+-- several players, the one among these
 abbrev pub named : Team → Among → Token → List Token → Found × List Token
 named team among t ts =
     named_or (whole_name team (plus (Ok []) (Ok t)) ts) (among_several (meant_by team t) (meant among team t)) ts
 
--- a number stands where a token begins with a digit, and no name
+-- a token that begins with a digit is a number, not a name
 abbrev pub is_digit_first : Token → Bool
 is_digit_first [] = false
 is_digit_first (b ∷ bs) = is_ascii_digit b
 
--- what isn't clear in a name; one of more than 96 bytes is in no line
+-- why a name isn't clear; a name of more than 96 bytes makes the line too long
 abbrev pub no_such_player : Token → Reason
 no_such_player t = if nat_le (length t) 96 then NoSuchPlayer t else Fault TooLong
 
@@ -149,12 +148,12 @@ number_word side t NoOne = Err (no_such_player t)
 number_word side t (One n) = Ok (decimal n)
 number_word side t Several = Err (which_player side t)
 
--- a player's number, by number, as it stands, or by name; and the tokens behind it
+-- a player's number, given as a number, which stays as typed, or as a name; and the tokens after it
 abbrev pub player : Sheet → Side → Among → Token → List Token → Word × List Token
 player s side among t ts =
     if is_digit_first t then (Ok t, ts)
     else (number_word side t (named (team_of s side) among t ts).0, (named (team_of s side) among t ts).1)
 
--- a fielder's: `sub` is any substitute
+-- a fielder's number; `sub` is any substitute
 abbrev pub fielder : Sheet → Side → Token → List Token → Word × List Token
 fielder s side t ts = if bytes_eq t (codes "sub") then (Ok (codes "12"), ts) else player s side Anyone t ts

@@ -12,22 +12,22 @@ use Rattle.shorthand.specs.declared.{names.Among.Among, full.Belongs.Belongs, de
 use Rattle.shorthand.specs.declared.names.Among.TheVariants.{Anyone, AnEnd}
 use Rattle.shorthand.specs.declared.full.Belongs.TheVariants.{Last, At, After}
 
--- the bowler of the last delivery of the open over, and the side that began to bat last (home, before any)
+-- the bowler of the open over's last delivery, and the side that began to bat last (home, before any)
 abbrev pub point_of : History → Point
 point_of h = record { bowler = newest_bowler (open_over h); batting = unwrap_or (last_side h) Home }
 
--- the item is the one that a line corrects
+-- the item is the one that a `fix` line corrects
 abbrev pub is_corrected : Belongs → Placed → Bool
 is_corrected (At p) x = x.place == p
 is_corrected _ x = false
 
--- the item stands behind all that belongs to the place that a late line names
+-- the item comes after everything that belongs to the place of a `late` line
 abbrev pub is_beyond : Belongs → Placed → Bool
 is_beyond (After p) x = nat_lt p x.anchor
 is_beyond _ x = false
 
--- what stands up to where a line belongs, the newest first, behind h: all, or up to what it corrects and with it,
--- or up to the last that belongs to a place
+-- the history up to where a line belongs, newest first, after h: all items, or those up to and with the corrected one, or
+-- those up to the last that belongs to the place
 abbrev pub history_to : Belongs → History → List Placed → History
 history_to place h [] = h
 history_to place h (x ∷ xs) =
@@ -38,7 +38,7 @@ history_to place h (x ∷ xs) =
 abbrev pub point_at : List Entry → Belongs → Point
 point_at book place = point_of (history_to place [] (clean_items_of book))
 
--- who is looked for where a batter leaves: behind all that stands, who is in
+-- whom the name of a leaving batter may mean: those who are in for a line at the end of the book, else anyone
 abbrev pub batters_at : List Entry → Belongs → Among
 batters_at book Last = AnEnd (state_after (history_of book)).ends
 batters_at book (At p) = Anyone

@@ -5,12 +5,12 @@ use Rattle.match_laws.specs.History.{is_void}
 use Rattle.corrections.specs.declared.placed.Placed.{Placed}
 use Rattle.corrections.specs.CleanList.{clean_items_of}
 
--- the later of a place, if there is one, and another
+-- the later of two places, of which the first may be missing
 abbrev pub later : Option ℕ → ℕ → Option ℕ
 later None p = Some p
 later (Some q) p = if nat_lt q p then Some p else Some q
 
--- with an item more: where it is void, nothing stands
+-- the last place after one more item; a void item doesn't count
 abbrev pub with_item : Option ℕ → Placed → Option ℕ
 with_item last x = if is_void x.item then last else later last x.place
 
@@ -18,6 +18,6 @@ abbrev pub last_with : Option ℕ → List Placed → Option ℕ
 last_with last [] = last
 last_with last (x ∷ xs) = last_with (with_item last x) xs
 
--- the place of the last entry that stands: the one that was entered last
+-- the place of the last entry that stands in the book
 abbrev pub last_standing : List Entry → Option ℕ
 last_standing book = last_with None (clean_items_of book)

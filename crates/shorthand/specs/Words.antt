@@ -1,4 +1,4 @@
--- What scorers type in place of the words of lines, and what they plainly mean by it.
+-- What scorers type for the words of lines, and what they plainly mean by it.
 use Rattle.std.specs.Prelude.{ℕ, ◌-◌, Bool, false, if◌then◌else◌, ◌||◌, ◌&&◌, Option, Some, None, List, [], ◌∷◌, codes, length, take, map, unwrap_or}
 use Rattle.std.specs.Char.{is_ascii_whitespace}
 use Rattle.std.specs.List.{list_any, suffix_len}
@@ -15,34 +15,34 @@ trimmed line = take (length line - suffix_len is_ascii_whitespace line) line
 abbrev pub is_one_of : List Token → Token → Bool
 is_one_of ws t = list_any (bytes_eq t) ws
 
--- what stands in the token's row of a table
+-- the token's value in a table
 abbrev pub in_row : List (Token × Token) → Token → Option Token
 in_row [] t = None
 in_row (row ∷ rows) t = if bytes_eq t row.0 then Some row.1 else in_row rows t
 
--- the tokens begin with this word
+-- the next token is this word
 abbrev pub has_next : Token → List Token → Bool
 has_next w [] = false
 has_next w (t ∷ ts) = bytes_eq t w
 
--- all but the first
+-- all tokens but the first
 abbrev pub behind_one : List Token → List Token
 behind_one [] = []
 behind_one (t ∷ ts) = ts
 
--- the tokens are these two words and more
+-- the tokens begin with these two words
 abbrev pub are_two : Token → Token → Token → List Token → Bool
 are_two w v t ts = bytes_eq t w && has_next v ts
 
 -- ---- ways of being out
 
--- the word, and the way that it stands for
+-- the short word, and the way that it stands for
 abbrev pub ways : List (Token × Token)
 ways =
     (codes "c", codes "caught") ∷ (codes "ct", codes "caught") ∷ (codes "st", codes "stumped")
     ∷ (codes "ro", codes "runout") ∷ []
 
--- a way of being out, by its own word or by another
+-- a way of being out, by its own word or a short one
 abbrev pub way_of : Token → Token
 way_of t = unwrap_or (in_row ways t) t
 
@@ -53,7 +53,7 @@ is_how t = is_one_of (map how_text all_hows) (way_of t)
 abbrev pub is_run_out : Token → List Token → Bool
 is_run_out t ts = are_two (codes "run") (codes "out") t ts
 
--- in these ways no fielder has a part: whoever is named there is rather who bowls
+-- the ways in which no fielder has a part; a player named after them is rather the bowler
 abbrev pub without_fielder : Token → Option Unaided
 without_fielder how =
     if bytes_eq how (codes "bowled") then Some Bowled
@@ -62,7 +62,7 @@ without_fielder how =
 
 -- ---- runs
 
--- what a delivery brought, in one word: the kind, and the runs. Of wides and no balls the one run is their own
+-- a delivery's kind and runs in one word; of wides and no balls the one run is that of the delivery itself
 abbrev pub run_words : List (Token × Token × Token)
 run_words =
     (codes "dot", codes "bat", codes "0") ∷ (codes "four", codes "bat", codes "0 four")
@@ -89,7 +89,7 @@ is_no_ball t ts = are_two (codes "no") (codes "ball") t ts
 abbrev pub two_meanings : Token → Option Letter
 two_meanings t = if bytes_eq t (codes "b") then Some B else if bytes_eq t (codes "w") then Some W else None
 
--- the words that ask for something at a desk
+-- a desk's words that write no entry
 abbrev pub desk_words : List Token
 desk_words =
     codes "list" ∷ codes "score" ∷ codes "card" ∷ codes "players" ∷ codes "bowlers" ∷ codes "who" ∷ codes "help"
@@ -104,6 +104,6 @@ line_words =
     codes "innings" ∷ codes "in" ∷ codes "ball" ∷ codes "gone" ∷ codes "over" ∷ codes "penalty" ∷ codes "swap"
     ∷ codes "end" ∷ codes "close" ∷ codes "void" ∷ codes "fix" ∷ codes "late" ∷ codes "again" ∷ []
 
--- none of both is a bowler's name without a colon
+-- neither kind of word is a bowler's name without a colon
 abbrev pub is_line_word : Token → Bool
 is_line_word t = is_one_of line_words t || is_desk_word t

@@ -1,5 +1,5 @@
--- The rows of the table that scorers have, computed. Bowler 10 has bowled the last delivery of the open over, and the
--- home side bats; where no name is looked up, any sheet will do.
+-- The rows of the table that scorers have, computed. Bowler 10 has bowled the open over's last delivery, and the home side
+-- bats; if no name is looked up, any sheet will do.
 use Rattle.std.specs.Prelude.{◌≡◌, ℕ, false, None, List, [], ◌∷◌, ◌++◌, codes, Result, Ok, Err}
 use Rattle.notation.specs.declared.entry.Side.TheVariants.{Home, Away}
 use Rattle.notation.specs.declared.entry.Kind.TheVariants.{Bat}
@@ -19,14 +19,14 @@ use Rattle.shorthand.specs.Full.{words_in_full}
 abbrev pub dot : ℕ → Plain
 dot n = Bowl (record { bowler = n; kind = Bat; ran = 0; short = 0; bound = Run; dead = false; out = None })
 
--- the places 0 to 2, and then bowler 7's over of one ball at 3 and 4, and bowler 10's first ball at 5
+-- places 0 to 2; then bowler 7's over of one ball at 3 and 4, and bowler 10's first ball at 5
 abbrev pub opened : List Entry
 opened = Write (Innings Home) ∷ Write (Come 1) ∷ Write (Come 2) ∷ []
 
 abbrev pub two_overs : List Entry
 two_overs = opened ++ Write (dot 7) ∷ Write Over ∷ Write (dot 10) ∷ []
 
--- the full form of a line behind this book
+-- the full form of a line at the end of this book
 abbrev pub behind : Sheet → List Entry → List ℕ → Result (List ℕ) Reason
 behind s book line = joined (words_in_full s book (tokens line))
 
@@ -70,7 +70,7 @@ pub record WorkedOuts (s : Sheet) : Type 0 where
   pub dead : behind s two_overs (codes "1 dead runout other 8")
       ≡ Ok (codes "ball 10 bat 1 dead out runout other 8")
 
--- what scorers type in place of the words of lines
+-- what scorers type for the words of lines
 pub record WorkedWords (s : Sheet) : Type 0 where
   pub zero : behind s two_overs (codes "0") ≡ Ok (codes "ball 10 bat 0")
   pub dot_word : behind s two_overs (codes "dot") ≡ Ok (codes "ball 10 bat 0")
@@ -100,7 +100,7 @@ pub record WorkedWords (s : Sheet) : Type 0 where
 abbrev pub with_late_over : List Entry
 with_late_over = two_overs ++ Late 5 Over ∷ Late 5 (dot 8) ∷ []
 
--- who bowls where a line belongs: behind all, at a place, and behind what belongs to a place; and what `undo` undoes
+-- who bowls where a line belongs: at the end, at a place, and after what belongs to a place; and what `undo` undoes
 pub record WorkedPlaces (s : Sheet) : Type 0 where
   pub no_delivery : behind s opened (codes "4") ≡ Err WhoBowls
   pub after_over : behind s (two_overs ++ Write Over ∷ []) (codes "4") ≡ Err WhoBowls
@@ -138,7 +138,7 @@ birch = record {
 abbrev pub sheet : Sheet
 sheet = record { title = codes "match"; game = 1; innings = 1; home = alder; away = birch; limits = no_limits; columns = usual_columns }
 
--- the players whom a name means: a last word goes first where it is one player's, otherwise each beginning counts
+-- the players whom a name means: a last word comes first if it is just one player's, otherwise each beginning counts
 pub record WorkedNames : Type 0 where
   pub last_word : behind sheet two_overs (codes "in carr") ≡ Ok (codes "in 3")
   pub beginning : behind sheet two_overs (codes "in carro") ≡ Ok (codes "in 4")
@@ -166,7 +166,7 @@ pub record WorkedNames : Type 0 where
   pub no_colon_out : behind sheet two_overs (codes "usher c pike") ≡ Ok (codes "ball 3 bat 0 out caught striker 9")
   pub lbw_by : behind sheet two_overs (codes "lbw usher") ≡ Err (NoFielder Lbw (codes "usher"))
 
--- the one of several who is in, behind all that stands; a whole name of a bowler, before a colon and without one
+-- of several players the one who is in, at the end of the book; a bowler's whole name, with a colon and without
 abbrev pub ray_in : List Entry
 ray_in = Write (Innings Home) ∷ Write (Come 7) ∷ Write (Come 1) ∷ Write (dot 10) ∷ []
 

@@ -1,3 +1,3 @@
--- What serves private functions and proofs only: the contracts can be judged without it.
+-- Definitions for private functions and proofs only: the contracts can be judged without them.
 pub mod Writing
 pub mod Marking

@@ -1,4 +1,4 @@
-//! A delivery in full: what it brought, and who bowls.
+//! The full form of a delivery: its bowler and its outcome, which is the runs, the options and the dismissal.
 
 ghost use Rattle.std.specs.Prelude.{◌≡◌, ◌∷◌, [], Ok};
 ghost use Rattle.cards.specs.Sheet.{team_of};
@@ -28,11 +28,11 @@ use notation::{Player, Side};
 pub struct Point {
     /// The bowler of the last delivery of the open over, if it has one.
     pub bowler: Option<Player>,
-    /// The side whose innings began last; home, before any.
+    /// The side whose innings began last; home before any innings.
     pub batting: Side,
 }
 
-/// Whether a number stands next.
+/// Whether a number comes next.
 fn has_number(rest: &Rest<'_>) -> bool
     ensures { result ≡ full.has_number rest.now }
 {
@@ -43,7 +43,7 @@ fn has_number(rest: &Rest<'_>) -> bool
     }
 }
 
-/// Writes the runs of a kind, none where no number follows, and what stands behind them.
+/// Writes the runs of a kind, 0 if no number follows, and what follows the runs.
 fn from_none(line: &mut Line, sheet: &MatchSheet, side: Side, rest: &mut Rest<'_>)
     ensures { line.new ≡ plus_all line.old (full.from_none sheet.now side rest.old) }
 {
@@ -53,7 +53,7 @@ fn from_none(line: &mut Line, sheet: &MatchSheet, side: Side, rest: &mut Rest<'_
     behind_runs(line, sheet, side, rest);
 }
 
-/// Writes what a delivery brought, where the token is no mark and no kind by another word.
+/// Writes a delivery's outcome, if the token is neither a mark nor another word for a kind.
 fn unmarked(line: &mut Line, sheet: &MatchSheet, side: Side, token: &str, rest: &mut Rest<'_>)
     ensures { line.new ≡ plus_all line.old (full.unmarked sheet.now side token.now rest.old) }
 {
@@ -71,7 +71,7 @@ fn is_no_ball(token: &str, rest: &Rest<'_>) -> bool
     token == "no" && rest.has_next("ball")
 }
 
-/// Writes what a delivery brought, where the token is no mark.
+/// Writes a delivery's outcome, if the token is no mark.
 fn by_kind(line: &mut Line, sheet: &MatchSheet, side: Side, token: &str, rest: &mut Rest<'_>)
     ensures { line.new ≡ plus_all line.old (full.by_kind sheet.now side token.now rest.old) }
 {
@@ -97,7 +97,7 @@ fn by_kind(line: &mut Line, sheet: &MatchSheet, side: Side, token: &str, rest: &
     }
 }
 
-/// Writes what a delivery brought, where the token is no letter that means two things.
+/// Writes a delivery's outcome, if the token is no letter that means two things.
 fn marked_from(line: &mut Line, sheet: &MatchSheet, side: Side, token: &str, rest: &mut Rest<'_>)
     ensures { line.new ≡ plus_all line.old (full.marked sheet.now side (marks.mark token.now) token.now rest.old) }
 {
@@ -111,7 +111,7 @@ fn marked_from(line: &mut Line, sheet: &MatchSheet, side: Side, token: &str, res
     }
 }
 
-/// The letter that the token is, where it means two things to scorers.
+/// Returns the letter that the token is, if scorers use it for two things.
 fn two_meanings(token: &str) -> Option<Letter>
     ensures { result ≡ words.two_meanings token.now }
 {
@@ -122,7 +122,7 @@ fn two_meanings(token: &str) -> Option<Letter>
     }
 }
 
-/// Writes what a delivery brought, from a token on.
+/// Writes a delivery's outcome, from this token on.
 #[tactic(auto, unfolding(crate::specs::Full::runs_from))]
 fn runs_from(line: &mut Line, sheet: &MatchSheet, side: Side, token: &str, rest: &mut Rest<'_>)
     ensures { line.new ≡ plus_all line.old (full.runs_from sheet.now side token.now rest.old) }
@@ -133,7 +133,7 @@ fn runs_from(line: &mut Line, sheet: &MatchSheet, side: Side, token: &str, rest:
     }
 }
 
-/// Writes what a delivery brought.
+/// Writes a delivery's outcome.
 pub fn runs(line: &mut Line, sheet: &MatchSheet, side: Side, rest: &mut Rest<'_>)
     ensures { line.new ≡ plus_all line.old (full.runs sheet.now side rest.old) }
 {
@@ -142,7 +142,7 @@ pub fn runs(line: &mut Line, sheet: &MatchSheet, side: Side, rest: &mut Rest<'_>
     }
 }
 
-/// Writes what a delivery brought, whose first word may stand behind the bowler's colon.
+/// Writes a delivery's outcome; `token` is what follows the bowler's colon without a space, and may be empty.
 fn runs_behind_colon(
     line: &mut Line,
     sheet: &MatchSheet,
@@ -159,7 +159,7 @@ fn runs_behind_colon(
     }
 }
 
-/// Whether the token is a kind, by its own word or by another.
+/// Whether the token is a kind, by its own word or another.
 fn is_kind(token: &str) -> bool
     ensures { result ≡ full.is_kind token.now }
 {
@@ -169,7 +169,7 @@ fn is_kind(token: &str) -> bool
     )
 }
 
-/// Whether the tokens begin what a delivery brought.
+/// Whether the tokens begin a delivery's outcome.
 #[tactic(auto, unfolding(crate::specs::Full::begins_delivery))]
 fn begins_delivery(token: &str, rest: &Rest<'_>) -> bool
     ensures { result ≡ full.begins_delivery token.now rest.now }
@@ -180,7 +180,7 @@ fn begins_delivery(token: &str, rest: &Rest<'_>) -> bool
         || is_behind_runs(token, rest)
 }
 
-/// Whether what a delivery brought is next, or a letter that means two things.
+/// Whether a delivery's outcome comes next, or a letter that means two things.
 fn has_delivery(rest: &Rest<'_>) -> bool
     ensures { result ≡ full.has_delivery rest.now }
 {
@@ -191,7 +191,7 @@ fn has_delivery(rest: &Rest<'_>) -> bool
     }
 }
 
-/// Writes the number of the bowler of the last delivery.
+/// Writes the number of the last delivery's bowler, or that it isn't clear who bowls.
 fn same_bowler(line: &mut Line, bowler: Option<Player>)
     ensures { line.new ≡ plus line.old (full.same_bowler bowler) }
 {
@@ -201,7 +201,7 @@ fn same_bowler(line: &mut Line, bowler: Option<Player>)
     }
 }
 
-/// Writes a line as it was typed.
+/// Writes a line's words as they were typed.
 fn as_typed(line: &mut Line, token: &str, rest: &mut Rest<'_>)
     ensures { line.new ≡ plus_all line.old (lines.as_typed (token.now ∷ rest.old)) }
 {
@@ -216,7 +216,7 @@ fn is_someone(found: &Found) -> bool
     !matches!(found, Found::NoOne)
 }
 
-/// Writes a delivery, where a bowler's name stands with no colon behind it, or another line.
+/// Writes a delivery that begins with its bowler's name and no colon, or any other line as typed.
 fn spoken(line: &mut Line, sheet: &MatchSheet, side: Side, token: &str, rest: &mut Rest<'_>)
     ensures { line.new ≡ plus_all line.old (full.spoken sheet.now side token.now rest.old
         (names.named (team_of sheet.now side) Anyone token.now rest.old)) }
@@ -232,7 +232,7 @@ fn spoken(line: &mut Line, sheet: &MatchSheet, side: Side, token: &str, rest: &m
     }
 }
 
-/// Writes a delivery, where a bowler's whole name stands before a colon or his name with none, or another line.
+/// Writes a delivery that begins with its bowler's whole name before a colon or with his name and no colon, or another line.
 fn by_colon(line: &mut Line, sheet: &MatchSheet, side: Side, token: &str, rest: &mut Rest<'_>)
     ensures { line.new ≡ plus_all line.old (full.by_colon sheet.now side token.now rest.old
         (names.colon_name (team_of sheet.now side) (plus (Ok []) (Ok token.now)) rest.old)) }
@@ -254,7 +254,7 @@ fn may_name(token: &str) -> bool
     !(is_line_word(token) || is_digit_first(token))
 }
 
-/// Writes a delivery, where its bowler's name is next, or another line.
+/// Writes a delivery that begins with its bowler's name, or another line.
 #[tactic(auto, unfolding(crate::specs::Full::by_bowler))]
 fn by_bowler(line: &mut Line, sheet: &MatchSheet, side: Side, token: &str, rest: &mut Rest<'_>)
     ensures { line.new ≡ plus_all line.old (full.by_bowler sheet.now side token.now rest.old) }
@@ -266,7 +266,7 @@ fn by_bowler(line: &mut Line, sheet: &MatchSheet, side: Side, token: &str, rest:
     }
 }
 
-/// Writes a delivery of the bowler of the last one, or one of which he is named, or another line.
+/// Writes a delivery with the bowler left out, who is then the last delivery's, or with his name, or another line.
 #[tactic(auto, unfolding(crate::specs::Full::by_same_bowler))]
 fn by_same_bowler(line: &mut Line, sheet: &MatchSheet, at: Point, token: &str, rest: &mut Rest<'_>)
     ensures { line.new ≡ plus_all line.old (full.by_same_bowler sheet.now at token.now rest.old) }
@@ -281,7 +281,7 @@ fn by_same_bowler(line: &mut Line, sheet: &MatchSheet, at: Point, token: &str, r
     }
 }
 
-/// The same, unless the token is a letter that means two things.
+/// Writes such a line, or refuses a token that is a letter with two meanings.
 #[tactic(auto, unfolding(crate::specs::Full::by_letter))]
 fn by_letter(line: &mut Line, sheet: &MatchSheet, at: Point, token: &str, rest: &mut Rest<'_>)
     ensures { line.new ≡ plus_all line.old (full.by_letter sheet.now at token.now rest.old) }
@@ -292,7 +292,7 @@ fn by_letter(line: &mut Line, sheet: &MatchSheet, at: Point, token: &str, rest: 
     }
 }
 
-/// Writes a delivery of the bowler who is named before a colon, with this behind it.
+/// Writes a delivery whose bowler is named before a colon; `more` follows the colon without a space.
 #[tactic(auto, unfolding(crate::specs::Full::colon_delivery))]
 fn colon_delivery(
     line: &mut Line,
@@ -316,7 +316,7 @@ fn colon_delivery(
     runs_behind_colon(line, sheet, side, more, rest);
 }
 
-/// Writes a delivery that isn't begun by `ball`, or another line.
+/// Writes a delivery that doesn't begin with `ball`, or another line.
 #[tactic(auto, unfolding(crate::specs::Full::unnamed))]
 pub fn unnamed(line: &mut Line, sheet: &MatchSheet, at: Point, token: &str, rest: &mut Rest<'_>)
     ensures { line.new ≡ plus_all line.old (full.unnamed sheet.now at token.now rest.old) }

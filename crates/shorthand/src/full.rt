@@ -1,4 +1,4 @@
-//! Lines in full, by who bowls and bats where they belong.
+//! Lines in full, by who bowls and who bats where they belong.
 
 ghost use Rattle.std.specs.Prelude.{◌≡◌, [], false, Ok, Err, IfOk, OnErr, MatchResult, unwrap_or};
 ghost use Rattle.notation.specs.Written.{IsEntry, found_number, is_spaced, text_of};
@@ -25,14 +25,14 @@ use notation::{Entry, LineFault, Plain, Side, number_in, read_line};
 use over_numbers::{Named, named_ball, place_of};
 use std::str;
 
-/// Where a line belongs among what stands in a book.
+/// Where a line belongs among the items that stand in a book.
 #[derive(Clone, Copy)]
 pub enum Belongs {
-    /// Behind all of it.
+    /// After all of them.
     Last,
-    /// In the stead of what was entered at the place: `fix`.
+    /// Instead of the entry at this place: `fix`.
     At(u32),
-    /// Behind what belongs to the place: `late`.
+    /// After everything that belongs to this place: `late`.
     After(u32),
 }
 
@@ -47,7 +47,7 @@ impl Belongs {
         }
     }
 
-    /// Whether the item stands behind all that belongs to the place that the line names.
+    /// Whether the item comes after everything that belongs to the place of a `late` line.
     fn is_beyond(self, item: &Placed) -> bool
         ensures { result ≡ is_beyond self item.now }
     {
@@ -58,7 +58,7 @@ impl Belongs {
     }
 }
 
-/// Writes a batter's number, and the rest.
+/// Writes a batter's number, and the other words as typed.
 fn batter_first(line: &mut Line, sheet: &MatchSheet, side: Side, among: &Among, rest: &mut Rest<'_>)
     ensures { line.new ≡ plus_all line.old (full.batter_first sheet.now side among.now rest.old) }
 {
@@ -68,7 +68,7 @@ fn batter_first(line: &mut Line, sheet: &MatchSheet, side: Side, among: &Among, 
     }
 }
 
-/// Writes a bowler's number, and what the delivery brought.
+/// Writes a bowler's number, and the delivery's outcome.
 fn bowler_first(line: &mut Line, sheet: &MatchSheet, side: Side, rest: &mut Rest<'_>)
     ensures { line.new ≡ plus_all line.old (full.bowler_first sheet.now side rest.old) }
 {
@@ -78,7 +78,7 @@ fn bowler_first(line: &mut Line, sheet: &MatchSheet, side: Side, rest: &mut Rest
     }
 }
 
-/// Writes the number of who leaves so, and the rest.
+/// Writes the number of a batter who leaves in this way, and the other words as typed.
 fn leaver(
     line: &mut Line,
     sheet: &MatchSheet,
@@ -97,7 +97,7 @@ fn leaver(
     }
 }
 
-/// Writes how a batter leaves, and his number.
+/// Writes how a batter leaves, his number, and the other words as typed.
 fn left_so(line: &mut Line, sheet: &MatchSheet, side: Side, among: &Among, rest: &mut Rest<'_>)
     ensures { line.new ≡ plus_all line.old (full.left_so sheet.now side among.now rest.old) }
 {
@@ -107,7 +107,7 @@ fn left_so(line: &mut Line, sheet: &MatchSheet, side: Side, among: &Among, rest:
     }
 }
 
-/// Writes a line but `fix` and `late`, where it belongs with who is in there, from a token on.
+/// Writes a line other than `fix` and `late` from this token on, by who bowls, who bats and who is in where it belongs.
 #[tactic(auto, unfolding(crate::specs::Full::item_from))]
 fn item_from(
     line: &mut Line,
@@ -140,7 +140,7 @@ fn item_from(
     }
 }
 
-/// What stands up to where a line belongs.
+/// Returns the items up to where a line belongs.
 fn items_to(items: &[Placed], belongs: Belongs) -> &[Placed]
     ensures { history result.now ≡ history_to belongs [] items.now }
 {
@@ -159,7 +159,7 @@ fn items_to(items: &[Placed], belongs: Belongs) -> &[Placed]
     items
 }
 
-/// The side whose innings began last among some items; home, before any.
+/// Returns the side whose innings began last among these items; home before any innings.
 fn batting_of(items: &[Placed]) -> Side
     ensures { result ≡ unwrap_or (last_side (history items.now)) Home }
 {
@@ -171,7 +171,7 @@ fn batting_of(items: &[Placed]) -> Side
     Side::Home
 }
 
-/// Who bowls and who bats where a line belongs.
+/// Returns who bowls and who bats where a line belongs.
 fn point_at<B: BookOf>(book: &B, belongs: Belongs) -> Point
     ensures { result ≡ point_at (B.content book.now) belongs }
 {
@@ -182,7 +182,7 @@ fn point_at<B: BookOf>(book: &B, belongs: Belongs) -> Point
     }
 }
 
-/// Who is looked for where a batter leaves: behind all that stands, who is in.
+/// Returns whom the name of a leaving batter may mean: those who are in for a line at the end of the book, else anyone.
 fn batters_at<B: BookOf>(book: &B, belongs: Belongs) -> Among
     ensures { result ≡ batters_at (B.content book.now) belongs }
 {
@@ -192,7 +192,7 @@ fn batters_at<B: BookOf>(book: &B, belongs: Belongs) -> Among
     }
 }
 
-/// Writes a line but `fix` and `late`, by what the book has where it belongs, from a token on.
+/// Writes a line other than `fix` and `late` from this token on, by the state of the book where it belongs.
 fn item_at<B: BookOf>(
     line: &mut Line,
     sheet: &MatchSheet,
@@ -209,7 +209,7 @@ fn item_at<B: BookOf>(
     item_from(line, sheet, at, &among, token, rest);
 }
 
-/// Writes a line but `fix` and `late`, by what the book has where it belongs.
+/// Writes a line other than `fix` and `late`, by the state of the book where it belongs.
 fn item<B: BookOf>(
     line: &mut Line,
     sheet: &MatchSheet,
@@ -224,7 +224,7 @@ fn item<B: BookOf>(
     }
 }
 
-/// Where a `late` line and a `fix` line of a place belong.
+/// Returns where a `late` or a `fix` line of a place belongs.
 fn belonging(is_late: bool, place: u32) -> Belongs
     ensures { result ≡ full.belonging is_late place }
 {
@@ -235,7 +235,7 @@ fn belonging(is_late: bool, place: u32) -> Belongs
     }
 }
 
-/// Writes a place, and what belongs there; where no place stands, all as it stands.
+/// Writes a place and the line that belongs there, or the words as typed if the token is no place.
 fn at_place<B: BookOf>(
     line: &mut Line,
     sheet: &MatchSheet,
@@ -260,7 +260,7 @@ fn at_place<B: BookOf>(
     }
 }
 
-/// Writes the place of a delivery that is named by its over and its number there, and what belongs there.
+/// Writes the place of a delivery that is named by its over and its number there, and the line that belongs there.
 fn at_ball<B: BookOf>(
     line: &mut Line,
     sheet: &MatchSheet,
@@ -282,7 +282,7 @@ fn at_ball<B: BookOf>(
     }
 }
 
-/// Writes a place, and what belongs there.
+/// Writes a place, given as a number or as a delivery's name, and the line that belongs there.
 fn placed<B: BookOf>(
     line: &mut Line,
     sheet: &MatchSheet,
@@ -302,7 +302,7 @@ fn placed<B: BookOf>(
     }
 }
 
-/// Writes that the entry of this place is void.
+/// Writes the line that makes the entry at this place void, or that nothing stands to undo.
 fn undoing(line: &mut Line, place: Option<u32>, rest: &mut Rest<'_>)
     ensures { line.new ≡ plus_all line.old (full.undoing place rest.old) }
 {
@@ -317,7 +317,7 @@ fn undoing(line: &mut Line, place: Option<u32>, rest: &mut Rest<'_>)
     }
 }
 
-/// Writes the words of a line in full.
+/// Writes a whole line in full.
 fn words_in_full<B: BookOf>(line: &mut Line, sheet: &MatchSheet, book: &B, rest: &mut Rest<'_>)
     ensures { line.new
         ≡ plus_all line.old (full.words_in_full sheet.now (B.content book.now) rest.old) }
@@ -335,14 +335,14 @@ fn words_in_full<B: BookOf>(line: &mut Line, sheet: &MatchSheet, book: &B, rest:
     }
 }
 
-/// Whether the fault is one of the line as a whole, and not of one of its words.
+/// Whether the fault is one of the line as a whole, not of one of its words.
 fn is_of_line(fault: LineFault) -> bool
     ensures { result ≡ full.is_of_line fault }
 {
     matches!(fault, LineFault::TooLong | LineFault::Spaces)
 }
 
-/// The line as text, which it is where it is tokens with one space between them.
+/// Returns the line as text. It fails only if the line isn't tokens with single spaces between them.
 fn text_of(line: &[u8]) -> Result<&str, Unclear>
     ensures text { IfOk result (λ text. text.now ≡ line.now) }
     ensures none { OnErr result (is_spaced line.now ≡ false) }
@@ -353,7 +353,7 @@ fn text_of(line: &[u8]) -> Result<&str, Unclear>
     }
 }
 
-/// The entry of a line that is put in full word by word, or why it means none.
+/// Returns the entry of a line that is put in full word by word, or why it means none.
 fn word_by_word<B: BookOf>(text: &str, book: &B, sheet: &MatchSheet) -> Result<Entry, Unclear>
     ensures value { MatchResult result
         (λ entry. full.read_full (full.by_word sheet.now (B.content book.now) text.now) ≡ Ok entry)
@@ -366,17 +366,17 @@ fn word_by_word<B: BookOf>(text: &str, book: &B, sheet: &MatchSheet) -> Result<E
     line.entry()
 }
 
-/// A line without the blanks at its end.
+/// Returns a line without the blanks at its end.
 fn trimmed(line: &[u8]) -> &[u8]
     ensures { result.now ≡ words.trimmed line.now }
 {
     line.trim_ascii_end()
 }
 
-/// The entry that a scorer's line means, put in full by the names of the sheet and by who bowls and bats where it belongs
-/// in the book; or what isn't clear in it, or its fault. The blanks at its end are no part of it. A line that is an
-/// entry's is in full as it stands. One that is no short form stays as it was typed: where a word of it is none that may
-/// stand there, that word is told.
+/// Returns the entry that a scorer's line means, put in full by the sheet's names and by who
+/// bowls and bats where the line belongs in the book; or what isn't clear in it, or its fault.
+/// Blanks at its end don't count. A line that already is an entry's is in full as it is. A line
+/// that is no short form stays as typed: if one of its words is unknown, that word is reported.
 #[tactic(auto, unfolding(crate::specs::Full::in_full))]
 pub fn entry_in_full<B: BookOf>(line: &[u8], book: &B, sheet: &MatchSheet) -> Result<Entry, Unclear>
     ensures value { MatchResult result

@@ -1,4 +1,4 @@
-//! Short lines: what a scorer types, in full.
+//! Short lines as a scorer types them, and their full forms.
 #![tactic(auto)]
 
 mod delivery;

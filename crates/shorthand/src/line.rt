@@ -13,7 +13,7 @@ use itoa::Buffer;
 use notation::{Entry, LineFault, LineText, read_line};
 use std::marker::Model;
 
-/// A line of at most 96 bytes, or why there is none.
+/// A line of at most 96 bytes, or the reason why there is none.
 #[derive(Drop)]
 pub struct Line {
     text: LineText,
@@ -30,7 +30,7 @@ impl Model for Line {
     ghost view = { λ l. text_or_reason (l.text).bytes l.unclear };
 }
 
-/// The digits of a player's or a substitute's number.
+/// Returns the digits of a player's number or of a substitute's, 0 to 12.
 #[tactic(auto, using(crate::proofs::Numerals::to_twelve))]
 fn digits(number: u8) -> &'static str
     requires { number ≤ 12 }
@@ -54,7 +54,7 @@ fn digits(number: u8) -> &'static str
 }
 
 impl Line {
-    /// A line without a word.
+    /// Returns a line without words.
     pub fn new() -> Line
         ensures { result ≡ Ok [] }
     {
@@ -64,7 +64,7 @@ impl Line {
         }
     }
 
-    /// A line of one word.
+    /// Returns a line of one word.
     pub fn of(word: &str) -> Line
         ensures { result ≡ plus (Ok []) (Ok word.now) }
     {
@@ -73,7 +73,7 @@ impl Line {
         line
     }
 
-    /// The line with a word more.
+    /// Returns a copy of the line with one word more.
     pub fn with(&self, word: &str) -> Line
         ensures { result ≡ plus self.now (Ok word.now) }
     {
@@ -85,7 +85,7 @@ impl Line {
         line
     }
 
-    /// The text, unless there is a reason why not.
+    /// Returns the text, unless there is a reason against it.
     pub fn text(&self) -> Option<&str>
         ensures { MatchOption result (IsErr self.now) (λ text. self.now ≡ Ok text.now) }
     {
@@ -95,7 +95,7 @@ impl Line {
         }
     }
 
-    /// Adds a word.
+    /// Adds a word after a space, if the line stays within 96 bytes; else notes that it is too long.
     pub fn word(&mut self, word: &str)
         ensures { self.new ≡ plus self.old (Ok word.now) }
     {
@@ -113,7 +113,7 @@ impl Line {
         self.text.push_str(word);
     }
 
-    /// Notes why there is no line, unless that was known.
+    /// Notes why there is no line, unless a reason is noted already.
     pub fn fail(&mut self, unclear: Unclear)
         ensures { self.new ≡ plus self.old (Err (reason_of unclear)) }
     {
@@ -138,7 +138,7 @@ impl Line {
         self.word(buffer.format(place));
     }
 
-    /// Adds the words that are left as they stand.
+    /// Adds the words that are left as they were typed.
     pub fn rest(&mut self, words: &mut Rest<'_>)
         ensures { self.new ≡ plus_all self.old (as_typed words.old) }
     {
@@ -148,7 +148,7 @@ impl Line {
         }
     }
 
-    /// The text, or why there is none.
+    /// Returns the text, or why there is none.
     fn done(self) -> Result<LineText, Unclear>
         ensures { MatchResult result (λ text. self ≡ Ok text.bytes)
             (λ unclear. self ≡ Err (reason_of unclear)) }
@@ -159,7 +159,7 @@ impl Line {
         }
     }
 
-    /// The entry of the line, or why it means none.
+    /// Returns the entry of the line, or why it means none.
     pub fn entry(self) -> Result<Entry, Unclear>
         ensures value { MatchResult result (λ entry. full.read_full (full.with_words self) ≡ Ok entry)
             (λ unclear. full.read_full (full.with_words self) ≡ Err (reason_of unclear)) }

@@ -20,11 +20,11 @@ use notation::{LineFault, Player, Side, Tokens};
 /// How a text fits a name.
 #[derive(Clone, Copy)]
 pub enum Fit {
-    /// It is the name.
+    /// The text is the name.
     Whole,
-    /// It is the name's last word.
+    /// The text is the name's last word.
     LastWord,
-    /// One of the name's words begins with it.
+    /// One of the name's words begins with the text.
     Beginning,
 }
 
@@ -36,22 +36,22 @@ pub enum Found {
     Several,
 }
 
-/// Who of a side is looked at.
+/// Which players of a side a name may mean.
 #[derive(Clone, Copy)]
 pub enum Among {
     Anyone,
-    /// Who is at one of these ends.
+    /// The batters at these ends.
     AnEnd(Ends),
 }
 
-/// Whether the word is the token, whatever the case of letters.
+/// Whether the word is the token, in either case of letters.
 fn is_same(word: &[u8], token: &[u8]) -> bool
     ensures { result ≡ names.is_same word.now token.now }
 {
     word.eq_ignore_ascii_case(token)
 }
 
-/// Whether the word begins with the token.
+/// Whether the word begins with the token, in either case of letters.
 fn begins_with(word: &[u8], token: &[u8]) -> bool
     ensures { result ≡ names.begins_with word.now token.now }
 {
@@ -81,7 +81,7 @@ fn any_begins(words: &mut Tokens<'_>, token: &str) -> bool
     }
 }
 
-/// Whether the text so fits a name.
+/// Whether the text fits a name in this way.
 fn fits(fit: Fit, name: &str, token: &str) -> bool
     ensures { result ≡ names.fits fit name.now token.now }
 {
@@ -106,7 +106,7 @@ fn is_at(end: Option<Player>, player: Player) -> bool
     }
 }
 
-/// Whether the player is looked at.
+/// Whether the player is among those whom a name may mean.
 fn is_among(among: &Among, player: Player) -> bool
     ensures { result ≡ names.is_among among.now player }
 {
@@ -116,7 +116,7 @@ fn is_among(among: &Among, player: Player) -> bool
     }
 }
 
-/// Whether the player is looked at, and the text so fits his name.
+/// Whether a name may mean the player, and the text fits his name in this way.
 fn suits(
     sheet: &MatchSheet,
     side: Side,
@@ -130,14 +130,14 @@ fn suits(
     is_among(among, player) && fits(fit, sheet.player(side, player), token)
 }
 
-/// Whether a word of the player's name begins so, in letters of any case.
+/// Whether a word of the player's name begins with this text, in either case of letters.
 pub fn has_beginning(sheet: &MatchSheet, side: Side, player: Player, beginning: &str) -> bool
     ensures { result ≡ has_beginning (team_of sheet.now side) beginning.now player }
 {
     fits(Fit::Beginning, sheet.player(side, player), beginning)
 }
 
-/// The players found, with one more.
+/// Returns what is found with one more player.
 fn and_one(found: Found, player: Player) -> Found
     ensures { result ≡ and_one found player }
 {
@@ -147,7 +147,7 @@ fn and_one(found: Found, player: Player) -> Found
     }
 }
 
-/// The players of a side among these whom the text so fits.
+/// Returns the players of a side, among these, whose names the text fits in this way.
 fn fitting(sheet: &MatchSheet, side: Side, among: &Among, token: &str, fit: Fit) -> Found
     ensures { result ≡ names.found_in (names.fitting among.now fit (team_of sheet.now side) token.now) }
 {
@@ -162,7 +162,7 @@ fn fitting(sheet: &MatchSheet, side: Side, among: &Among, token: &str, fit: Fit)
     found
 }
 
-/// The player of a side among these whom a token means, by his last word or by the beginning of a word.
+/// Returns the player of a side, among these, whom a token means by his last word or by the beginning of a word.
 fn meant(sheet: &MatchSheet, side: Side, among: &Among, token: &str) -> Found
     ensures { result ≡ names.meant among.now (team_of sheet.now side) token.now }
 {
@@ -172,7 +172,7 @@ fn meant(sheet: &MatchSheet, side: Side, among: &Among, token: &str) -> Found
     }
 }
 
-/// Among several the one of the others, if it is one.
+/// Returns what is found; or if that is several players, the one of the others if it is just one.
 fn among_several(found: Found, others: Found) -> Found
     ensures { result ≡ names.among_several found others }
 {
@@ -185,7 +185,7 @@ fn among_several(found: Found, others: Found) -> Found
     }
 }
 
-/// The player whose whole name a text is, with what stands behind it.
+/// Returns the one player with exactly this name, and the words after it.
 fn exactly<'a>(
     sheet: &MatchSheet,
     side: Side,
@@ -201,7 +201,7 @@ fn exactly<'a>(
     }
 }
 
-/// The player whose whole name the most of these words are, as they go on from the first ones, with what stands behind.
+/// Returns the player named by the longest run of words from `front` on that is a whole name, and the words after it.
 fn whole_name<'a>(
     sheet: &MatchSheet,
     side: Side,
@@ -220,7 +220,7 @@ fn whole_name<'a>(
     exactly(sheet, side, front, rest)
 }
 
-/// Who the token names as the bowler, before its first colon, and what stands behind that.
+/// Returns what names the bowler before the token's first colon, if anything does, and what follows that colon.
 pub fn named_bowler(token: &str) -> Option<(&str, &str)>
     ensures { MatchOption result (names.names_bowler token.now ≡ false)
         (λ parts. (names.names_bowler token.now ≡ true)
@@ -234,8 +234,8 @@ pub fn named_bowler(token: &str) -> Option<(&str, &str)>
     Some((name, more))
 }
 
-/// The player whose whole name stands before the first colon, as the words go on from the first ones; what stands behind the
-/// colon in its token; and what stands behind that.
+/// Returns the player whose whole name is `front` with the words up to the
+/// first colon; what follows the colon in its token; and the words after that.
 pub fn colon_name<'a>(
     sheet: &MatchSheet,
     side: Side,
@@ -256,7 +256,7 @@ pub fn colon_name<'a>(
     }
 }
 
-/// Whom the words mean that begin with the token; what names him is taken.
+/// Returns whom the token and the words after it mean, and takes the words that name him.
 pub fn named<'a>(
     sheet: &MatchSheet,
     side: Side,
@@ -275,7 +275,7 @@ pub fn named<'a>(
     among_several(found, meant(sheet, side, among, token))
 }
 
-/// Whether a number stands where the token begins so.
+/// Whether the token begins with a digit, and so is a number.
 pub fn is_digit_first(token: &str) -> bool
     ensures { result ≡ names.is_digit_first token.now }
 {
@@ -285,7 +285,7 @@ pub fn is_digit_first(token: &str) -> bool
     }
 }
 
-/// That no player has such a name.
+/// Returns that no player has this name.
 fn no_such_player(token: &str) -> Unclear
     ensures { reason_of result ≡ names.no_such_player token.now }
 {
@@ -295,7 +295,7 @@ fn no_such_player(token: &str) -> Unclear
     }
 }
 
-/// That several players of the side have such a name.
+/// Returns that several players of the side have this name.
 fn which_player(side: Side, token: &str) -> Unclear
     ensures { reason_of result ≡ names.which_player side token.now }
 {
@@ -305,7 +305,7 @@ fn which_player(side: Side, token: &str) -> Unclear
     }
 }
 
-/// That a fielder of this name has no part in this way of being out.
+/// Returns that no fielder of this name can have a part in this way of being out.
 pub fn no_fielder(how: Unaided, token: &str) -> Unclear
     ensures { reason_of result ≡ names.no_fielder how token.now }
 {
@@ -315,7 +315,7 @@ pub fn no_fielder(how: Unaided, token: &str) -> Unclear
     }
 }
 
-/// That this word stands where another must.
+/// Returns that this word is unknown where it stands.
 pub fn unknown_word(token: &str) -> Unclear
     ensures { reason_of result ≡ names.unknown_word token.now }
 {
@@ -325,7 +325,7 @@ pub fn unknown_word(token: &str) -> Unclear
     }
 }
 
-/// That there is no delivery of this name.
+/// Returns that there is no delivery of this name.
 pub fn no_such_ball(token: &str) -> Unclear
     ensures { reason_of result ≡ names.no_such_ball token.now }
 {
@@ -335,7 +335,7 @@ pub fn no_such_ball(token: &str) -> Unclear
     }
 }
 
-/// Writes the number of the player whom a token means, or why there is none.
+/// Writes the number of the player whom a token means, or why it means none.
 pub fn number_word(line: &mut Line, side: Side, token: &str, found: Found)
     ensures { line.new ≡ plus line.old (names.number_word side token.now found) }
 {
@@ -346,7 +346,7 @@ pub fn number_word(line: &mut Line, side: Side, token: &str, found: Found)
     }
 }
 
-/// Writes a player's number, given by number or by name, and takes the words that name him.
+/// Writes a player's number, given as a number or a name, and takes the words that name him.
 pub fn player(
     line: &mut Line,
     sheet: &MatchSheet,
@@ -366,7 +366,7 @@ pub fn player(
     number_word(line, side, token, found);
 }
 
-/// Writes a fielder's number, given by number, by name or as `sub`, and takes the words that name him.
+/// Writes a fielder's number, given as a number, a name or `sub`, and takes the words that name him.
 pub fn fielder(line: &mut Line, sheet: &MatchSheet, side: Side, token: &str, rest: &mut Rest<'_>)
     ensures word { line.new ≡ plus line.old (names.fielder sheet.now side token.now rest.old).0 }
     ensures rest { rest.new ≡ (names.fielder sheet.now side token.now rest.old).1 }

@@ -12,7 +12,7 @@ use crate::unclear::Unaided;
 use cards::MatchSheet;
 use notation::Side;
 
-/// The way of being out that a word stands for, or the word.
+/// Returns the way of being out that a short word stands for, or the word itself.
 fn way_of(token: &str) -> &str
     ensures { result.now ≡ words.way_of token.now }
 {
@@ -24,7 +24,7 @@ fn way_of(token: &str) -> &str
     }
 }
 
-/// Whether the token is a way of being out.
+/// Whether the token is a way of being out, by its own word or a short one.
 fn is_how(token: &str) -> bool
     ensures { result ≡ words.is_how token.now }
 {
@@ -48,7 +48,7 @@ fn is_run_out(token: &str, rest: &Rest<'_>) -> bool
     token == "run" && rest.has_next("out")
 }
 
-/// Whether the tokens begin options, or say that a batter is out.
+/// Whether the tokens begin the options or the dismissal.
 pub fn is_behind_runs(token: &str, rest: &Rest<'_>) -> bool
     ensures { result ≡ full.is_behind_runs token.now rest.now }
 {
@@ -57,7 +57,7 @@ pub fn is_behind_runs(token: &str, rest: &Rest<'_>) -> bool
         || is_run_out(token, rest)
 }
 
-/// The way of being out, where no fielder has a part in it.
+/// Returns the way of being out, if no fielder has a part in it.
 fn without_fielder(how: &str) -> Option<Unaided>
     ensures { result ≡ words.without_fielder how.now }
 {
@@ -68,7 +68,7 @@ fn without_fielder(how: &str) -> Option<Unaided>
     }
 }
 
-/// The way of being out, where the token names a fielder and none has a part in it.
+/// Returns the way of being out, if no fielder has a part in it and the token names one.
 fn refused_fielder(how: &str, token: &str) -> Option<Unaided>
     ensures { result ≡ full.refused_fielder (words.without_fielder how.now) token.now }
 {
@@ -76,14 +76,14 @@ fn refused_fielder(how: &str, token: &str) -> Option<Unaided>
     if token == "0" { None } else { Some(how) }
 }
 
-/// Whether the line must say who is out so.
+/// Whether a line with this way of being out must say who is out.
 fn needs_who(how: &str) -> bool
     ensures { result ≡ full.needs_who how.now }
 {
     matches!(how, "runout" | "obstructing")
 }
 
-/// Writes a fielder, and the rest; or that there is none in this way of being out.
+/// Writes a fielder and the other words, or that no fielder has a part in this way of being out.
 fn fielder_word(
     line: &mut Line,
     sheet: &MatchSheet,
@@ -103,7 +103,7 @@ fn fielder_word(
     }
 }
 
-/// Writes the fielder from a token on.
+/// Writes the fielder from this token on, 0 if none is named.
 fn fielder_from(
     line: &mut Line,
     sheet: &MatchSheet,
@@ -123,7 +123,7 @@ fn fielder_from(
     }
 }
 
-/// Writes the fielder.
+/// Writes the fielder, 0 if none is named.
 fn by_fielder(line: &mut Line, sheet: &MatchSheet, side: Side, how: &str, rest: &mut Rest<'_>)
     ensures { line.new ≡ plus_all line.old (full.by_fielder sheet.now side how.now rest.old) }
 {
@@ -133,7 +133,7 @@ fn by_fielder(line: &mut Line, sheet: &MatchSheet, side: Side, how: &str, rest: 
     }
 }
 
-/// Writes who is out, from a token on, and the fielder.
+/// Writes who is out, from this token on, and the fielder.
 fn who_from(
     line: &mut Line,
     sheet: &MatchSheet,
@@ -157,7 +157,7 @@ fn who_from(
     }
 }
 
-/// Writes who is out in this way, and by which fielder.
+/// Writes who is out in this way, and the fielder.
 fn who_is_out(line: &mut Line, sheet: &MatchSheet, side: Side, how: &str, rest: &mut Rest<'_>)
     ensures { line.new ≡ plus_all line.old (full.who_is_out sheet.now side how.now rest.old) }
 {
@@ -172,7 +172,7 @@ fn who_is_out(line: &mut Line, sheet: &MatchSheet, side: Side, how: &str, rest: 
     }
 }
 
-/// Writes how a batter is out, who and by which fielder.
+/// Writes how a batter is out, from this token on, who is out, and the fielder.
 fn dismissal_from(line: &mut Line, sheet: &MatchSheet, side: Side, token: &str, rest: &mut Rest<'_>)
     ensures { line.new ≡ plus_all line.old (full.dismissal sheet.now side (token.now ∷ rest.old)) }
 {
@@ -190,7 +190,7 @@ fn dismissal(line: &mut Line, sheet: &MatchSheet, side: Side, rest: &mut Rest<'_
     }
 }
 
-/// Writes a run out, who is out and by which fielder.
+/// Writes a run out: who is out, and the fielder.
 fn run_out(line: &mut Line, sheet: &MatchSheet, side: Side, rest: &mut Rest<'_>)
     ensures { line.new ≡ plus_all line.old (full.run_out sheet.now side rest.old) }
 {
@@ -199,7 +199,7 @@ fn run_out(line: &mut Line, sheet: &MatchSheet, side: Side, rest: &mut Rest<'_>)
     who_is_out(line, sheet, side, "runout", rest);
 }
 
-/// Writes what stands behind the runs, from a token on.
+/// Writes what follows the runs, from this token on.
 pub fn behind_runs_from(
     line: &mut Line,
     sheet: &MatchSheet,
@@ -226,7 +226,7 @@ pub fn behind_runs_from(
     }
 }
 
-/// Writes what stands behind the runs.
+/// Writes what follows the runs: the options and the dismissal.
 pub fn behind_runs(line: &mut Line, sheet: &MatchSheet, side: Side, rest: &mut Rest<'_>)
     ensures { line.new ≡ plus_all line.old (full.behind_runs sheet.now side rest.old) }
 {

@@ -1,4 +1,4 @@
-//! What is left of a line, which can be looked at before it is taken.
+//! The words left of a line, which can be looked at before they are taken.
 
 ghost use Rattle.std.specs.Prelude.{◌≡◌, ◌∷◌, [], MatchOption};
 ghost use Rattle.notation.specs.Written.{tokens};
@@ -23,21 +23,21 @@ impl<'a> Model for Rest<'a> {
 }
 
 impl<'a> Rest<'a> {
-    /// All tokens of a line.
+    /// Returns all tokens of a line.
     pub fn of(line: &'a str) -> Rest<'a>
         ensures { result ≡ tokens line.entry.now }
     {
         Rest { text: Some(line) }
     }
 
-    /// No token.
+    /// Returns no tokens.
     pub fn nothing() -> Rest<'a>
         ensures { result ≡ [] }
     {
         Rest { text: None }
     }
 
-    /// The same tokens once more, to be looked at.
+    /// Returns the same tokens, to be looked at without taking them.
     pub fn ahead(&self) -> Rest<'a>
         ensures { result ≡ self.now }
     {
@@ -54,14 +54,14 @@ impl<'a> Rest<'a> {
         Some(token)
     }
 
-    /// Passes the next token over.
+    /// Skips the next token.
     pub fn pass_one(&mut self)
         ensures { self.new ≡ words.behind_one self.old }
     {
         let _ = self.next();
     }
 
-    /// Whether this word stands next.
+    /// Whether this word comes next.
     pub fn has_next(&self, word: &str) -> bool
         ensures { result ≡ words.has_next word.now self.now }
     {

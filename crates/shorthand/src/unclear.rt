@@ -1,9 +1,9 @@
-//! What isn't clear in a line.
+//! What can be unclear in a line.
 
 use arrayvec::ArrayString;
 use notation::{LineFault, LineText, Side};
 
-/// A letter that means two things to scorers.
+/// A letter that scorers use for two things.
 #[derive(Clone, Copy)]
 pub enum Letter {
     /// Byes, or bowled.
@@ -22,22 +22,22 @@ pub enum Unaided {
 /// Why a line has no full form.
 #[derive(Clone, Copy)]
 pub enum Unclear {
-    /// It is too long, as typed or in full, or its words don't stand with one space between them.
+    /// The line, as typed or in full, has this fault.
     Fault(LineFault),
-    /// No bowler is named, and the open over has no delivery that tells one.
+    /// No bowler is named, and the open over has no delivery that tells who bowls.
     WhoBowls,
-    /// No player of the side has a name with a word that begins so.
+    /// No player of the side has a name with a word that begins with this text.
     NoSuchPlayer(LineText),
-    /// Several players of the side have.
+    /// Several players of this side have a name with a word that begins with this text.
     WhichPlayer(Side, LineText),
-    /// Nothing stands that `undo` could make void.
+    /// No entry stands that `undo` could make void.
     NothingStands,
-    /// A letter stands for what a delivery brought that means two things to scorers.
+    /// A letter that scorers use for two things stands for a delivery's outcome.
     TwoMeanings(Letter),
-    /// This one is named as the fielder, where a batter is out in this way, in which none has a part.
+    /// This fielder is named for a way of being out in which no fielder has a part.
     NoFielder(Unaided, LineText),
-    /// A word stands where another must: in full, the line would be refused for this one.
+    /// A word is unknown where it stands: the full line would be refused for this word.
     UnknownWord(LineText),
-    /// The innings begun last has no delivery that is named so, as `9.2`.
+    /// The innings begun last has no delivery with this name, as `9.2`.
     NoSuchBall(LineText),
 }

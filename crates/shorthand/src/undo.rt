@@ -6,7 +6,7 @@ ghost use Rattle.shorthand.specs.Undo as undo;
 use corrections::{BookOf, Placed};
 use match_laws::is_void;
 
-/// The later of a place, if there is one, and another.
+/// Returns the later of two places, of which the first may be missing.
 fn later(last: Option<u32>, place: u32) -> Option<u32>
     ensures { result ≡ undo.later last place }
 {
@@ -16,7 +16,7 @@ fn later(last: Option<u32>, place: u32) -> Option<u32>
     }
 }
 
-/// The last place, with an item more.
+/// Returns the last place after one more item; a void item doesn't count.
 fn with_item(last: Option<u32>, item: &Placed) -> Option<u32>
     ensures { result ≡ undo.with_item last item.now }
 {
@@ -27,7 +27,7 @@ fn with_item(last: Option<u32>, item: &Placed) -> Option<u32>
     }
 }
 
-/// The last of these places at which something stands.
+/// Returns the last place among these items, without the void ones.
 fn last_among(items: &[Placed]) -> Option<u32>
     ensures { result ≡ undo.last_with None items.now }
 {
@@ -38,7 +38,7 @@ fn last_among(items: &[Placed]) -> Option<u32>
     last
 }
 
-/// The place of the last entry that stands in a book, if one does.
+/// Returns the place of the last entry that stands in a book, if one does.
 pub fn last_standing<B: BookOf>(book: &B) -> Option<u32>
     ensures { result ≡ undo.last_standing (B.content book.now) }
 {

@@ -1,4 +1,4 @@
-//! The word of a line that is none.
+//! The word for which a line is refused as unknown.
 
 ghost use Rattle.std.specs.Prelude.{◌≡◌, Err, None, Some, MatchOption};
 ghost use Rattle.notation.specs.Reading.{line_answer};
@@ -12,7 +12,7 @@ use crate::rest::Rest;
 use crate::unclear::Unclear;
 use notation::{LineFault, read_line};
 
-/// Whether the line, cut here, is refused for a word that stands where another must.
+/// Whether the line, if it ended here, would be refused for an unknown word.
 fn is_cut_there(front: &Line) -> bool
     ensures { result ≡ full.is_cut_there front.now }
 {
@@ -22,7 +22,7 @@ fn is_cut_there(front: &Line) -> bool
     }
 }
 
-/// The first word with which the line, cut behind it, is refused so, as it goes on from the first ones.
+/// Returns the first word at which the line, if it ended there, would be refused for an unknown word.
 fn word_from<'a>(front: &Line, rest: &Rest<'a>) -> Option<&'a str>
     ensures { MatchOption result (full.word_from front.now rest.now ≡ None)
         (λ word. full.word_from front.now rest.now ≡ Some word.now) }
@@ -37,7 +37,7 @@ fn word_from<'a>(front: &Line, rest: &Rest<'a>) -> Option<&'a str>
     }
 }
 
-/// Whether the token asks for something at a desk.
+/// Whether the token is one of a desk's words that write no entry.
 fn is_desk_word(token: &str) -> bool
     ensures { result ≡ words.is_desk_word token.now }
 {
@@ -47,7 +47,7 @@ fn is_desk_word(token: &str) -> bool
     )
 }
 
-/// Whether the token begins a line, or asks for something.
+/// Whether the token begins a line, or is one of a desk's words.
 pub fn is_line_word(token: &str) -> bool
     ensures { result ≡ words.is_line_word token.now }
 {
@@ -69,7 +69,7 @@ pub fn is_line_word(token: &str) -> bool
     ) || is_desk_word(token)
 }
 
-/// What stands behind a word that asks for something.
+/// Returns the second word, if the first is one of a desk's words.
 fn asked_for<'a>(rest: &Rest<'a>) -> Option<&'a str>
     ensures { MatchOption result (full.asked_for rest.now ≡ None) (λ word. full.asked_for rest.now ≡ Some word.now) }
 {
@@ -83,7 +83,7 @@ fn asked_for<'a>(rest: &Rest<'a>) -> Option<&'a str>
     }
 }
 
-/// The word for which a text with this fault is refused, if it is for one.
+/// Returns the unknown word for which a text with this fault is refused, if there is one.
 fn lacking(text: &str, fault: LineFault) -> Option<&str>
     requires { line_answer text.now ≡ Err fault }
     ensures { MatchOption result (full.lacking text.now ≡ None) (λ word. full.lacking text.now ≡ Some word.now) }
@@ -98,7 +98,7 @@ fn lacking(text: &str, fault: LineFault) -> Option<&str>
     }
 }
 
-/// Why a text with this fault is no entry's: where it is refused for a word that stands where another must, that word.
+/// Returns why a text with this fault is no entry's: the unknown word if it is refused for one, else the fault.
 pub fn why_refused(text: &str, fault: LineFault) -> Unclear
     requires { line_answer text.now ≡ Err fault }
     ensures { full.read_full (full.or_word text.now (full.lacking text.now)) ≡ Err (reason_of result) }

@@ -3,7 +3,7 @@
 ghost use Rattle.cards.specs.Sheet.{Sheet};
 ghost use Rattle.shorthand.specs.Worked.{WorkedMarks, WorkedNames, WorkedOuts, WorkedPlaces, WorkedSeveral, WorkedWords};
 
-/// What the rows of the table stand for.
+/// What each row of the table stands for.
 pub fn table_is_worked()
     ensures marks { (s : Sheet) → WorkedMarks s }
     ensures outs { (s : Sheet) → WorkedOuts s }

@@ -1,4 +1,4 @@
--- Why it isn't known what is wanted.
+-- Why the wanted corrections couldn't be read.
 use Rattle.std.specs.Prelude.{◌≡◌, Result, Err}
 use Rattle.shorthand.specs.Lines.{Reason, reason_of}
 use Rattle.plans.specs.declared.planning.Unread.{Unread}

@@ -1,4 +1,4 @@
--- The marks of what stands in a book.
+-- The marks, runs and count of the items of a book.
 use Rattle.std.specs.Prelude.{ℕ, List, [], Bool, true, false}
 use Rattle.notation.specs.declared.entry.Plain.{Plain}
 use Rattle.ball_laws.specs.Over.{counting}
@@ -7,7 +7,7 @@ use Rattle.match_laws.specs.Figures.{runs_of}
 use Rattle.corrections.specs.Overs.{bowled}
 use Rattle.score_rows.specs.Row.{marks}
 
--- nothing, but for a delivery
+-- the mark of a delivery; nothing for any other item
 abbrev pub item_mark : Plain → List ℕ
 item_mark item = marks (bowled item [])
 
@@ -15,10 +15,10 @@ abbrev pub is_ball : Plain → Bool
 is_ball (Plain.Ball b) = true
 is_ball _ = false
 
--- its runs
+-- the runs of a delivery; 0 for any other item
 abbrev pub item_runs : Plain → ℕ
 item_runs item = tally runs_of (bowled item [])
 
--- one, where it is a delivery that counts
+-- 1 for a delivery that counts; 0 for any other item
 abbrev pub item_counts : Plain → ℕ
 item_counts item = counting (bowled item [])

@@ -1,4 +1,4 @@
--- What a mark stands for, as a full line has it.
+-- What a mark stands for, in the words of a full line.
 use Rattle.std.specs.Prelude.{ℕ, List, ◌∷◌, ◌++◌, codes, decimal}
 use Rattle.notation.specs.Written.{Token}
 use Rattle.shorthand.specs.declared.marks.Runs.{Runs}
@@ -14,6 +14,6 @@ runs_text Four = codes "0 four"
 runs_text Five = codes "5"
 runs_text Six = codes "0 six"
 
--- the line of this bowler's delivery, of this kind and with these runs
+-- the line of a delivery of this bowler, kind and runs
 abbrev pub ball_line : ℕ → Token → Token → List ℕ
 ball_line n kind runs = codes "ball" ++ 32 ∷ (decimal n ++ 32 ∷ (kind ++ 32 ∷ runs))

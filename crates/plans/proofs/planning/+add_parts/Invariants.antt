@@ -1,5 +1,5 @@
 use Rattle.plans.proofs.planning.+add_parts.Given as goal
 
--- proposed from what the function passes where it calls itself
+-- taken from the argument that the function passes when it calls itself
 abbrev pub decreases-add_parts : goal.decreases-add_parts
 decreases-add_parts g l = l.more
