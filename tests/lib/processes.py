@@ -1,5 +1,5 @@
 """What a system tells of a process: whether it waits, for what, and what it took."""
-import os, re, time
+import os, re, signal, time
 from .places import bytes_of, content
 from .waiting import SOON, Wrong, wait_for
 
@@ -19,6 +19,12 @@ def has_ended(pid: int) -> bool:
         return state(pid) in ("", "Z", "X")
     except ProcessLookupError:
         return True
+
+
+def halt(pid: int) -> None:
+    """Stops a process, and returns once it is: the signal alone leaves it time for the call that it is in."""
+    os.kill(pid, signal.SIGSTOP)
+    wait_for("a process that is stopped", lambda: state(pid) in ("T", "") or has_ended(pid))
 
 
 def is_waiting(pid: int) -> bool:
