@@ -41,7 +41,7 @@ pub up_to-more : {X : Type 0} (f : ℕ → List X) (n : ℕ) → up_to f (n + 1)
 unfolding up_to
 up_to-more f n = rw add-one refl
 
--- Joins the tokens of fields and values into those of their object or array: a call that only writes parts then needs no answer.
+-- Joins the tokens of fields and values into those of their object or array; calls that only write parts then need no answer.
 pub ruleset json_parts =
     (append_assoc, append-nil, fields_tokens-append, values_tokens-append, members_tokens-of, items_tokens-of, up_to-none, up_to-more)
 
