@@ -15,9 +15,9 @@ use notation::Entry;
 use std::alloc::{AllocError, Global};
 
 /// Returns the state of a desk as one JSON value, and a newline: the position at which it votes, its own vote if it has cast
-/// one, and its held lines, the oldest first; then what the match wants next, who may come in and who may bowl, the over with the
-/// places of its deliveries, both sides, and what a board with this book shows. Nothing in it depends on the other desk's vote.
-/// Fails only if memory is refused.
+/// one, and its held lines, the oldest first; then what the match wants next, who may come in and who may bowl, the over with
+/// the places of its deliveries, both sides, and what a board with this book shows. Nothing in it depends on the other desk's
+/// vote. Fails only if memory is refused.
 pub fn state_text<B: BookOf>(
     alloc: Global,
     sheet: &MatchSheet,
