@@ -66,7 +66,7 @@ checked secret out post =
 abbrev pub is_same_place : Position → Position → Bool
 is_same_place p q = p.place == q.place && p.round == q.round
 
--- the verdict on the line of a post made with the secret, for a desk at this position with this many lines waiting; in this order
+-- the verdict on the line of a post made with the secret, for a desk at this position where this many lines wait; in this order
 abbrev pub line_of : Stamp → List ℕ → Position → ℕ → Result (List ℕ) Refusal
 line_of s line at waiting =
     if is_line line then

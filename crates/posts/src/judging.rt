@@ -155,8 +155,8 @@ impl Posts {
         self.out.clear();
     }
 
-    /// Hands out the secret, encrypted by the ticket that is out, if the tag is that ticket's and its time isn't over. That uses
-    /// up the ticket.
+    /// Hands out the secret, encrypted by the ticket that is out, if the tag is that ticket's and its time isn't over. That
+    /// uses up the ticket.
     pub fn hand_out(&mut self, tag: &[u8; 32], now: u64) -> Option<[u8; 16]>
         ensures handed { result ≡ tickets.handed self.old.secret self.old.ticket tag.now now }
         ensures ticket { self.new.ticket ≡ tickets.ticket_after self.old.ticket tag.now now }

@@ -39,7 +39,7 @@ pub fn each_number_once()
     ensures { (number : ℕ) (calls : List Call) → AllPairs (λ m n. m < n) (numbers number calls) }
 {}
 
-/// Over any list of calls, even if the secret changes, no nonce is good for two lines, for a line and a pass, or for two passes.
+/// Over any list of calls, even if the secret changes, no nonce is good for two lines, for a line and a pass, or two passes.
 pub fn each_nonce_once()
     ensures { (secret : List ℕ) (calls : List Call) → AllPairs (λ m n. m ≢ n) (accepted secret [] 1 calls) }
 {}

@@ -12,7 +12,7 @@ use seal::hmac;
 /// The length of a tag, in bytes.
 const TAG: usize = 32;
 
-/// The text that a tag or keystream block is made from; at most a nonce of 20 digits, a position of 21, a line of 128, 2 blanks.
+/// What a tag or keystream block is made from; at most a nonce of 20 digits, a position of 21, a line of 128 and two blanks.
 pub type Tagged = ArrayVec<u8, 171>;
 
 /// Whether two tags are equal. Takes the same time wherever they differ.
