@@ -159,7 +159,7 @@ typed secret out post at nonce waiting line is was_out is_one goes_on short few 
     ap (λ r. after_check r (line_of_post secret post) at waiting) known ∙ ap (λ l. line_of s l at waiting) line_is
     ∙ all_pass (is_line line) (is_end line) (is_same_place s.at at) (nat_lt waiting 8) line is_one goes_on same (has_room waiting few)
 
--- ---- what is out
+-- ---- the nonces that are out
 
 -- each nonce that is out was given: it is below the next
 abbrev pub IsBelow : List ℕ → ℕ → Type 0

@@ -18,7 +18,7 @@ pub struct Stamp {
     pub tag: [u8; 32],
 }
 
-/// Shows that a page which asks for events has the secret.
+/// What a page sends with its request for events to prove that it has the secret.
 #[derive(Clone, Copy)]
 pub struct Pass {
     pub nonce: u64,

@@ -57,7 +57,7 @@ fn block(key: &[u8; 32], seed: &Tagged, number: u64) -> [u8; 32]
     hmac(key.as_slice(), text.as_slice())
 }
 
-/// Returns the block of the keystream that has its byte i: the last one, unless byte i begins the next.
+/// Returns the block of the keystream that has its byte i: `last`, unless byte i begins the next block.
 fn block_at(last: [u8; 32], key: &[u8; 32], seed: &Tagged, i: usize) -> [u8; 32]
     requires { array_vec_len seed.now ≤ 37 }
     ensures { (i % 32 ≢ 0 → last ≡ veils.block key.now seed.now.items (i / 32))

@@ -24,7 +24,7 @@ stand_with b s = record { runs = s.runs + runs_of b; balls = s.balls + faced_of 
 abbrev pub stand_behind : Ball → Stand → Stand
 stand_behind b s = if is_some b.out then no_stand else stand_with b s
 
--- after a batter has left: the partnership goes on if he retired hurt, as he may come in again
+-- after a batter has left: the partnership ends, unless he retired hurt and so may come in again
 abbrev pub stand_left : Leave → Stand → Stand
 stand_left leave.TheVariants.RetiredHurt s = s
 stand_left way s = no_stand

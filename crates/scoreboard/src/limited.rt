@@ -157,7 +157,7 @@ fn put_rates(out: &mut Compact, alloc: Global, situation: &Situation) -> Result<
     put_rate(out, alloc, "last_rate", situation.last_rate)
 }
 
-/// Puts whether the next delivery is a free hit, the powerplay, and the number of overs bowled by the bowler.
+/// Puts whether the next delivery is a free hit, the powerplay, and the number of overs in which the bowler has bowled.
 fn put_play(out: &mut Compact, situation: &Situation) -> Result<(), AllocError>
     ensures { PutsFields result out.old out.new (laws.play_fields situation.now) }
 {

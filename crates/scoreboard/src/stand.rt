@@ -80,7 +80,7 @@ fn stand_behind(ball: &Ball, stand: Stand) -> Stand
     }
 }
 
-/// Returns the partnership after a batter has left: it goes on if he retired hurt, as he may come in again.
+/// Returns the partnership after a batter has left: it ends, unless he retired hurt and so may come in again.
 fn stand_left(how: Leave, stand: Stand) -> Stand
     ensures value { result ≡ laws.stand_left how stand }
     ensures runs { result.runs ≤ stand.runs }

@@ -29,7 +29,7 @@ fn trimmed(line: &[u8]) -> &[u8]
     line.trim_ascii_end()
 }
 
-/// Returns the page's word that a line is, if it is one. Such a line writes nothing in the book.
+/// Returns the page's word if the line is one. Such a line writes nothing in the book.
 fn word_in(line: &[u8]) -> Option<PageWord>
     ensures { IsNone result ↔ (is_page_word line.now ≡ false) }
 {

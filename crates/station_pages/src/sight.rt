@@ -116,7 +116,7 @@ impl<'p> PageSight<'p> {
         }
     }
 
-    /// Shows the items of a book on the page, unless the book last shown had as many entries. Returns whether the page shows them.
+    /// Shows the items of a book on the page, unless the last book shown had as many entries. Returns whether they are shown.
     fn put_book<B: BookOf>(&mut self, page: &mut ScorersPage, book: &B) -> bool
         ensures others { ServesBook page.old.viewers.shown page.new.viewers.shown (B.content book.now) }
         ensures shows { result ≡ true → (self.old.entries ≡ Some (length (B.content book.now)))

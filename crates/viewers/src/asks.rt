@@ -27,7 +27,7 @@ pub enum Ask {
     Given(u64),
     /// A line was typed.
     Typed,
-    /// Told that its pass is good: the page still has the secret.
+    /// Told that its pass is good: the page has the desk's secret.
     Signed,
     /// The secret of the desk's page, encrypted by the ticket of its square.
     Handed([u8; 16]),
@@ -41,7 +41,7 @@ pub enum Ask {
     Method,
     /// Another host.
     Foreign,
-    /// Refused with this status: for one, its head isn't HTTP or is too long.
+    /// Refused with this status, as for a head that isn't HTTP or is too long.
     Faulty(u16),
 }
 

@@ -102,7 +102,7 @@ impl Crowd {
         Ok(())
     }
 
-    /// Lets in the next who waits. No signed viewer loses its place to a newcomer.
+    /// Lets in the next who waits. No signed viewer loses its place to that newcomer.
     fn admit(&mut self, now: u64) -> io::Result<()>
         ensures { KeepsSigned self.old.places.viewers.items self.new.places.viewers.items }
     {

@@ -52,7 +52,7 @@ impl PageTexts {
         self.lines = lines;
     }
 
-    /// Shows this state from now on. Its number grows if it is another one than before.
+    /// Shows this state from now on. Its number grows by one if the state has changed.
     pub fn put_state(&mut self, state: Vec<u8>)
         ensures state { self.new.state ≡ state }
         ensures lines { self.new.lines ≡ self.old.lines }
