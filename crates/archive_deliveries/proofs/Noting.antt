@@ -15,7 +15,7 @@ use Rattle.corrections.proofs.ScoringLemmas.{first_refused-cons}
 use Rattle.archive_deliveries.specs.declared.{notes.Noted.Noted, begun.Begun.Begun}
 use Rattle.archive_deliveries.specs.Notes.{note, notes, begun_of}
 
--- what was noted of what stands up to what is left of it, none of which is refused, and the match there
+-- the notes of the items taken so far, the items left, none of which is refused, and the match between them
 pub record Noting (all left : List Placed) (n : ℕ) (score : Standing) (begun : Begun) (noted : List Noted) : Type 0 where
   pub history : History
   pub stands : StandsFor score n history
@@ -34,7 +34,7 @@ stepped : {T : Type 0} (r : Result T LawRefusal) (n : ℕ) (h : History) (x : Pl
 stepped (Ok _) n h x later none s = s.1
 stepped (Err why) n h x later none s = absurd cc
 
--- one item more
+-- one more item noted
 pub notes_one : {T : Type 0} {all left : List Placed} {n : ℕ} {score later : Standing} {begun begun_now : Begun} {noted more : List Noted} {x : Placed} {y : Noted}
     (r : Result T LawRefusal) (m : Noting all (x ∷ left) n score begun noted) → y ≡ note m.history x → begun_now ≡ begun_of (x.item ∷ m.history) →
     more ≡ noted ++ y ∷ [] → IsStep (answer_with r later) n m.history x.item → Noting all left n later begun_now more

@@ -1,5 +1,5 @@
--- Deliveries, each with what it carries. s is the sheet, side the side that bats in innings i, f which innings each side
--- began first, early the items before the first delivery of the innings, and late those up to the next delivery.
+-- Deliveries with the items that they carry. s is the sheet, side the side that bats in innings i, f the innings that each side
+-- began, early the items before the first delivery of the innings, and late those up to the next delivery.
 use Rattle.std.specs.Prelude.{ℕ, ◌+◌, ◌*◌, ◌==◌, Bool, not, ◌&&◌, ◌||◌, if◌then◌else◌, List, [], ◌∷◌, ◌++◌, length, filter, codes}
 use Rattle.notation.specs.declared.entry.{Side.Side, Ball.Ball, Plain.Plain}
 use Rattle.ball_laws.specs.declared.{ends.Ends.Ends, runs.Split.Split}
@@ -20,7 +20,7 @@ penalties f i xs = 5 * length (filter (is_awarded f i) xs)
 abbrev pub extra_runs : Split → ℕ
 extra_runs x = x.byes + x.legs + x.wides + x.noballs
 
--- four or six runs off the bat, but no boundary
+-- four or six runs off the bat without a boundary
 abbrev pub is_run : Ball → Bool
 is_run b =
     let runs = (split_of_ball b).striker in
@@ -46,11 +46,11 @@ extras_field x penalty = (
       ++ count_field (codes "penalty") penalty),
 )
 
--- the extras, where there are any
+-- the extras, or no field if there are none
 abbrev pub extras_fields : Split → ℕ → List Field
 extras_fields x penalty = if extra_runs x + penalty == 0 then [] else extras_field x penalty ∷ []
 
--- who bats and who bowls
+-- the striker, the bowler and the non-striker
 abbrev pub players_fields : Sheet → Side → Ends → ℕ → List Field
 players_fields s side ends bowler =
     (codes "batter", batter_value s side ends.striker) ∷ []
@@ -64,7 +64,7 @@ delivery_of s side penalty early ends b late =
     ++ wickets_fields s side early ends b late
     ++ extras_fields (split_of_ball b) penalty)
 
--- what is listed of an item: a delivery
+-- the JSON value of an item if it is a delivery; none for any other item
 abbrev pub listed_of : Sheet → Side → Begun → ℕ → List Noted → Plain → Ends → List Noted → List Json
 listed_of s side f i early (Plain.Ball b) ends late = delivery_of s side (penalties f i late) early ends b late ∷ []
 listed_of s side f i early _ ends late = []

@@ -1,4 +1,4 @@
--- What is claimed of a delivery's JSON: Notes, what it carries; Innings; Deliveries, Wickets and Miscounts; Names, by which players are told apart.
+-- The specification of a delivery's JSON: Notes, the items that it carries; Innings; Deliveries, Wickets and Miscounts; Names.
 pub mod Notes
 pub mod Innings
 pub mod Wickets

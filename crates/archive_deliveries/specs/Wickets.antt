@@ -1,4 +1,4 @@
--- Who is out, and how. s is the sheet, and side the side that bats.
+-- The batters who are out, and how. s is the sheet, and side the side that bats.
 use Rattle.std.specs.Prelude.{ℕ, ◌==◌, Bool, true, false, ◌||◌, if◌then◌else◌, List, [], ◌∷◌, ◌++◌, Option, Some, None, is_some, codes}
 use Rattle.std.specs.List.{list_any, flat_map}
 use Rattle.notation.specs.declared.entry.{Side.Side, Ball.Ball, How.How, Leave.Leave, Out.Out, Plain.Plain}
@@ -11,7 +11,7 @@ use Rattle.json.specs.Json.{Json, null, string}
 use Rattle.json_fields.specs.Values.{Field, array_of, object_of, text_field, flag_if}
 use Rattle.archive_deliveries.specs.declared.notes.Noted.{Noted}
 
--- caught by the bowler or not: it has words of its own
+-- a catch by the bowler has words of its own
 abbrev pub catch_words : Bool → List ℕ
 catch_words own = if own then codes "caught and bowled" else codes "caught"
 
@@ -31,16 +31,16 @@ leave_words Leave.RetiredOut = codes "retired out"
 leave_words Leave.RetiredHurt = codes "retired hurt"
 leave_words Leave.RunOut = codes "run out"
 
--- the name of who is at an end
+-- the name of the batter at an end, or null if nobody is there
 abbrev pub batter_value : Sheet → Side → Option ℕ → Json
 batter_value s side None = null
 batter_value s side (Some p) = string (player_of s side p)
 
--- the number of a fielder who is none of the eleven
+-- the number of a fielder who isn't one of the eleven
 abbrev pub substitute : ℕ
 substitute = 12
 
--- the fielder of the other side, where one is recorded: a substitute is told as one, with the name `sub`
+-- a fielder of the other side; a substitute is named `sub` and marked as a substitute
 abbrev pub fielder_of : Sheet → Side → ℕ → Json
 fielder_of s side f =
     object_of (text_field (codes "name") (fielder_name s (opponent side) f) ∷ []
@@ -49,7 +49,7 @@ fielder_of s side f =
 abbrev pub fielders_fields : Sheet → Side → ℕ → List Field
 fielders_fields s side f = if f == 0 then [] else (codes "fielders", array_of (fielder_of s side f ∷ [])) ∷ []
 
--- out off a delivery
+-- a dismissal off a delivery
 abbrev pub wicket_of : Sheet → Side → Ends → ℕ → Out → Json
 wicket_of s side ends bowler out =
     object_of ((codes "player_out", batter_value s side (batter_at out.who ends)) ∷ []
@@ -60,7 +60,7 @@ abbrev pub own_wickets : Sheet → Side → Ends → ℕ → Option Out → List
 own_wickets s side ends bowler None = []
 own_wickets s side ends bowler (Some out) = wicket_of s side ends bowler out ∷ []
 
--- gone between deliveries, or retired hurt
+-- a batter who left between deliveries or retired hurt
 abbrev pub departure_of : Sheet → Side → Leave → ℕ → Json
 departure_of s side way p =
     object_of (text_field (codes "player_out") (player_of s side p) ∷ []
@@ -74,15 +74,15 @@ abbrev pub gone_of : Sheet → Side → Plain → List Json
 gone_of s side (Plain.Gone way p) = departure_of s side way p ∷ []
 gone_of s side _ = []
 
--- who went, of these items
+-- the batters who left in these items
 abbrev pub departures : Sheet → Side → List Noted → List Json
 departures s side xs = flat_map (λ x. gone_of s side x.item) xs
 
--- somebody went, of these items
+-- a batter left in one of these items
 abbrev pub has_gone : List Noted → Bool
 has_gone xs = list_any (λ x. is_gone x.item) xs
 
--- the wickets that a delivery carries: of those who went before the first, its own, and of those who went behind it
+-- the wickets of a delivery: of batters who left before the first delivery, its own, and of batters who left after it
 abbrev pub wickets_of : Sheet → Side → List Noted → Ends → Ball → List Noted → List Json
 wickets_of s side early ends b late =
     (departures s side early ++ own_wickets s side ends b.bowler b.out) ++ departures s side late

@@ -1,4 +1,4 @@
-//! Which innings each side began first, and which last.
+//! The innings that each side began first and last.
 
 ghost use Rattle.std.specs.Prelude.{◌≡◌, ◌∷◌, [], None, Some};
 ghost use Rattle.ball_laws.specs.History.{History};
@@ -8,7 +8,7 @@ ghost use Rattle.archive_deliveries.specs.Notes as laws;
 
 use notation::Side;
 
-/// The innings that each side began first and last, numbered from 0, where it has begun one.
+/// The innings that each side began first and last, numbered from 0; `None` for a side that has begun none.
 #[derive(Clone, Copy)]
 pub struct Begun {
     pub home_first: Option<usize>,
@@ -17,7 +17,7 @@ pub struct Begun {
     pub away_latest: Option<usize>,
 }
 
-/// The earlier number, or the other where there is no earlier one.
+/// Returns the earlier number, or the other number if there is no earlier one.
 fn or_else(earlier: Option<usize>, other: Option<usize>) -> Option<usize>
     ensures { result ≡ history.or_else earlier other }
 {
@@ -28,7 +28,7 @@ fn or_else(earlier: Option<usize>, other: Option<usize>) -> Option<usize>
 }
 
 impl Begun {
-    /// No innings has begun.
+    /// Before any innings has begun.
     pub fn none() -> Begun
         ensures { result ≡ laws.begun_of [] }
     {
@@ -40,7 +40,7 @@ impl Begun {
         }
     }
 
-    /// With an innings of the side begun, after so many.
+    /// Adds an innings of the side, with this number.
     pub fn with(self, side: Side, number: usize) -> Begun
         ensures { (h : History) → self ≡ laws.begun_of h → number ≡ history.begun h
             → result ≡ laws.begun_of (plain.Innings side ∷ h) }
@@ -61,7 +61,7 @@ impl Begun {
         }
     }
 
-    /// The innings that the side began first.
+    /// Returns the innings that the side began first.
     pub fn first(&self, side: Side) -> Option<usize>
         ensures { result ≡ laws.first_in self.now side }
     {
@@ -71,7 +71,7 @@ impl Begun {
         }
     }
 
-    /// The innings that the side began last.
+    /// Returns the innings that the side began last.
     pub fn latest(&self, side: Side) -> Option<usize>
         ensures { result ≡ laws.latest_in self.now side }
     {

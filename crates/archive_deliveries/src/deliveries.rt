@@ -1,4 +1,4 @@
-//! Deliveries, each with what it carries.
+//! Deliveries of an archive, each with the items that it carries.
 
 ghost use Rattle.std.specs.Prelude.{◌≡◌, ◌+◌, ◌*◌, ◌≤◌, ◌∷◌, [], IfOk, filter, length};
 ghost use Rattle.ball_laws.specs.Runs.{all_runs, is_six, split_of_ball};
@@ -22,7 +22,7 @@ use match_laws::opponent;
 use notation::{Ball, Bound, Plain, Player, Side};
 use std::alloc::AllocError;
 
-/// How many of these items award penalty runs to an innings.
+/// Counts the items that award penalty runs to an innings.
 fn awards(begun: &Begun, innings: usize, items: &[Noted]) -> usize
     ensures { result ≡ length (filter (notes.is_awarded begun.now innings) items.now) }
 {
@@ -32,7 +32,7 @@ fn awards(begun: &Begun, innings: usize, items: &[Noted]) -> usize
         .count()
 }
 
-/// The runs of so many awards. So many that 64 bits don't hold them would not have fitted into memory.
+/// Returns the penalty runs of this many awards. Fails if they exceed 64 bits; that many awards would not fit into memory.
 pub fn award_runs(count: usize) -> Result<u64, AllocError>
     ensures { IfOk result (λ runs. runs ≡ 5 * count) }
 {
@@ -42,7 +42,7 @@ pub fn award_runs(count: usize) -> Result<u64, AllocError>
     }
 }
 
-/// Both together, in 64 bits.
+/// Adds runs and penalty runs. Fails if the sum exceeds 64 bits.
 pub fn plus(runs: u64, penalty: u64) -> Result<u64, AllocError>
     ensures { IfOk result (λ sum. sum ≡ runs + penalty) }
 {
@@ -52,14 +52,14 @@ pub fn plus(runs: u64, penalty: u64) -> Result<u64, AllocError>
     }
 }
 
-/// The penalty runs that these items award to an innings.
+/// Returns the penalty runs that these items award to an innings.
 pub fn penalties(begun: &Begun, innings: usize, items: &[Noted]) -> Result<u64, AllocError>
     ensures { IfOk result (λ runs. runs ≡ deliveries.penalties begun.now innings items.now) }
 {
     award_runs(awards(begun, innings, items))
 }
 
-/// The extras of a delivery, but penalty runs.
+/// Returns the extras of a delivery, without penalty runs.
 fn extra_runs(split: &Split) -> u32
     requires { all_runs split.now ≤ 260 }
     ensures { result ≡ deliveries.extra_runs split.now }
@@ -67,7 +67,7 @@ fn extra_runs(split: &Split) -> u32
     split.byes + split.legs + split.wides + split.noballs
 }
 
-/// All runs of a delivery, but penalty runs.
+/// Returns all runs of a delivery, without penalty runs.
 fn total_runs(split: &Split) -> u32
     requires { all_runs split.now ≤ 260 }
     ensures { result ≡ all_runs split.now }
@@ -87,7 +87,7 @@ fn is_six(bound: Bound) -> bool
     bound == Bound::Six
 }
 
-/// Whether a delivery has four or six runs off the bat, but is no boundary.
+/// Whether four or six runs were scored off the bat without a boundary.
 pub fn is_run(ball: &Ball, split: &Split) -> bool
     requires { split.now ≡ split_of_ball ball.now }
     ensures { result ≡ deliveries.is_run ball.now }
@@ -95,7 +95,7 @@ pub fn is_run(ball: &Ball, split: &Split) -> bool
     (split.striker == 4 && !is_four(ball.bound)) || (split.striker == 6 && !is_six(ball.bound))
 }
 
-/// All extras of a delivery.
+/// Returns all extras of a delivery, with penalty runs.
 pub fn all_extras(split: &Split, penalty: u64) -> Result<u64, AllocError>
     requires { all_runs split.now ≤ 260 }
     ensures { IfOk result (λ runs. runs ≡ deliveries.extra_runs split.now + penalty) }
@@ -103,7 +103,7 @@ pub fn all_extras(split: &Split, penalty: u64) -> Result<u64, AllocError>
     plus(u64::from(extra_runs(split)), penalty)
 }
 
-/// All runs of a delivery.
+/// Returns all runs of a delivery, with penalty runs.
 pub fn whole_total(split: &Split, penalty: u64) -> Result<u64, AllocError>
     requires { all_runs split.now ≤ 260 }
     ensures { IfOk result (λ runs. runs ≡ all_runs split.now + penalty) }
@@ -126,7 +126,7 @@ fn put_runs(out: &mut Pretty, split: &Split, run: bool, penalty: u64) -> Result<
     end_object(out)
 }
 
-/// Puts penalty runs, unless there are none.
+/// Puts penalty runs, or nothing if there are none.
 pub fn put_awarded(out: &mut Pretty, name: &str, runs: u64) -> Result<(), AllocError>
     ensures { PutsFields result out.old out.new (count_field name.now runs) }
 {
@@ -136,7 +136,7 @@ pub fn put_awarded(out: &mut Pretty, name: &str, runs: u64) -> Result<(), AllocE
     put_number(out, name, runs)
 }
 
-/// Puts the extras of a delivery, each kind that it has.
+/// Puts the extras of a delivery: each kind that isn't 0.
 fn put_kinds(out: &mut Pretty, split: &Split, penalty: u64) -> Result<(), AllocError>
     ensures { PutsFields result out.old out.new (deliveries.extras_field split.now penalty ∷ []) }
 {
@@ -149,7 +149,7 @@ fn put_kinds(out: &mut Pretty, split: &Split, penalty: u64) -> Result<(), AllocE
     end_object(out)
 }
 
-/// Puts the extras of a delivery, where there are any.
+/// Puts the extras of a delivery, or nothing if there are none.
 fn put_extras(out: &mut Pretty, split: &Split, penalty: u64) -> Result<(), AllocError>
     requires { all_runs split.now ≤ 260 }
     ensures { PutsFields result out.old out.new (deliveries.extras_fields split.now penalty) }
@@ -160,7 +160,7 @@ fn put_extras(out: &mut Pretty, split: &Split, penalty: u64) -> Result<(), Alloc
     put_kinds(out, split, penalty)
 }
 
-/// Puts who bats and who bowls.
+/// Puts the striker, the bowler and the non-striker.
 fn put_players(
     out: &mut Pretty,
     sheet: &NamedSheet<'_>,
@@ -175,7 +175,7 @@ fn put_players(
     put_batter(out, "non_striker", sheet, side, ends.other)
 }
 
-/// Puts a delivery, with what it carries: these penalty runs, and who went before it and behind it.
+/// Puts a delivery, with these penalty runs and with the batters who left before or after it.
 fn put_delivery(
     out: &mut Pretty,
     innings: NamedInnings<'_>,
@@ -197,7 +197,7 @@ fn put_delivery(
     end_object(out)
 }
 
-/// Puts what is listed of an item: a delivery.
+/// Puts an item if it is a delivery; puts nothing for any other item.
 pub fn put_listed(
     out: &mut Pretty,
     innings: NamedInnings<'_>,

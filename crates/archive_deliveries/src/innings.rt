@@ -1,12 +1,12 @@
-//! An innings as an archive has it, and what is carried by a delivery.
+//! An innings in an archive, and the items that a delivery carries.
 
 use crate::begun::Begun;
 use crate::named::NamedSheet;
 use crate::notes::Noted;
 use notation::Side;
 
-/// An innings as an archive has it: the match's sheet, the side that bats, the innings that each side has begun, and its own
-/// number, from 0.
+/// An innings in an archive: the match's sheet, the side that bats, the innings that each side has begun, and the innings'
+/// own number, from 0.
 #[derive(Clone, Copy)]
 pub struct NamedInnings<'m> {
     pub sheet: &'m NamedSheet<'m>,
@@ -15,8 +15,8 @@ pub struct NamedInnings<'m> {
     pub index: usize,
 }
 
-/// An item with what it carries where it is a delivery: the items before it where it is the first of the innings, and those
-/// behind it up to the next one.
+/// An item with the items that it carries if it is a delivery: those before it if it is the first delivery of the innings,
+/// and those after it up to the next delivery.
 #[derive(Clone, Copy)]
 pub struct Carrier<'n> {
     pub early: &'n [Noted],

@@ -1,5 +1,5 @@
-//! The deliveries of an innings as an archive has them: what each carries of what happened between two of them, its runs and
-//! extras, who was out and how, and the players by names that tell them apart.
+//! The deliveries of an innings in an archive: their runs, extras and wickets, what happened between two deliveries, and the
+//! players by names that tell them apart.
 #![tactic(auto, using(json_fields::proofs::Putting::json_parts), unfolding(json_fields::specs::Values::fields_tokens, json_fields::specs::Values::values_tokens))]
 
 mod begun;

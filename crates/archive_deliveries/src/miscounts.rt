@@ -1,4 +1,4 @@
-//! Overs that were called after another number of fair deliveries than six.
+//! Overs that were called after fewer or more than six fair deliveries.
 
 ghost use Rattle.std.specs.Prelude.{◌≡◌, ◌∷◌, []};
 ghost use Rattle.std.specs.List.{list_any};
@@ -24,7 +24,7 @@ fn is_miscounted(noted: &Noted) -> bool
     is_call(&noted.item) && noted.balls != 6
 }
 
-/// Whether an over of these items was miscounted.
+/// Whether any over of these items was miscounted.
 fn has_miscounted(items: &[Noted]) -> bool
     ensures { result ≡ list_any laws.is_miscounted items.now }
 {
@@ -63,7 +63,7 @@ fn put_field(out: &mut Pretty, items: &[Noted]) -> Result<(), AllocError>
     end_object(out)
 }
 
-/// Puts the miscounted overs, where there are any.
+/// Puts the miscounted overs, or nothing if there are none.
 pub fn put_miscounts(out: &mut Pretty, items: &[Noted]) -> Result<(), AllocError>
     ensures { PutsFields result out.old out.new (laws.miscounted_fields items.now) }
 {

@@ -1,4 +1,4 @@
-//! A match sheet as an export names its sides.
+//! A match sheet with the side names of an export.
 
 ghost use Rattle.std.specs.Prelude.{◌≡◌, ◌≤◌, IfOk, string_bytes};
 ghost use Rattle.cards.specs.Sheet as sheets;
@@ -10,14 +10,14 @@ use notation::{Player, Side};
 use std::alloc::{AllocError, Global};
 use std::marker::Model;
 
-/// A match sheet whose sides are told apart: where both have one name, each has its word behind it.
+/// A match sheet whose sides have different names: if both have the same name, " (home)" or " (away)" is appended.
 pub struct NamedSheet<'a> {
     sheet: &'a MatchSheet,
     home: String,
     away: String,
 }
 
-// one step for whoever lets it go, in place of one a part
+// One step for the function that drops the sheet, instead of one step for each part.
 impl Drop for NamedSheet<'_> {
     fn drop(self) {
         let NamedSheet {
@@ -45,7 +45,7 @@ impl<'a> Model for NamedSheet<'a> {
     } };
 }
 
-/// The word of a side, behind its name.
+/// Returns the word that is appended to the side's name.
 fn mark_of(side: Side) -> &'static str
     ensures { result.now ≡ names.mark_of side }
 {
@@ -55,7 +55,7 @@ fn mark_of(side: Side) -> &'static str
     }
 }
 
-/// The name of a side in an export.
+/// Returns the side's name in an export.
 fn name_in(alloc: Global, sheet: &MatchSheet, side: Side) -> Result<String, AllocError>
     ensures { IfOk result (λ name. string_bytes name ≡ names.name_in sheet.now side) }
 {
@@ -67,7 +67,7 @@ fn name_in(alloc: Global, sheet: &MatchSheet, side: Side) -> Result<String, Allo
 }
 
 impl<'a> NamedSheet<'a> {
-    /// The sheet with its sides told apart.
+    /// Makes a sheet whose sides have different names.
     pub fn new(alloc: Global, sheet: &'a MatchSheet) -> Result<NamedSheet<'a>, AllocError>
         ensures { IfOk result (λ named. named ≡ names.told_apart sheet.now) }
     {
@@ -76,21 +76,21 @@ impl<'a> NamedSheet<'a> {
         Ok(NamedSheet { sheet, home, away })
     }
 
-    /// The title.
+    /// Returns the match's title.
     pub fn title(&self) -> &str
         ensures { result.now ≡ self.now.title }
     {
         self.sheet.title()
     }
 
-    /// The match number.
+    /// Returns the match number.
     pub fn game(&self) -> u64
         ensures { result ≡ self.now.game }
     {
         self.sheet.game()
     }
 
-    /// The innings a side, 1 or 2.
+    /// Returns the number of innings a side, 1 or 2.
     pub fn innings(&self) -> u32
         ensures value { result ≡ self.now.innings }
         ensures in_range { (1 ≤ result) × (result ≤ 2) }
@@ -98,14 +98,14 @@ impl<'a> NamedSheet<'a> {
         self.sheet.innings()
     }
 
-    /// What it limits.
+    /// Returns the limits of the match.
     pub fn limits(&self) -> &Limits
         ensures { result.now ≡ self.now.limits }
     {
         self.sheet.limits()
     }
 
-    /// The name of the side.
+    /// Returns the side's name.
     pub fn name(&self, side: Side) -> &str
         ensures { result.now ≡ sheets.name_of self.now side }
     {
@@ -115,7 +115,7 @@ impl<'a> NamedSheet<'a> {
         }
     }
 
-    /// The name of the side's player.
+    /// Returns the name of the side's player.
     pub fn player(&self, side: Side, player: Player) -> &str
         ensures { result.now ≡ sheets.player_of self.now side player }
     {

@@ -1,4 +1,4 @@
-//! The clean list of a book, each item with where it stands in the match.
+//! The clean list of a book, each item with its state of the match.
 
 ghost use Rattle.std.specs.Prelude.{◌≡◌, ◌<◌, ◌≤◌, ◌∷◌, [], IfOk, Some, None, drop, length, slice_get};
 ghost use Rattle.ball_laws.specs.History.{History};
@@ -14,27 +14,27 @@ use match_laws::{Match, is_void, start};
 use notation::Plain;
 use std::alloc::{AllocError, Global};
 
-/// An item of the clean list, with what those before it say.
+/// An item of the clean list, with the state of the match before it.
 #[derive(Clone, Copy)]
 pub struct Noted {
     /// The innings that began last, numbered from 0; 0 before the first.
     pub innings: usize,
-    /// How many overs were called in it.
+    /// The number of overs called in that innings.
     pub over: u32,
-    /// How many fair deliveries the over that is on has.
+    /// The number of fair deliveries in the current over.
     pub balls: u32,
-    /// Who is at each end.
+    /// The batter at each end.
     pub ends: Ends,
-    /// Where it awards penalty runs: the innings that its side had begun last before it.
+    /// For an award of penalty runs: the innings that its side had begun last before it.
     pub earlier: Option<usize>,
-    /// The place at which it was entered.
+    /// The place of the entry.
     pub place: u32,
     pub item: Plain,
 }
 
 ghost use Rattle.archive_deliveries.specs.Notes as laws;
 
-/// How many overs were called in the innings that began last.
+/// Returns the number of overs called in the innings that began last.
 fn overs_called(score: &Match) -> u32
     ensures { ForEachHistory score.now (λ n h. result ≡ laws.overs_called h) }
 {
@@ -45,7 +45,7 @@ fn overs_called(score: &Match) -> u32
     score.overs(begun - 1).0
 }
 
-/// How many deliveries count in the over that is on.
+/// Returns the number of deliveries that count in the current over.
 fn balls_called(score: &Match) -> u32
     ensures { ForEachHistory score.now (λ n h. result ≡ laws.balls_called h) }
 {
@@ -56,7 +56,7 @@ fn balls_called(score: &Match) -> u32
     score.overs(begun - 1).1
 }
 
-/// The innings that the side of an award had begun last before it.
+/// For an award of penalty runs, returns the innings that its side had begun last before it.
 fn earlier_of(begun: &Begun, item: &Plain) -> Option<usize>
     ensures { (h : History) → begun.now ≡ laws.begun_of h → result ≡ laws.earlier_of h item.now }
 {
@@ -74,7 +74,7 @@ fn earlier_of(begun: &Begun, item: &Plain) -> Option<usize>
     }
 }
 
-/// The item with where it stands, by the match before it.
+/// Returns the item with the state of the match before it.
 fn note(score: &Match, begun: &Begun, placed: &Placed) -> Noted
     ensures { ForEachHistory score.now (λ n h. begun.now ≡ laws.begun_of h
         → result ≡ laws.note h placed.now) }
@@ -90,7 +90,7 @@ fn note(score: &Match, begun: &Begun, placed: &Placed) -> Noted
     }
 }
 
-/// The innings begun after an item, by the match before it.
+/// Returns the innings begun once this item is taken.
 fn begun_after(score: &Match, begun: Begun, item: &Plain) -> Begun
     ensures { ForEachHistory score.now (λ n h. begun ≡ laws.begun_of h
         → result ≡ laws.begun_of (item.now ∷ h)) }
@@ -109,7 +109,7 @@ fn begun_after(score: &Match, begun: Begun, item: &Plain) -> Begun
     }
 }
 
-/// What stands at an index.
+/// Returns the item at an index.
 fn placed_at(clean_items: &[Placed], index: usize) -> Placed
     requires { index < length clean_items.now }
     ensures { slice_get clean_items.now index ≡ Some result }
@@ -117,8 +117,8 @@ fn placed_at(clean_items: &[Placed], index: usize) -> Placed
     clean_items[index]
 }
 
-/// The clean list of a book of one or two innings a side, each item with where it stands in the match, and the innings
-/// that each side has begun.
+/// Returns the clean list of a book of one or two innings a side, each item with the state of the match before it, and the
+/// innings that each side has begun.
 pub fn notes_of<B: BookOf>(
     alloc: Global,
     innings_a_side: u32,
@@ -138,14 +138,14 @@ pub fn notes_of<B: BookOf>(
         if !is_void(&placed.item) {
             notes.push(note(&score, &begun, &placed))?;
             begun = begun_after(&score, begun, &placed.item);
-            // What stands in a book is refused nowhere.
+            // No item of a book is refused.
             let _ = score.take(&placed.item);
         }
     }
     Ok((notes, begun))
 }
 
-/// The item at an index.
+/// Returns the item at an index.
 pub fn noted_at(notes: &[Noted], index: usize) -> Noted
     requires { index < length notes.now }
     ensures { slice_get notes.now index ≡ Some result }
@@ -160,7 +160,7 @@ pub fn is_ball(item: &Plain) -> bool
     matches!(item, Plain::Ball(_))
 }
 
-/// The items of an innings.
+/// Returns the items of an innings.
 pub fn items_in(alloc: Global, innings: usize, notes: &[Noted]) -> Result<Vec<Noted>, AllocError>
     ensures { IfOk result (λ items. items.items ≡ laws.items_in innings notes.now) }
 {
@@ -174,7 +174,7 @@ pub fn items_in(alloc: Global, innings: usize, notes: &[Noted]) -> Result<Vec<No
     Ok(items)
 }
 
-/// The items from an index on, up to the next delivery.
+/// Returns the items from an index up to the next delivery.
 #[tactic(auto, using(corrections::proofs::ListLemmas::next, json_fields::proofs::Putting::json_parts))]
 pub fn carried(alloc: Global, notes: &[Noted], from: usize) -> Result<Vec<Noted>, AllocError>
     ensures { IfOk result (λ items. items.items ≡ laws.carried (drop from notes.now)) }
@@ -190,7 +190,7 @@ pub fn carried(alloc: Global, notes: &[Noted], from: usize) -> Result<Vec<Noted>
     Ok(items)
 }
 
-/// Whether an award counts in an innings: the one that its side had begun last, else its first.
+/// Whether an award counts in this innings: the one that its side had begun last, or else the side's first.
 fn counts_in(earlier: Option<usize>, first: Option<usize>, innings: usize) -> bool
     ensures { result ≡ is_at (or_else earlier first) innings }
 {
@@ -200,7 +200,7 @@ fn counts_in(earlier: Option<usize>, first: Option<usize>, innings: usize) -> bo
     }
 }
 
-/// Whether an item awards penalty runs that count in an innings.
+/// Whether an item awards penalty runs that count in this innings.
 pub fn is_awarded(begun: &Begun, innings: usize, noted: &Noted) -> bool
     ensures { result ≡ laws.is_awarded begun.now innings noted.now }
 {

@@ -1,4 +1,4 @@
-//! Who is out, and how.
+//! The batters who are out or have left, and how.
 
 ghost use Rattle.std.specs.Prelude.{◌≡◌, ◌==◌, ◌∷◌, ◌≢◌, []};
 ghost use Rattle.cards.specs.Dismissals.{fielder_name};
@@ -14,7 +14,7 @@ use match_laws::opponent;
 use notation::{Ball, How, Leave, Out, Plain, Player, Side};
 use std::alloc::AllocError;
 
-/// The number of a fielder who is none of the eleven.
+/// The number of a fielder who isn't one of the eleven.
 const SUBSTITUTE: u8 = 12;
 
 fn catch_words(own: bool) -> &'static str
@@ -23,7 +23,7 @@ fn catch_words(own: bool) -> &'static str
     if own { "caught and bowled" } else { "caught" }
 }
 
-/// What an archive calls a way of being out.
+/// Returns an archive's words for a dismissal off a delivery.
 pub fn how_words(own: bool, how: How) -> &'static str
     ensures { result.now ≡ wickets.how_words own how }
 {
@@ -39,7 +39,7 @@ pub fn how_words(own: bool, how: How) -> &'static str
     }
 }
 
-/// What an archive calls a way of leaving between deliveries.
+/// Returns an archive's words for leaving between deliveries.
 pub fn leave_words(way: Leave) -> &'static str
     ensures { result.now ≡ wickets.leave_words way }
 {
@@ -51,7 +51,7 @@ pub fn leave_words(way: Leave) -> &'static str
     }
 }
 
-/// The name of a fielder of the side: `sub` for a substitute.
+/// Returns the name of the side's fielder: `sub` for a substitute.
 pub fn fielder_name<'a>(sheet: &'a NamedSheet<'_>, side: Side, fielder: u8) -> &'a str
     requires { fielder ≢ 0 }
     ensures { result.now ≡ fielder_name sheet.now side fielder }
@@ -62,7 +62,7 @@ pub fn fielder_name<'a>(sheet: &'a NamedSheet<'_>, side: Side, fielder: u8) -> &
     }
 }
 
-/// Puts a field with the name of who is at an end.
+/// Puts a field with the name of the batter at an end, or null if nobody is there.
 pub fn put_batter(
     out: &mut Pretty,
     name: &str,
@@ -95,7 +95,7 @@ fn put_fielder(
     end_object(out)
 }
 
-/// Puts the fielder, where one is recorded.
+/// Puts the fielder, or nothing if none is recorded.
 fn put_fielders(
     out: &mut Pretty,
     sheet: &NamedSheet<'_>,
@@ -112,7 +112,7 @@ fn put_fielders(
     end_array(out)
 }
 
-/// Whether the bowler is the fielder too.
+/// Whether the bowler is also the fielder.
 pub fn is_own(dismissal: &Out, bowler: Player) -> bool
     ensures { result ≡ (dismissal.now.fielder == bowler) }
 {
@@ -148,7 +148,7 @@ fn put_wicket(
     end_object(out)
 }
 
-/// Puts the dismissal off a delivery, where there is one.
+/// Puts the dismissal off a delivery, or nothing if there is none.
 fn put_own(
     out: &mut Pretty,
     sheet: &NamedSheet<'_>,
@@ -166,7 +166,7 @@ fn put_own(
     }
 }
 
-/// Puts who left between deliveries, or retired hurt.
+/// Puts a batter who left between deliveries or retired hurt.
 fn put_departure(
     out: &mut Pretty,
     sheet: &NamedSheet<'_>,
@@ -182,7 +182,7 @@ fn put_departure(
     end_object(out)
 }
 
-/// Puts who went, where an item says so.
+/// Puts the batter who left, or nothing if the item is something else.
 fn put_gone(
     out: &mut Pretty,
     sheet: &NamedSheet<'_>,
@@ -205,7 +205,7 @@ fn put_gone(
     }
 }
 
-/// Puts who went, of these items.
+/// Puts the batters who left in these items.
 fn put_departures(
     out: &mut Pretty,
     sheet: &NamedSheet<'_>,
@@ -227,15 +227,15 @@ fn is_gone(item: &Plain) -> bool
     matches!(item, Plain::Gone(..))
 }
 
-/// Whether somebody went, of these items.
+/// Whether a batter left in any of these items.
 fn has_gone(notes: &[Noted]) -> bool
     ensures { result ≡ wickets.has_gone notes.now }
 {
     notes.iter().any(|noted| is_gone(&noted.item))
 }
 
-/// Puts each wicket that a delivery carries: of those who went before the first delivery of the innings, its own, and
-/// of those who went behind it.
+/// Puts each wicket that a delivery carries: of batters who left before the first delivery of the innings, its own, and of
+/// batters who left after it.
 fn put_each(
     out: &mut Pretty,
     sheet: &NamedSheet<'_>,
@@ -253,7 +253,7 @@ fn put_each(
     put_departures(out, sheet, side, late)
 }
 
-/// Puts the field of the wickets that a delivery carries.
+/// Puts the `wickets` field of a delivery.
 fn put_field(
     out: &mut Pretty,
     sheet: &NamedSheet<'_>,
@@ -271,14 +271,14 @@ fn put_field(
     end_array(out)
 }
 
-/// Whether a delivery carries a wicket, its own or another.
+/// Whether a delivery carries a wicket, its own or that of a batter who left.
 fn has_wickets(early: &[Noted], ball: &Ball, late: &[Noted]) -> bool
     ensures { result ≡ wickets.has_wickets early.now ball.now late.now }
 {
     has_gone(early) || ball.out.is_some() || has_gone(late)
 }
 
-/// Puts the wickets that a delivery carries, where there are any.
+/// Puts the wickets that a delivery carries, or nothing if there are none.
 pub fn put_wickets(
     out: &mut Pretty,
     sheet: &NamedSheet<'_>,

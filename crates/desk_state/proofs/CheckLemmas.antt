@@ -1,4 +1,4 @@
--- What the check of a plain entry tells of its refusal.
+-- What the check of a plain entry says about its refusal.
 use Rattle.std.proofs.Common.{◌≡◌, ℕ, List, Some, None, Result, arith}
 use Rattle.std.specs.Prelude.{is_none, is_ok}
 use Rattle.notation.specs.declared.entry.{Plain.Plain, Entry.Entry}

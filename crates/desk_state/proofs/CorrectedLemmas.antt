@@ -1,4 +1,4 @@
--- What corrects each entry, noted entry by entry.
+-- The entry that corrects each entry, noted entry by entry.
 use Rattle.std.proofs.Common.{◌≡◌, ℕ, ◌+◌, ◌<◌, ◌≤◌, List, Option, None, Some, length, drop, replicate, ap, ◌∙◌, arith, refl}
 use Rattle.std.specs.Prelude.{get_or, slice_get}
 use Rattle.std.proofs.lemmas.Bool.Decides.{nat_tests}
@@ -9,7 +9,7 @@ use Rattle.corrections.proofs.ListLemmas.{next}
 use Rattle.corrections.specs.Corrected.{corrected_at, fix_or, last_fix}
 use Rattle.desk_state.specs.inner.Corrected.{IsCorrectedBy, with_entry}
 
--- what was noted of each place, with what the rest of the book says of it, is what the book says
+-- the places noted so far, completed by the rest of the book, are the places that the whole book gives
 pub record Noting (book : List Entry) (k : ℕ) (by : List (Option ℕ)) : Type 0 where
   pub places : length by ≡ length book
   pub value : (p : ℕ) → p < length book → last_fix p k (get_or by p None) (drop k book) ≡ corrected_at book p

@@ -1,4 +1,4 @@
--- Those of some numbers that are wanted, put one by one.
+-- The numbers that pass a filter, put one by one.
 use Rattle.std.proofs.Common.{arith, ◌≡◌, ℕ, Bool, List, ◌∷◌, ◌++◌}
 use Rattle.std.specs.Prelude.{filter, map}
 use Rattle.json_fields.specs.Values.{number_value}

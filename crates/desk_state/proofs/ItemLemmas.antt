@@ -1,4 +1,4 @@
--- What stands in a book, item by item as a page has it.
+-- The items of a book, put one by one for a page.
 use Rattle.std.proofs.Common.{◌≡◌, ℕ, suc, ◌+◌, ◌-◌, ◌≤◌, List, [], ◌∷◌, ◌++◌, Option, None, Some, nat_le, length, drop, refl, sym, ap, ◌∙◌, subst, inl, inr, arith}
 use Rattle.std.specs.Prelude.{if◌then◌else◌, slice_get}
 use Rattle.std.proofs.lemmas.Bool.{cases_Bool}
@@ -25,12 +25,12 @@ pub within_more : {k m : ℕ} {b : Before} → k ≤ m → IsWithin k b → IsWi
 within_more less within =
     record { begun = omega (arith, less, within.begun); overs = omega (arith, less, within.overs); balls = omega (arith, less, within.balls) }
 
--- nothing was refused of what it began with
+-- no item of the history that it extends was refused
 played_before : (h : History) (xs : List Placed) → IsPlayed (history_after h xs) → IsPlayed h
 played_before h [] all = all
 played_before h (x ∷ xs) all = (played_before (x.item ∷ h) xs all).0
 
--- an item more, which is put from this index on
+-- one more item, which is put from this index on
 due_more : (from k : ℕ) (v : Json) (vs : List Json) (mid new all : List Token) → mid ++ values_tokens (drop (from - k) (v ∷ vs)) ≡ all
     → new ≡ mid ++ values_tokens (if nat_le from k then v ∷ [] else []) → new ++ values_tokens (drop (from - (k + 1)) vs) ≡ all
 due_more from k v vs mid new all e put = elim (cases_Bool (nat_le from k)) [
@@ -43,7 +43,7 @@ due_more from k v vs mid new all e put = elim (cases_Bool (nat_le from k)) [
       values_due mid new all [] (drop (from - (k + 1)) vs) (rw early at put) (rw more at e)
 ]
 
--- what is put of the items, with what is due from the k-th on, is all that is due
+-- the items put so far and those still due from the k-th on together are all that are due
 pub record Putting (value : History → Placed → Json) (items : List Placed) (from k : ℕ) (b : Before) (old new : List Token) : Type 0 where
   pub history : History
   pub ends : history_after history (drop k items) ≡ history_after [] items

@@ -1,4 +1,4 @@
--- What stood before the item that an entry writes, adds or changes stays.
+-- The items before the one that an entry writes, adds or changes stay as they are.
 use Rattle.std.proofs.Common.{◌≡◌, ◌⊎◌, ℕ, ◌+◌, ◌-◌, ◌==◌, nat_lt, Bool, true, false, List, [], ◌∷◌, ◌++◌, Option, None, take, drop, length, map, refl, sym, ap, ap₂, ◌∙◌, subst, inl, inr, arith, add-one}
 use Rattle.std.specs.Prelude.{if◌then◌else◌, slice_get}
 use Rattle.std.proofs.lemmas.Bool.{cases_Bool}
@@ -20,13 +20,13 @@ use Rattle.over_numbers.specs.Counts.{counted}
 use Rattle.corrections.specs.Corrected.{corrected_at, fix_or, last_fix}
 use Rattle.desk_state.specs.Book.{book_items, first_new, index_of, item_value, news_from, touched_at, value_in, values_behind}
 
--- ys goes as xs up to what was entered at place p
+-- ys and xs are equal up to the item with place p
 abbrev IsSameBefore : ℕ → List Placed → List Placed → Type 0
 IsSameBefore p [] xs = Unit {0}
 IsSameBefore p (y ∷ ys) [] = (y.place == p) ≡ true
 IsSameBefore p (y ∷ ys) (x ∷ xs) = ((y.place == p) ≡ true) ⊎ ((y ≡ x) × IsSameBefore p ys xs)
 
--- each item elsewhere has the same value behind the same history
+-- each item with another place has the same value after the same history
 abbrev IsSameElsewhere : ℕ → (History → Placed → Json) → (History → Placed → Json) → Type 0
 IsSameElsewhere p v w = (h : History) (x : Placed) → (x.place == p) ≡ false → v h x ≡ w h x
 
@@ -68,7 +68,7 @@ same_before book (Write x) xs = same_written (length book) _ xs (grind (arith, n
 same_before book (Fix q x) xs = same_corrected q x xs
 same_before book (Late q x) xs = same_late (length book) _ xs (grind (arith, nat_tests))
 
--- an entry corrects nothing but what it touches
+-- an entry corrects only the item that it touches
 last_fix-push : (p k : ℕ) (o : Option ℕ) (es : List Entry) (e : Entry) → last_fix p k o (es ++ e ∷ []) ≡ fix_or p (k + length es) (last_fix p k o es) e
 last_fix-push p k o [] e = ap (λ n. fix_or p n o e) (omega arith)
 last_fix-push p k o (x ∷ es) e = last_fix-push p (k + 1) (fix_or p k o x) es e ∙ ap (λ n. fix_or p n (last_fix p k o (x ∷ es)) e) (omega arith)

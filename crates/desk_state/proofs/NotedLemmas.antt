@@ -1,4 +1,4 @@
--- A walk over what stands, and its overs by the list whose newest item is first.
+-- A walk over the clean list gives the overs of the list with the newest item first.
 use Rattle.std.proofs.Common.{arith, ◌≡◌, true, false, List, [], ◌∷◌, ◌++◌, length, reverse, refl, ap, ◌∙◌, sym, append_assoc, append-nil}
 use Rattle.std.specs.Prelude.{◌==◌}
 use Rattle.std.proofs.lemmas.List.{reverse-append}
@@ -9,7 +9,7 @@ use Rattle.desk_state.specs.declared.deliveries.Delivery.{Delivery}
 use Rattle.desk_state.specs.Over.{over_shown, this_or_last}
 use Rattle.desk_state.specs.inner.Items.{Noted, noted_behind, noted_of, none_noted}
 
--- the walk goes on from what stands before
+-- the walk goes on from the items before
 noted_all : (before xs : List Placed) → noted_behind (noted_of before) xs ≡ noted_of (reverse xs ++ before)
 noted_all before [] = refl
 noted_all before (x ∷ xs) =
@@ -19,7 +19,7 @@ noted_all before (x ∷ xs) =
 pub noted_in_all : (xs : List Placed) → noted_behind none_noted xs ≡ noted_of (reverse xs)
 noted_in_all xs = noted_all [] xs ∙ ap noted_of (append-nil (reverse xs))
 
--- this over, or the last one where this is empty
+-- this over, or the last one while this one is empty
 last_chosen : (this last : List Delivery) → (length this == 0) ≡ true → last ≡ this_or_last this last
 last_chosen [] last e = refl
 last_chosen (d ∷ ds) last e = grind arith
@@ -28,7 +28,7 @@ this_chosen : (this last : List Delivery) → (length this == 0) ≡ false → t
 this_chosen [] last e = absurd cc
 this_chosen (d ∷ ds) last e = refl
 
--- behind all that stands in a book
+-- after all items of a book
 noted_book : (book : List Entry) (items : List Placed) (s : Noted) → items ≡ clean_items_of book → s ≡ noted_behind none_noted items
     → this_or_last s.this s.last ≡ over_shown book
 noted_book book items s all is =

@@ -1,4 +1,4 @@
--- What a state offers, the Laws take.
+-- The Laws accept what a state offers.
 use Rattle.std.proofs.Common.{arith, ◌≡◌, ◌⊎◌, inl, inr, ℕ, ◌<◌, ◌≤◌, Bool, true, false, ◌&&◌, ◌||◌, nat_eq, nat_le, Option, Some, None, length, refl, ap, ◌∙◌}
 use Rattle.std.specs.Prelude.{◌==◌, is_none, option_map, if◌then◌else◌}
 use Rattle.std.proofs.lemmas.Bool.{and_parts, cases_Bool}
@@ -73,7 +73,7 @@ come_taken n h p may = none_is (refusal n h (Plain.Come p)) may
 
 -- ---- what is wanted
 
--- a match without a result
+-- the match has no result yet
 record GoesOn (n : ℕ) (h : History) : Type 0 where
   decided : is_decided n h ≡ false
   closed : is_closed h ≡ false
@@ -151,7 +151,7 @@ call_taken n h room e =
 
 -- ---- an innings
 
--- one side may begin, by the innings that each has begun
+-- one of the sides may begin, by the number of innings that each has begun
 abbrev is_wrong : ℕ → ℕ → ℕ → Bool
 is_wrong n own other = (own == n) || ((own == 1) && (other == 0))
 

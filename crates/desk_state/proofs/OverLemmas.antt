@@ -1,4 +1,4 @@
--- The deliveries that are shown, by the history.
+-- The deliveries shown, as a function of the history.
 use Rattle.std.proofs.Common.{arith, ◌≡◌, List, [], ◌∷◌, ◌++◌, map, reverse, refl, sym, ap, ◌∙◌}
 use Rattle.std.proofs.lemmas.List.{map_push, reverse-append, reverse-reverse}
 use Rattle.notation.specs.declared.entry.{Ball.Ball, Plain.Plain, Entry.Entry}

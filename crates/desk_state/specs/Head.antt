@@ -1,4 +1,4 @@
--- Whose state it is: the match, the desk, where it stands, its own vote there, and the lines that it holds. s is the sheet.
+-- The match, the desk, its position, its own vote there, and its held lines. s is the sheet.
 use Rattle.std.specs.Prelude.{ℕ, List, [], ◌∷◌, ◌++◌, Option, map, option_map, codes, decimal}
 use Rattle.arrayvec.specs.ArrayString.{ArrayString}
 use Rattle.notation.specs.declared.entry.Entry.{Entry}
@@ -14,14 +14,14 @@ abbrev pub desk_text : DeskId → List ℕ
 desk_text A = codes "a"
 desk_text B = codes "b"
 
--- The match number is a text, since a reader's numbers may not go so far.
+-- The match number is a text, since a reader's numbers may not be large enough for it.
 abbrev pub match_fields : Sheet → List Field
 match_fields s =
     text_field (codes "format") (codes "yermudosh desk 1") ∷ []
     ++ text_field (codes "match") (decimal s.game) ∷ []
     ++ text_field (codes "title") s.title ∷ []
 
--- the desk, and the position that it votes on
+-- the desk, and the position at which it votes
 abbrev pub desk_fields : DeskId → Position → List Field
 desk_fields desk at =
     text_field (codes "desk") (desk_text desk) ∷ []
@@ -31,11 +31,11 @@ desk_fields desk at =
 abbrev pub whose_fields : Sheet → DeskId → Position → List Field
 whose_fields s desk at = match_fields s ++ desk_fields desk at
 
--- its own vote of this position in full, where it is cast
+-- its own vote at this position in full, if it has cast one
 abbrev pub pending_field : Option Entry → Field
 pending_field own = (codes "pending", text_or_null (option_map text_of own))
 
--- lines as they were typed
+-- the lines as they were typed
 abbrev pub lines_values : List ArrayString → List Json
 lines_values lines = map (λ l. string l.bytes) lines
 

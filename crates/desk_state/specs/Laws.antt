@@ -1,5 +1,5 @@
--- What a desk's state shows of its book, what its news are, and that the Laws take what it offers. s is the sheet, n the innings a side and h
--- the history.
+-- What a desk's state shows of its book, what its news is, and that the Laws accept what it offers. s is the sheet, n the
+-- innings a side and h the history.
 use Rattle.std.specs.Prelude.{◌≡◌, ◌⊎◌, ℕ, ◌<◌, ◌≤◌, true, false, None, List, [], ◌∷◌, ◌++◌, map, reverse, take, drop}
 use Rattle.notation.specs.declared.entry.{TheConstants.PLACES, Plain.Plain, Entry.Entry}
 use Rattle.notation.specs.declared.entry.Side.TheVariants.{Home, Away}
@@ -17,18 +17,18 @@ use Rattle.desk_state.specs.Players.{dot_of, may_bowl, may_come_in}
 use Rattle.desk_state.specs.Over.{over_shown}
 use Rattle.desk_state.specs.Book.{book_items, news_from}
 
--- The deliveries of `over` are those of the over in which the last delivery of the innings was bowled, in their order.
+-- The deliveries of `over` are those of the over in which the last delivery of the innings was bowled, in order.
 abbrev pub ShowsTheOver : List Entry → Type 0
 ShowsTheOver book = map (λ d. d.ball) (over_shown book) ≡ reverse (over_now (history_of book))
 
--- Who has what stood in a book, and puts the news of its next entry in the stead of all from there on, has what stands then.
+-- A reader of a book's items who replaces everything from the news' index on by the news of the next entry has the new items.
 abbrev pub IsSpliced : List Entry → Entry → Type 0
 IsSpliced book e =
     take (news_from (book ++ e ∷ [])) (book_items book) ++ drop (news_from (book ++ e ∷ [])) (book_items (book ++ e ∷ []))
     ≡ book_items (book ++ e ∷ [])
 
--- Who may come in isn't refused; nor is, with both batters in, a delivery of who may bowl. While the match has room, the call
--- of over isn't refused where it is wanted, and where an innings is wanted a side may begin one.
+-- A batter who may come in isn't refused; nor, with both batters in, is a delivery by a bowler who may bowl. While the match
+-- has room, the call of over isn't refused when it is wanted, and when an innings is wanted one of the sides may begin it.
 pub record IsTaken (s : Sheet) (n : ℕ) (h : History) : Type 0 where
   pub batter : (p : ℕ) → may_come_in n h p ≡ true → refusal n h (Plain.Come p) ≡ None
   pub delivery : (p : ℕ) → has_vacancy (state_after h).ends ≡ false → may_bowl s n h p ≡ true → refusal n h (Plain.Ball (dot_of p)) ≡ None

@@ -1,4 +1,4 @@
--- What the public call claims: Value with all that it cites.
+-- The specification of the public functions: Value with all that it cites.
 pub mod Wants
 pub mod Players
 pub mod Over

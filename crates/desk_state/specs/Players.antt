@@ -13,29 +13,29 @@ use Rattle.cards.specs.Sheet.{Sheet}
 use Rattle.json.specs.Json.{Json}
 use Rattle.json_fields.specs.Values.{array_of, number_value}
 
--- the Laws don't refuse it that player p comes in
+-- the Laws don't refuse that player p comes in
 abbrev pub may_come_in : ℕ → History → ℕ → Bool
 may_come_in n h p = is_none (refusal n h (Plain.Come p))
 
--- those of the side that bats
+-- the players of the batting side who may come in
 abbrev pub batters : ℕ → History → List ℕ
 batters n h = filter (may_come_in n h) numbers
 
--- a delivery of player p with no runs
+-- a delivery by player p with no runs
 abbrev pub dot_of : ℕ → Ball
 dot_of p = record { bowler = p; kind = Bat; ran = 0; short = 0; bound = Run; dead = false; out = None }
 
--- the Laws take a delivery, or refuse it only since a place at the wicket is empty
+-- the Laws accept a delivery, or refuse it only because a batter has to come in first
 abbrev pub is_playable : Option LawRefusal → Bool
 is_playable None = true
 is_playable (Some (LawRefusal.Ball NoBatter)) = true
 is_playable (Some why) = false
 
--- player p may bowl the next delivery: he has overs left, bowled none of the over before, and the Laws take it of him
+-- player p may bowl the next delivery: he has overs left, bowled none of the over before, and the Laws accept his delivery
 abbrev pub may_bowl : Sheet → ℕ → History → ℕ → Bool
 may_bowl s n h p = limits.may_bowl s.limits.overs_a_bowler p h && is_playable (refusal n h (Plain.Ball (dot_of p)))
 
--- those of the side that fields
+-- the players of the fielding side who may bowl
 abbrev pub bowlers : Sheet → ℕ → History → List ℕ
 bowlers s n h = filter (may_bowl s n h) numbers
 

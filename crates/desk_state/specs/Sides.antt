@@ -1,4 +1,4 @@
--- Both sides: their names, and those of their players in the order of their numbers. s is the sheet.
+-- Both sides: their names, and the names of their players in the order of their numbers. s is the sheet.
 use Rattle.std.specs.Prelude.{ℕ, List, [], ◌∷◌, ◌++◌, map, codes}
 use Rattle.notation.specs.declared.entry.Side.{Side}
 use Rattle.notation.specs.declared.entry.Side.TheVariants.{Home, Away}

@@ -1,5 +1,5 @@
--- The state of a desk as one JSON value: a function of the sheet s, of the book with n innings a side, of the desk and its
--- position, of its own vote there, and of the lines that it holds. Nothing of it is the other desk's vote.
+-- The state of a desk as one JSON value: a function of the sheet s, the book with n innings a side, the desk and its position,
+-- its own vote there, and its held lines. Nothing in it depends on the other desk's vote.
 use Rattle.std.specs.Prelude.{ℕ, List, [], ◌∷◌, ◌++◌, Option, codes}
 use Rattle.arrayvec.specs.ArrayString.{ArrayString}
 use Rattle.notation.specs.declared.entry.Entry.{Entry}
@@ -19,14 +19,14 @@ use Rattle.desk_state.specs.Book.{news_field}
 use Rattle.desk_state.specs.Sides.{sides_field}
 use Rattle.desk_state.specs.Head.{head_fields, whose_fields}
 
--- what comes next, by the history h
+-- what comes next after the history h
 abbrev pub next_fields : Sheet → ℕ → History → List Field
 next_fields s n h =
     text_field (codes "wants") (wants_text (wants n h)) ∷ []
     ++ (codes "may_come_in", numbers_value (batters n h)) ∷ []
     ++ (codes "may_bowl", numbers_value (bowlers s n h)) ∷ []
 
--- the board's value is that of a board with the same book
+-- the fields of a book; `board` is the value of a board with the same book
 abbrev pub book_fields : Sheet → ℕ → List Entry → List Field
 book_fields s n book =
     next_fields s n (history_of book)
@@ -42,8 +42,8 @@ state_value s n book desk at own held = object_of (head_fields s desk at own hel
 abbrev pub state_text : Sheet → ℕ → List Entry → DeskId → Position → Option Entry → List ArrayString → List ℕ
 state_text s n book desk at own held = print (json_tokens (state_value s n book desk at own held)) ++ codes "\n"
 
--- what anybody may read of it: without its own vote, and without the lines that it holds. It is a function of the sheet, the
--- book, the desk and its position alone
+-- what anyone may read of it: all but its own vote and its held lines. It is a function of only the sheet, the book, the desk
+-- and its position
 abbrev pub open_value : Sheet → ℕ → List Entry → DeskId → Position → Json
 open_value s n book desk at = object_of (whose_fields s desk at ++ book_fields s n book)
 

@@ -1,4 +1,4 @@
--- What a match wants next: what a scorer is about to write. n is the innings a side and h the history.
+-- What a match wants next: what the scorer has to write. n is the innings a side and h the history.
 use Rattle.std.specs.Prelude.{ℕ, Bool, true, false, nat_le, if◌then◌else◌, Option, Some, None, List, codes}
 use Rattle.ball_laws.specs.History.{History, open_over}
 use Rattle.ball_laws.specs.Ends.{has_vacancy}
@@ -16,22 +16,22 @@ abbrev pub is_undecided : Outcome → Bool
 is_undecided Undecided = true
 is_undecided _ = false
 
--- of an over whose last delivery was bowled by this player, a delivery; of one that has none yet, who bowls
+-- with the bowler of the over's last delivery: a delivery; while the over has none yet: its bowler
 abbrev pub wants_delivery : Option ℕ → Wants
 wants_delivery None = Wants.Bowler
 wants_delivery (Some p) = Wants.Ball
 
--- with both batters in: the call of over, where six deliveries count
+-- with both batters in: the call of over, once six deliveries have counted
 abbrev pub wants_of_over : ℕ → Option ℕ → Wants
 wants_of_over counted bowler = if nat_le 6 counted then Wants.Over else wants_delivery bowler
 
--- while an innings is open: a batter, where a place at the wicket is empty
+-- while an innings is open: a batter, if a place at the crease is empty
 abbrev pub wants_in_play : History → Wants
 wants_in_play h =
     if has_vacancy (state_after h).ends then Wants.Batter
     else wants_of_over (balls h (current h)) (newest_bowler (open_over h))
 
--- an innings, where none is open; and nothing once there is a result
+-- an innings while none is open; nothing once there is a result
 abbrev pub wants : ℕ → History → Wants
 wants n h =
     if is_undecided (outcome n h) then (if is_open h then wants_in_play h else Wants.Innings)

@@ -1,5 +1,5 @@
--- Worked rows, computed from the overs of limits' scorecard: 7 bowls the first over and the third, 8 and 9 the second, of two
--- that a bowler may have; Away need 12 more after an over of their innings.
+-- Worked examples, computed from the overs of limits' scorecard: 7 bowls the first over and the third, 8 and 9 share the
+-- second; a bowler may bowl two overs. Away need 12 more after an over of their innings.
 use Rattle.std.specs.Prelude.{◌≡◌, ℕ, List, [], ◌∷◌, ◌++◌, map, codes}
 use Rattle.notation.specs.declared.entry.Side.TheVariants.{Home}
 use Rattle.notation.specs.declared.entry.Kind.TheVariants.{Bat}
@@ -24,11 +24,11 @@ use Rattle.desk_state.specs.Book.{book_text, news_from}
 abbrev pub begun : History
 begun = Innings Home ∷ []
 
--- the striker, who is 1, is bowled
+-- batter 1, the striker, is bowled
 abbrev pub one_out : History
 one_out = with_items one_ball (Bowl (with_out Bowled Striker 0 (ball 7 Bat 0)) ∷ [])
 
--- 2 retires hurt, and then 4 is timed out, who let him come in again
+-- batter 2 retires hurt; then 4 is timed out, so that 2 may come in again
 abbrev pub one_hurt : History
 one_hurt = with_items one_ball (Gone RetiredHurt 2 ∷ [])
 
@@ -61,18 +61,18 @@ pub record WorkedBowlers : Type 0 where
   pub after_three : bowlers sheet 1 three_overs ≡ 1 ∷ 2 ∷ 3 ∷ 4 ∷ 5 ∷ 6 ∷ 8 ∷ 9 ∷ 10 ∷ 11 ∷ []
   pub after_match : bowlers sheet 1 (End Overs ∷ three_overs) ∷ bowlers sheet 1 won ∷ [] ≡ [] ∷ [] ∷ []
 
--- at places 3 and 4 two deliveries; at 5 one that belongs behind the first; and the one at 4 is corrected at 6
+-- two deliveries at places 3 and 4; at 5 a delivery that belongs after the first; at 6 a correction of 4
 abbrev pub late_book : List Entry
 late_book =
     Write (Innings Home) ∷ Write (Come 1) ∷ Write (Come 2) ∷ Write (run 7 1) ∷ Write (dot 7) ∷ Late 3 (run 7 2) ∷ Fix 4 (four 7) ∷ []
 
--- then the over is called, and the one at 3 was no delivery
+-- the same deliveries; then over is called, and a correction says that there was no delivery at place 3
 abbrev pub called_book : List Entry
 called_book =
     Write (Innings Home) ∷ Write (Come 1) ∷ Write (Come 2) ∷ Write (run 7 1) ∷ Write (dot 7) ∷ Late 3 (run 7 2) ∷ Write Over
     ∷ Fix 3 Plain.Void ∷ []
 
--- what a page has of the first of them, and of its correction: 1 runs one, and so 2 faces what follows
+-- the book of late_book as a page has it: 1 runs one, and so 2 faces the next deliveries
 abbrev pub late_text : List ℕ
 late_text =
     codes "{\"entries\":7,\"items\":[{\"place\":0,\"line\":\"innings home\",\"by\":null},"

@@ -1,4 +1,4 @@
--- What serves private functions only.
+-- Definitions for private functions only.
 pub mod Before
 pub mod Corrected
 pub mod Items

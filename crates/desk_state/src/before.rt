@@ -1,4 +1,4 @@
-//! What came before an item.
+//! The state of the match before an item.
 
 ghost use Rattle.std.specs.Prelude.{◌≡◌, ◌+◌, ◌∷◌, [], None, ℕ};
 ghost use Rattle.notation.specs.declared.entry.TheConstants.{PLACES};
@@ -10,7 +10,7 @@ use ball_laws::Crease;
 use notation::{Plain, Player};
 use over_numbers::Count;
 
-/// How far a match has come, and who is in, before an item.
+/// The count of the match and the batters at the crease, before an item.
 #[derive(Clone, Copy)]
 pub struct Before {
     pub count: Count,
@@ -29,14 +29,14 @@ impl Before {
         }
     }
 
-    /// Who is at the end that is bowled to.
+    /// Returns the batter at the end that is bowled to.
     pub fn striker(&self) -> Option<Player>
         ensures { (h : History) → HasCome h self.now → result ≡ (state_after h).ends.striker }
     {
         self.crease.ends().striker
     }
 
-    /// Behind an item that the Laws take.
+    /// Returns the state after an item that the Laws accept.
     pub fn after(&self, item: &Plain) -> Before
         requires { IsWithin PLACES self.now }
         ensures come { (h : History) → HasCome h self.now → refusal (state_after h) item.now ≡ None → HasCome (item.now ∷ h) result }

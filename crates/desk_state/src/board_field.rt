@@ -1,4 +1,4 @@
-//! The board's value.
+//! The value that a board with this book shows.
 
 ghost use Rattle.std.specs.Prelude.{◌≡◌, ◌∷◌, ◌++◌, [], OnOk, codes};
 ghost use Rattle.json.specs.Token.{key};
@@ -12,14 +12,14 @@ use json_fields::{Compact, Tokens};
 use scoreboard::put_board_value;
 use std::alloc::{AllocError, Global};
 
-/// Puts the field's name.
+/// Puts the field's name, `board`.
 fn put_name(out: &mut Compact) -> Result<(), AllocError>
     ensures { OnOk result (out.new ≡ out.old ++ key (codes "board") ∷ []) }
 {
     out.token(Token::Key("board"))
 }
 
-/// Puts the field of it.
+/// Puts the `board` field.
 pub fn put_board_field<B: BookOf>(
     out: &mut Compact,
     alloc: Global,

@@ -1,4 +1,4 @@
-//! Which entries of a book correct which.
+//! Which entry of a book corrects which.
 
 ghost use Rattle.std.specs.Prelude.{◌≡◌, ◌<◌, IfOk, None, get_or, length};
 ghost use Rattle.desk_state.specs.inner.Corrected as laws;
@@ -7,7 +7,7 @@ use corrections::BookOf;
 use notation::Entry;
 use std::alloc::{AllocError, Global};
 
-/// Notes what an entry at this place corrects, if it does.
+/// Notes the entry that this one corrects, if it is a correction.
 fn note(by: &mut Vec<Option<u32>>, place: u32, entry: &Entry)
     ensures { by.new.items ≡ laws.with_entry place entry.now by.old.items }
 {
@@ -19,7 +19,7 @@ fn note(by: &mut Vec<Option<u32>>, place: u32, entry: &Entry)
     }
 }
 
-/// Of each place the place of the entry that corrects what was entered there, if one does.
+/// Returns for each place the place of the entry that corrects the one there, if any does.
 pub fn corrected_by<B: BookOf>(alloc: Global, book: &B) -> Result<Vec<Option<u32>>, AllocError>
     ensures { IfOk result (λ by. laws.IsCorrectedBy (B.content book.now) by.items) }
 {
@@ -30,7 +30,7 @@ pub fn corrected_by<B: BookOf>(alloc: Global, book: &B) -> Result<Vec<Option<u32
     Ok(by)
 }
 
-/// What is noted of a place.
+/// Returns the place noted for this place.
 pub fn noted_at(by: &[Option<u32>], place: u32) -> Option<u32>
     requires { place < length by.now }
     ensures { result ≡ get_or by.now place None }

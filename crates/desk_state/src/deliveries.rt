@@ -1,4 +1,4 @@
-//! The deliveries of the over that is on, and of the last one, with their places.
+//! The deliveries of the current over and of the last one, with their places.
 
 ghost use Rattle.std.specs.Prelude.{◌≡◌, [], IfOk, OnOk};
 ghost use Rattle.desk_state.specs.Over as laws;
@@ -10,14 +10,14 @@ use std::alloc::{AllocError, Global};
 use std::marker::Model;
 use std::mem;
 
-/// A delivery with the place at which it was entered.
+/// A delivery with the place of its entry.
 #[derive(Clone, Copy)]
 pub struct Delivery {
     pub place: u32,
     pub ball: Ball,
 }
 
-/// The over that is on, and the one called last, behind some of what stands.
+/// The current over and the over called last.
 #[derive(Drop)]
 struct Deliveries {
     this: Vec<Delivery>,
@@ -33,7 +33,7 @@ impl Model for Deliveries {
 }
 
 impl Deliveries {
-    /// Before all that stands.
+    /// Begins before the first item.
     fn new(alloc: Global) -> Deliveries
         ensures { result ≡ items.none_noted }
     {
@@ -43,7 +43,7 @@ impl Deliveries {
         }
     }
 
-    /// The over is called.
+    /// Ends the current over, when it is called.
     fn call(&mut self)
         ensures this { self.new.this ≡ [] }
         ensures last { self.new.last ≡ self.old.this }
@@ -52,7 +52,7 @@ impl Deliveries {
         self.this.clear();
     }
 
-    /// An innings begins, or ends.
+    /// Forgets both overs, when an innings begins or ends.
     fn clear(&mut self)
         ensures { self.new ≡ items.none_noted }
     {
@@ -60,7 +60,7 @@ impl Deliveries {
         self.last.clear();
     }
 
-    /// With an item more.
+    /// Takes one more item.
     fn take(&mut self, placed: &Placed) -> Result<(), AllocError>
         ensures { OnOk result (self.new ≡ items.noted_after placed.now self.old) }
     {
@@ -77,7 +77,7 @@ impl Deliveries {
     }
 }
 
-/// Behind these items.
+/// Returns both overs after these items.
 fn deliveries_behind(alloc: Global, placed: &[Placed]) -> Result<Deliveries, AllocError>
     ensures { IfOk result (λ d. d ≡ items.noted_behind items.none_noted placed.now) }
 {
@@ -88,7 +88,7 @@ fn deliveries_behind(alloc: Global, placed: &[Placed]) -> Result<Deliveries, All
     Ok(deliveries)
 }
 
-/// The deliveries of the over that is on, or of the last one where that has none yet.
+/// Returns the deliveries of the current over, or of the last one while the current over has none.
 pub fn over_shown<B: BookOf>(alloc: Global, book: &B) -> Result<Vec<Delivery>, AllocError>
     ensures { IfOk result (λ over. over.items ≡ laws.over_shown (B.content book.now)) }
 {

@@ -1,4 +1,4 @@
-//! Whose state it is.
+//! The match, the desk and its position, its own vote and its held lines.
 
 ghost use Rattle.std.specs.Prelude.{◌≡◌, ◌∷◌, [], IfSome};
 ghost use Rattle.notation.specs.Written.{IsEntry};
@@ -13,7 +13,7 @@ use links::HeldLine;
 use notation::{Entry, line_of};
 use std::alloc::AllocError;
 
-/// The desk's letter.
+/// Returns the desk's letter.
 fn letter(desk: DeskId) -> &'static str
     ensures { result.now ≡ laws.desk_text desk }
 {
@@ -23,7 +23,7 @@ fn letter(desk: DeskId) -> &'static str
     }
 }
 
-/// Puts which match it is.
+/// Puts the format, and the match's number and title.
 fn put_match(out: &mut Compact, sheet: &MatchSheet) -> Result<(), AllocError>
     ensures { PutsFields result out.old out.new (laws.match_fields sheet.now) }
 {
@@ -33,7 +33,7 @@ fn put_match(out: &mut Compact, sheet: &MatchSheet) -> Result<(), AllocError>
     put_text(out, "title", sheet.title())
 }
 
-/// Puts which desk it is, and where it stands.
+/// Puts the desk's letter, and the position at which it votes.
 fn put_desk(out: &mut Compact, desk: DeskId, at: Position) -> Result<(), AllocError>
     ensures { PutsFields result out.old out.new (laws.desk_fields desk at) }
 {
@@ -42,7 +42,7 @@ fn put_desk(out: &mut Compact, desk: DeskId, at: Position) -> Result<(), AllocEr
     put_figure(out, "round", at.round)
 }
 
-/// Puts which match and which desk it is, and where it stands.
+/// Puts the match, the desk, and the position at which it votes.
 pub fn put_whose(
     out: &mut Compact,
     sheet: &MatchSheet,
@@ -55,7 +55,7 @@ pub fn put_whose(
     put_desk(out, desk, at)
 }
 
-/// Puts its own vote.
+/// Puts the desk's own vote, or null if it hasn't cast one.
 fn put_pending(out: &mut Compact, own: Option<Entry>) -> Result<(), AllocError>
     requires { IfSome own IsEntry }
     ensures { PutsFields result out.old out.new (laws.pending_field own ∷ []) }
@@ -76,7 +76,7 @@ fn put_lines(out: &mut Compact, lines: &[HeldLine]) -> Result<(), AllocError>
     Ok(())
 }
 
-/// Puts the lines that it holds.
+/// Puts the desk's held lines.
 fn put_held(out: &mut Compact, held: &[HeldLine]) -> Result<(), AllocError>
     ensures { PutsFields result out.old out.new (laws.held_field held.now ∷ []) }
 {
@@ -85,7 +85,7 @@ fn put_held(out: &mut Compact, held: &[HeldLine]) -> Result<(), AllocError>
     end_array(out)
 }
 
-/// Puts whose state it is.
+/// Puts the match, the desk, its position, its own vote and its held lines.
 pub fn put_head(
     out: &mut Compact,
     sheet: &MatchSheet,

@@ -1,4 +1,4 @@
-//! All that stands in a book.
+//! All items of a book's clean list.
 
 ghost use Rattle.std.specs.Prelude.{◌≡◌, ◌∷◌, ◌<◌, [], None, Some, drop, get_or, if◌then◌else◌, length, slice_get};
 ghost use Rattle.notation.specs.declared.entry.TheConstants.{PLACES};
@@ -14,7 +14,7 @@ use corrections::{BookOf, Placed};
 use json_fields::Compact;
 use std::alloc::{AllocError, Global};
 
-/// What stands at an index.
+/// Returns the item at an index.
 fn placed_at(items: &[Placed], index: usize) -> Placed
     requires { index < length items.now }
     ensures { slice_get items.now index ≡ Some result }
@@ -22,7 +22,7 @@ fn placed_at(items: &[Placed], index: usize) -> Placed
     items[index]
 }
 
-/// Puts an item, where it is wanted.
+/// Puts an item if it is wanted, and otherwise nothing.
 fn put_if(
     out: &mut Compact,
     alloc: Global,
@@ -51,7 +51,7 @@ fn put_if(
     )
 }
 
-/// Puts what stands in a book, in the order of the match, from this index on.
+/// Puts the items of a book's clean list, in the order of the match, from this index on.
 pub fn put_items<B: BookOf>(
     out: &mut Compact,
     alloc: Global,
@@ -61,7 +61,7 @@ pub fn put_items<B: BookOf>(
     ensures { PutsValues result out.old out.new (drop from (laws.book_items (B.content book.now))) }
 {
     let by = corrected_by(alloc, book)?;
-    // A book has a score: so the Laws took what stands in it, item by item.
+    // A book has a score, so the Laws accepted its items one after another.
     let _score = book.score();
     let items = book.clean_items();
     let mut before = Before::none();

@@ -1,5 +1,5 @@
-//! The state of a desk as one JSON value, for a page that a scorer taps at: what the match wants next, who may come in
-//! and who may bowl, this over with its places, both sides, the desk's own vote and the lines that are held.
+//! The state of a desk as one JSON value, for the page on which a scorer taps: what the match wants next, who may come in and
+//! who may bowl, this over with its places, both sides, the desk's own vote and its held lines.
 #![tactic(auto, using(json_fields::proofs::Putting::json_parts), unfolding(json_fields::specs::Values::fields_tokens, json_fields::specs::Values::values_tokens))]
 
 mod before;

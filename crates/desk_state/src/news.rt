@@ -1,4 +1,4 @@
-//! What is new in a book.
+//! The news of a book: the items that its newest entry may have changed.
 
 ghost use Rattle.std.specs.Prelude.{◌≡◌, ◌∷◌, ◌≤◌, [], length};
 ghost use Rattle.notation.specs.declared.entry.TheConstants.{PLACES};
@@ -13,10 +13,10 @@ use json_fields::{
 use notation::Entry;
 use std::alloc::{AllocError, Global};
 
-/// Of how many items at most it is told what is new in them.
+/// The largest number of items that the news lists.
 const MOST_NEWS: usize = 64;
 
-/// Where that was entered which an entry at this place writes, adds or changes.
+/// Returns the place of the item that an entry at this place writes, adds or changes.
 fn touched_at(place: u32, entry: &Entry) -> u32
     ensures { result ≡ laws.touched_at place entry.now }
 {
@@ -26,7 +26,7 @@ fn touched_at(place: u32, entry: &Entry) -> u32
     }
 }
 
-/// The index of what was entered at this place.
+/// Returns the index of the item with this place, or the number of items if there is none.
 fn index_of(place: u32, items: &[Placed]) -> usize
     ensures value { result ≡ laws.index_of place items.now }
     ensures bound { result ≤ length items.now }
@@ -39,7 +39,7 @@ fn index_of(place: u32, items: &[Placed]) -> usize
     items.len()
 }
 
-/// The index from which the newest entry of a book may have changed what stands.
+/// Returns the index of the first item that the newest entry of a book may have changed.
 fn news_from<B: BookOf>(book: &B) -> usize
     ensures value { result ≡ laws.news_from (B.content book.now) }
     ensures bound { result ≤ PLACES }
@@ -52,14 +52,14 @@ fn news_from<B: BookOf>(book: &B) -> usize
     index_of(touched_at(len - 1, &newest), book.clean_items())
 }
 
-/// Puts how many entries a book has.
+/// Puts the number of entries of a book.
 pub fn put_entries<B: BookOf>(out: &mut Compact, book: &B) -> Result<(), AllocError>
     ensures { PutsFields result out.old out.new (laws.entries_field (B.content book.now) ∷ []) }
 {
     put_figure(out, "entries", book.len())
 }
 
-/// Puts the items from this index on, or that they are too many.
+/// Puts the items from this index on, or null if there are too many.
 fn put_from<B: BookOf>(
     out: &mut Compact,
     alloc: Global,
@@ -77,7 +77,7 @@ fn put_from<B: BookOf>(
     end_array(out)
 }
 
-/// Puts what is new in a book.
+/// Puts the news of a book.
 pub fn put_news<B: BookOf>(out: &mut Compact, alloc: Global, book: &B) -> Result<(), AllocError>
     ensures { PutsFields result out.old out.new (laws.news_field (B.content book.now) ∷ []) }
 {

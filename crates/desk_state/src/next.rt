@@ -1,4 +1,4 @@
-//! What comes next.
+//! What the match wants next.
 
 ghost use Rattle.std.specs.Prelude.{◌≡◌};
 ghost use Rattle.corrections.specs.CleanList.{history_of};

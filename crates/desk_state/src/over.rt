@@ -13,7 +13,7 @@ use json_fields::{
 };
 use std::alloc::{AllocError, Global};
 
-/// The text of a mark.
+/// Returns the text of a mark.
 pub fn text_of(alloc: Global, mark: Mark) -> Result<String, AllocError>
     ensures { IfOk result (λ text. string_bytes text ≡ marks.mark_text mark) }
 {
@@ -29,7 +29,7 @@ pub fn text_of(alloc: Global, mark: Mark) -> Result<String, AllocError>
     }
 }
 
-/// Puts a delivery.
+/// Puts a delivery with its place and its mark.
 fn put_delivery(out: &mut Compact, alloc: Global, delivery: &Delivery) -> Result<(), AllocError>
     ensures { PutsValues result out.old out.new (laws.delivery_value delivery.now ∷ []) }
 {

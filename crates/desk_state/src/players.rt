@@ -25,7 +25,7 @@ fn may_come_in<B: BookOf>(book: &B, player: Player) -> bool
     book.check(&Entry::Write(Plain::Come(player))).is_ok()
 }
 
-/// A delivery of a player with no runs.
+/// A delivery by this bowler with no runs.
 fn dot_of(player: Player) -> Ball
     ensures { result ≡ laws.dot_of player }
 {
@@ -40,14 +40,14 @@ fn dot_of(player: Player) -> Ball
     }
 }
 
-/// Whether a delivery is refused only since a place at the wicket is empty.
+/// Whether a delivery is refused only because a batter has to come in first.
 fn is_vacancy(why: Refusal) -> bool
     ensures { result ≡ is_vacancy why }
 {
     matches!(why, Refusal::Law(LawRefusal::Ball(BallRefusal::NoBatter)))
 }
 
-/// Whether the Laws take a delivery of a player, or refuse it only since a place at the wicket is empty.
+/// Whether the Laws accept a delivery by this bowler, or refuse it only because a batter has to come in first.
 fn is_playable<B: BookOf>(book: &B, player: Player) -> bool
     ensures { result ≡ laws.is_playable (refusal (B.innings_a_side book.now)
         (history_of (B.content book.now)) (APlain.Ball (laws.dot_of player))) }
@@ -65,7 +65,7 @@ fn may_bowl<B: BookOf>(sheet: &MatchSheet, book: &B, player: Player) -> bool
     limits::may_bowl(book, sheet.limits().overs_a_bowler(), player) && is_playable(book, player)
 }
 
-/// Puts a number, where it is wanted.
+/// Puts a number if it is wanted, and otherwise nothing.
 fn put_if(out: &mut Compact, holds: bool, number: u8) -> Result<(), AllocError>
     ensures { PutsValues result out.old out.new (number_if holds number) }
 {
@@ -75,7 +75,7 @@ fn put_if(out: &mut Compact, holds: bool, number: u8) -> Result<(), AllocError>
     put_integer(out, u64::from(number))
 }
 
-/// Puts those of these numbers who may come in.
+/// Puts those of these players who may come in.
 fn put_batters<B: BookOf>(out: &mut Compact, book: &B, numbers: &[u8]) -> Result<(), AllocError>
     requires { list_all is_player numbers.now ≡ true }
     ensures { PutsValues result out.old out.new (map number_value
@@ -91,7 +91,7 @@ fn put_batters<B: BookOf>(out: &mut Compact, book: &B, numbers: &[u8]) -> Result
     put_batters(out, book, more)
 }
 
-/// Puts those of these numbers who may bowl.
+/// Puts those of these players who may bowl.
 fn put_bowlers<B: BookOf>(
     out: &mut Compact,
     sheet: &MatchSheet,
@@ -112,7 +112,7 @@ fn put_bowlers<B: BookOf>(
     put_bowlers(out, sheet, book, more)
 }
 
-/// Puts all who may come in.
+/// Puts all players who may come in.
 fn put_all_batters<B: BookOf>(out: &mut Compact, book: &B) -> Result<(), AllocError>
     ensures { PutsValues result out.old out.new (map number_value
         (laws.batters (B.innings_a_side book.now) (history_of (B.content book.now)))) }
@@ -121,7 +121,7 @@ fn put_all_batters<B: BookOf>(out: &mut Compact, book: &B) -> Result<(), AllocEr
     put_batters(out, book, &numbers)
 }
 
-/// Puts all who may bowl.
+/// Puts all players who may bowl.
 fn put_all_bowlers<B: BookOf>(
     out: &mut Compact,
     sheet: &MatchSheet,
@@ -134,7 +134,7 @@ fn put_all_bowlers<B: BookOf>(
     put_bowlers(out, sheet, book, &numbers)
 }
 
-/// Puts the field of who may come in.
+/// Puts the field of the players who may come in.
 pub fn put_may_come_in<B: BookOf>(out: &mut Compact, book: &B) -> Result<(), AllocError>
     ensures { PutsFields result out.old out.new ((
       codes "may_come_in",
@@ -147,7 +147,7 @@ pub fn put_may_come_in<B: BookOf>(out: &mut Compact, book: &B) -> Result<(), All
     end_array(out)
 }
 
-/// Puts the field of who may bowl.
+/// Puts the field of the players who may bowl.
 pub fn put_may_bowl<B: BookOf>(
     out: &mut Compact,
     sheet: &MatchSheet,

@@ -1,4 +1,4 @@
-//! Both sides.
+//! The names of both sides and their players.
 
 ghost use Rattle.std.specs.Prelude.{◌≡◌, ◌∷◌, [], true};
 ghost use Rattle.std.specs.List.{list_all};
@@ -32,7 +32,7 @@ fn put_names(
     put_names(out, sheet, side, more)
 }
 
-/// Puts the names of all players.
+/// Puts the names of all eleven players.
 fn put_all_names(out: &mut Compact, sheet: &MatchSheet, side: Side) -> Result<(), AllocError>
     ensures { PutsValues result out.old out.new (laws.names_of sheet.now side all_numbers) }
 {

@@ -1,4 +1,4 @@
-//! An item that stands in a book.
+//! An item of a book's clean list.
 
 ghost use Rattle.std.specs.Prelude.{◌≡◌, ◌∷◌, [], ◌≤◌};
 ghost use Rattle.notation.specs.declared.entry.TheConstants.{PLACES};
@@ -14,7 +14,7 @@ use notation::{Ball, Entry, Plain, Player, line_of};
 use over_numbers::Count;
 use std::alloc::{AllocError, Global};
 
-/// Puts a number, or that there is none.
+/// Puts a number, or null if there is none.
 fn put_or_null(out: &mut Compact, name: &str, number: Option<u32>) -> Result<(), AllocError>
     ensures { PutsFields result out.old out.new (laws.number_or_null name.now number ∷ []) }
 {
@@ -24,7 +24,7 @@ fn put_or_null(out: &mut Compact, name: &str, number: Option<u32>) -> Result<(),
     }
 }
 
-/// Puts a player's number, or that there is nobody.
+/// Puts a player's number, or null if there is none.
 fn put_player(out: &mut Compact, name: &str, player: Option<Player>) -> Result<(), AllocError>
     ensures { PutsFields result out.old out.new (laws.number_or_null name.now player ∷ []) }
 {
@@ -34,7 +34,7 @@ fn put_player(out: &mut Compact, name: &str, player: Option<Player>) -> Result<(
     }
 }
 
-/// Puts the innings of a delivery, its over and its number there.
+/// Puts the innings of a delivery, its over and its number in that over.
 fn put_numbers(out: &mut Compact, count: Count) -> Result<(), AllocError>
     requires begun { count.begun ≤ PLACES }
     requires overs { count.overs ≤ PLACES }
@@ -46,7 +46,7 @@ fn put_numbers(out: &mut Compact, count: Count) -> Result<(), AllocError>
     put_figure(out, "ball", count.balls + 1)
 }
 
-/// Puts who faces it and who bowls it.
+/// Puts the batter who faces the delivery, and the bowler.
 fn put_players(out: &mut Compact, striker: Option<Player>, ball: &Ball) -> Result<(), AllocError>
     ensures { PutsFields result out.old out.new (laws.player_fields striker ball.now) }
 {
@@ -54,7 +54,7 @@ fn put_players(out: &mut Compact, striker: Option<Player>, ball: &Ball) -> Resul
     put_figure(out, "bowler", u32::from(ball.bowler.number()))
 }
 
-/// Puts its mark.
+/// Puts the delivery's mark.
 fn put_mark(out: &mut Compact, alloc: Global, ball: &Ball) -> Result<(), AllocError>
     ensures { PutsFields result out.old out.new (laws.mark_field ball.now ∷ []) }
 {
@@ -62,7 +62,7 @@ fn put_mark(out: &mut Compact, alloc: Global, ball: &Ball) -> Result<(), AllocEr
     put_text(out, "mark", text.as_str())
 }
 
-/// Puts what a delivery alone has.
+/// Puts the fields that only a delivery has.
 fn put_ball(
     out: &mut Compact,
     alloc: Global,
@@ -80,7 +80,7 @@ fn put_ball(
     put_mark(out, alloc, ball)
 }
 
-/// The same, where the item is one.
+/// Puts the fields that only a delivery has, or nothing if the item isn't one.
 fn put_own(
     out: &mut Compact,
     alloc: Global,
@@ -99,8 +99,8 @@ fn put_own(
     }
 }
 
-/// Puts an item, before which the innings had come so far, with this player at the end that is bowled to, and the place of
-/// what corrects it.
+/// Puts an item: `count` is the count of the match before it, `striker` the batter at the end that is bowled to, and `by` the
+/// place of the entry that corrects it.
 pub fn put_item(
     out: &mut Compact,
     alloc: Global,

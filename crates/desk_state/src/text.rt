@@ -14,10 +14,10 @@ use links::HeldLine;
 use notation::Entry;
 use std::alloc::{AllocError, Global};
 
-/// The state of a desk as one JSON value, and a newline: the desk with this book votes at this position, has cast this vote
-/// there, if any, and holds these lines, the oldest first. Beside them it has what the match wants next, who may come in
-/// and who may bowl, the over with the places of its deliveries, both sides, and what a board with this book shows.
-/// Nothing of it is the other desk's vote. It fails only where memory is refused.
+/// Returns the state of a desk as one JSON value, and a newline: the position at which it votes, its own vote if it has cast
+/// one, and its held lines, the oldest first; then what the match wants next, who may come in and who may bowl, the over with
+/// the places of its deliveries, both sides, and what a board with this book shows. Nothing in it depends on the other desk's
+/// vote. Fails only if memory is refused.
 pub fn state_text<B: BookOf>(
     alloc: Global,
     sheet: &MatchSheet,
@@ -39,7 +39,7 @@ pub fn state_text<B: BookOf>(
     Ok(text)
 }
 
-/// What anybody may read of it, likewise: it has neither the desk's own vote nor the lines that it holds.
+/// Returns what anyone may read of a desk's state: all but its own vote and its held lines. Fails only if memory is refused.
 pub fn open_text<B: BookOf>(
     alloc: Global,
     sheet: &MatchSheet,
@@ -57,9 +57,9 @@ pub fn open_text<B: BookOf>(
     Ok(text)
 }
 
-/// All that stands in a book as one JSON value, and a newline: how many entries the book has, and in the order of the match
-/// each item with the place where it was entered, its line, and the place of what corrects it; a delivery with its innings,
-/// over and number there, who faces and who bowls, and its mark.
+/// Returns all items of a book as one JSON value, and a newline: the number of entries, and in the order of the match each item
+/// with its place, its line, and the place of the entry that corrects it; for a delivery also its innings, its over and number
+/// there, the batter and the bowler, and its mark.
 pub fn book_text<B: BookOf>(alloc: Global, book: &B) -> Result<Vec<u8>, AllocError>
     ensures { IfOk result (λ text. text.items ≡ book_laws.book_text (B.content book.now)) }
 {

@@ -22,7 +22,7 @@ use links::HeldLine;
 use notation::Entry;
 use std::alloc::{AllocError, Global};
 
-/// Puts what the sheet and the book say.
+/// Puts what the sheet and the book show.
 fn put_book<B: BookOf>(
     out: &mut Compact,
     alloc: Global,
@@ -40,7 +40,7 @@ fn put_book<B: BookOf>(
     put_board_field(out, alloc, sheet, book)
 }
 
-/// Where a desk stands: its letter, the position at which it votes, and its vote there, where that is cast.
+/// A desk's letter, the position at which it votes, and its vote there, if it has cast one.
 #[derive(Clone, Copy)]
 pub struct DeskStand {
     pub desk: DeskId,
@@ -48,7 +48,7 @@ pub struct DeskStand {
     pub own: Option<Entry>,
 }
 
-/// Puts the state of a desk with this book, that stands there and holds these lines.
+/// Puts the state of a desk with this book, this position and vote, and these held lines.
 pub fn put_state<B: BookOf>(
     out: &mut Compact,
     alloc: Global,
@@ -67,7 +67,7 @@ pub fn put_state<B: BookOf>(
     end_object(out)
 }
 
-/// Puts what anybody may read of the state of a desk with this book, that votes at this position.
+/// Puts what anyone may read of the state of a desk with this book, which votes at this position.
 pub fn put_open<B: BookOf>(
     out: &mut Compact,
     alloc: Global,
@@ -85,7 +85,7 @@ pub fn put_open<B: BookOf>(
     end_object(out)
 }
 
-/// Puts all that stands in a book.
+/// Puts all items of a book.
 pub fn put_all<B: BookOf>(out: &mut Compact, alloc: Global, book: &B) -> Result<(), AllocError>
     ensures { PutsValues result out.old out.new (book_value (B.content book.now) ∷ []) }
 {

@@ -9,25 +9,25 @@ use corrections::{BookOf, bowler_of, overs_of};
 use match_laws::Outcome;
 use notation::Player;
 
-/// What a scorer is about to write.
+/// What the scorer has to write next.
 #[derive(Clone, Copy)]
 pub enum Wants {
-    /// That an innings begins.
+    /// The beginning of an innings.
     Innings,
-    /// Who comes in: a place at the wicket is empty.
+    /// The batter who comes in: a place at the crease is empty.
     Batter,
-    /// A delivery, and who bowls it: the over has none yet.
+    /// A delivery and its bowler: the over has no delivery yet.
     Bowler,
     /// A delivery.
     Ball,
-    /// The call of over: six deliveries count.
+    /// The call of over: six deliveries have counted.
     Over,
     /// Nothing: the match has a result.
     Nothing,
 }
 
 impl Wants {
-    /// Its word.
+    /// Returns the word for it.
     pub fn text(self) -> &'static str
         ensures { result.now ≡ laws.wants_text self }
     {
@@ -49,7 +49,7 @@ fn is_undecided(outcome: Outcome) -> bool
     matches!(outcome, Outcome::Undecided)
 }
 
-/// What an over wants of which so many deliveries count, and whose last one was this bowler's.
+/// Returns what an over wants after this many deliveries that count, the last of them by this bowler.
 fn wants_of_over(counted: u32, bowler: Option<Player>) -> Wants
     ensures { result ≡ laws.wants_of_over counted bowler }
 {
@@ -62,7 +62,7 @@ fn wants_of_over(counted: u32, bowler: Option<Player>) -> Wants
     }
 }
 
-/// What an innings wants.
+/// Returns what an open innings wants.
 fn wants_in_play<B: BookOf>(book: &B) -> Wants
     requires { is_open (history_of (B.content book.now)) ≡ true }
     ensures { result ≡ laws.wants_in_play (history_of (B.content book.now)) }
@@ -76,7 +76,7 @@ fn wants_in_play<B: BookOf>(book: &B) -> Wants
     wants_of_over(counted, bowler_of(overs_of(book).this))
 }
 
-/// What the match of a book wants next.
+/// Returns what the match of a book wants next.
 pub fn wants_of<B: BookOf>(book: &B) -> Wants
     ensures { result ≡ laws.wants (B.innings_a_side book.now) (history_of (B.content book.now)) }
 {

@@ -1,4 +1,4 @@
-//! Worked rows: the check computes them from the definitions that the contract cites.
+//! Worked examples: the check computes them from the definitions that the contract cites.
 
 ghost use Rattle.desk_state.specs.Worked.{WorkedBatters, WorkedBook, WorkedBowlers, WorkedPlaces, WorkedWants};
 

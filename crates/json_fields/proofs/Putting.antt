@@ -1,4 +1,4 @@
--- What is put in a row: fields and values, behind what was put before.
+-- How the tokens written for fields and values follow those written before them.
 use Rattle.std.proofs.Common.{◌≡◌, ℕ, ◌+◌, ◌≤◌, List, [], ◌∷◌, ◌++◌, Result, refl, sym, ◌∙◌, arith, length, take, Some, add-one}
 pub use Rattle.std.proofs.Common.{append-nil, append_assoc}
 use Rattle.std.specs.Prelude.{OnOk, slice_get}
@@ -41,7 +41,7 @@ pub up_to-more : {X : Type 0} (f : ℕ → List X) (n : ℕ) → up_to f (n + 1)
 unfolding up_to
 up_to-more f n = rw add-one refl
 
--- what joins the tokens of fields and values to those of what they are put in: with these a call that puts parts needs no answer
+-- Joins the tokens of fields and values into those of their object or array; calls that only write parts then need no answer.
 pub ruleset json_parts =
     (append_assoc, append-nil, fields_tokens-append, values_tokens-append, members_tokens-of, items_tokens-of, up_to-none, up_to-more)
 
@@ -53,12 +53,12 @@ pub one_field : (f : Field) → fields_tokens (f ∷ []) ≡ key f.0 ∷ json_to
 unfolding fields_tokens
 one_field f = simp append-nil
 
--- fields part by part, the last part first
+-- the fields of all parts in order; the list of parts has the last part first
 abbrev in_row : List (List Field) → List Field
 in_row [] = []
 in_row (fs ∷ parts) = in_row parts ++ fs
 
--- behind the first tokens stands the head, and then the fields of these parts
+-- the new tokens are the old ones, then the head, then the fields of these parts
 pub record Fields (old new head : List Token) (parts : List (List Field)) : Type 0 where
   pub are : new ≡ old ++ (head ++ fields_tokens (in_row parts))
 
@@ -69,7 +69,7 @@ begins e = record { are = simp append-nil e }
 pub starts : {old new : List Token} {fs : List Field} → new ≡ old ++ fields_tokens fs → Fields old new [] (fs ∷ [])
 starts e = record { are = e }
 
--- behind what was put before
+-- tokens appended in two steps
 pub joined : (old mid new ts us : List Token) → mid ≡ old ++ ts → new ≡ mid ++ us → new ≡ old ++ (ts ++ us)
 joined old mid new ts us a b = grind (arith, append_assoc)
 
@@ -77,19 +77,19 @@ pub adds_fields : (old mid new : List Token) (fs gs : List Field) → mid ≡ ol
     new ≡ old ++ fields_tokens (fs ++ gs)
 adds_fields old mid new fs gs a b = rw b (rw a (simp (append_assoc, fields_tokens-append)))
 
--- one part more
+-- appends one more part
 infixl 10 ◌▸◌
 pub ◌▸◌ : {old mid new head : List Token} {parts : List (List Field)} {fs : List Field} →
     Fields old mid head parts → new ≡ mid ++ fields_tokens fs → Fields old new head (fs ∷ parts)
 a ▸ b = record { are = b ∙ (rw a.are (simp (append_assoc, fields_tokens-append))) }
 
 module _ {T E : Type 0} (r : Result T E) (new : List Token) where
-  -- the last fields, which may fail
+  -- appends the last fields, which may fail
   pub ends : {old mid : List Token} {parts : List (List Field)} (fs : List Field) → Fields old mid [] parts →
       OnOk r (new ≡ mid ++ fields_tokens fs) → OnOk r (new ≡ old ++ fields_tokens (in_row parts ++ fs))
   ends fs a b = on_ok_weaker r (λ last. (a ▸ last).are) b
 
-  -- an object or an array, whose last token may fail
+  -- closes an object or an array, which may fail
   pub is_object : {old mid : List Token} {parts : List (List Field)} → Fields old mid (begin_object ∷ []) parts →
       OnOk r (new ≡ mid ++ end_object ∷ []) → OnOk r (new ≡ old ++ values_tokens (object_of (in_row parts) ∷ []))
   is_object a b = on_ok_weaker r (λ last. rw last (rw a.are (simp (one_value, members_tokens-of, append_assoc)))) b
@@ -104,7 +104,7 @@ module _ {T E : Type 0} (r : Result T E) (new : List Token) where
   unfolding fields_tokens
   is_array_field vs a b c = on_ok_weaker r (λ last. rw last (rw b (rw a.are (simp (items_tokens-of, append-nil, append_assoc))))) c
 
--- one value more
+-- appends more values
 pub adds_values : (old mid new : List Token) (vs ws : List Json) → mid ≡ old ++ values_tokens vs → new ≡ mid ++ values_tokens ws →
     new ≡ old ++ values_tokens (vs ++ ws)
 adds_values old mid new vs ws a b = rw (b, a) (simp (append_assoc, values_tokens-append))
@@ -113,7 +113,7 @@ pub ends_values : {T E : Type 0} (r : Result T E) (old mid new : List Token) (vs
     OnOk r (new ≡ mid ++ values_tokens ws) → OnOk r (new ≡ old ++ values_tokens (vs ++ ws))
 ends_values r old mid new vs ws a b = on_ok_weaker r (adds_values old mid new vs ws a) b
 
--- what is put of what is due leaves the rest due
+-- appending the first of the fields that are still due leaves the rest due
 pub fields_due : (mid new all : List Token) (fs gs : List Field) → new ≡ mid ++ fields_tokens fs → mid ++ fields_tokens (fs ++ gs) ≡ all →
     new ++ fields_tokens gs ≡ all
 fields_due mid new all fs gs put e = rw put (rw (append_assoc mid, ← fields_tokens-append) e)
@@ -130,7 +130,7 @@ pub no_values : (old : List Token) → old ≡ old ++ values_tokens []
 unfolding values_tokens
 no_values old = sym (append-nil old)
 
--- what f makes of the elements of a list, one more
+-- appends the values that f makes of the next element of a list
 pub adds_each : {X : Type 0} (old mid new : List Token) (f : X → List Json) (xs : List X) (k : ℕ) (x : X) →
     mid ≡ old ++ values_tokens (flat_map f (take k xs)) → slice_get xs k ≡ Some x → new ≡ mid ++ values_tokens (f x) →
     new ≡ old ++ values_tokens (flat_map f (take (k + 1) xs))
@@ -146,7 +146,7 @@ pub begins_up_to : (old : List Token) (f : ℕ → List Json) → old ≡ old ++
 unfolding up_to
 begins_up_to old f = no_values old
 
--- what f makes of one number more
+-- appends the values that f makes of the next number
 pub adds_up_to : (old mid new : List Token) (f : ℕ → List Json) (n : ℕ) → mid ≡ old ++ values_tokens (up_to f n) →
     new ≡ mid ++ values_tokens (f n) → new ≡ old ++ values_tokens (up_to f (n + 1))
 unfolding up_to

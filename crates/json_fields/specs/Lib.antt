@@ -1,2 +1,2 @@
--- What the public calls claim.
+-- The specification of the public functions.
 pub mod Values

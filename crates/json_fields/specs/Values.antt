@@ -1,4 +1,4 @@
--- JSON values by their parts: an object is a list of fields, and an array a list of values.
+-- JSON values by their parts: an object is a list of fields, and an array is a list of values.
 use Rattle.std.specs.Prelude.{◌≡◌, ℕ, zero, suc, ◌==◌, List, [], ◌∷◌, ◌++◌, Bool, true, if◌then◌else◌, Result, OnOk, decimal}
 use Rattle.json.specs.Json.{Json, boolean, number, string, array, object, Items, no_items, item, Members, no_members, member}
 use Rattle.json.specs.Token.{Token, key}
@@ -30,20 +30,20 @@ number_value n = number (decimal n)
 abbrev pub number_field : List ℕ → ℕ → Field
 number_field name n = (name, number_value n)
 
--- a number, unless it is 0
+-- a number field, left out if the number is 0
 abbrev pub count_field : List ℕ → ℕ → List Field
 count_field name n = if n == 0 then [] else number_field name n ∷ []
 
--- a flag, where it holds
+-- a field that is true, left out if the flag is false
 abbrev pub flag_if : Bool → List ℕ → List Field
 flag_if holds name = if holds then (name, boolean true) ∷ [] else []
 
--- what f makes of 0, of 1 and so on, below n
+-- the values that f makes of 0, 1 and so on, below n
 unfoldable pub up_to : {X : Type 0} → (ℕ → List X) → ℕ → List X
 up_to f zero = []
 up_to f (suc n) = up_to f n ++ f n
 
--- ---- for private functions: what is put behind what was put before
+-- ---- for private functions: the tokens appended to those written before
 
 unfoldable pub fields_tokens : List Field → List Token
 fields_tokens [] = []

@@ -1,4 +1,4 @@
-//! JSON by its parts: fields and values, each put behind what was put before.
+//! JSON written part by part: each field or value is appended to the output.
 #![tactic(auto, unfolding(crate::specs::Values::fields_tokens, crate::specs::Values::values_tokens))]
 
 mod put;

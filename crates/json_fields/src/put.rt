@@ -1,4 +1,4 @@
-//! Fields and values of JSON, put behind what was put before.
+//! Appends JSON fields and values to the output.
 
 ghost use Rattle.std.specs.Prelude.{◌≡◌, ◌++◌, ◌∷◌, [], OnOk};
 ghost use Rattle.json.specs.Json.{boolean, null, string};
@@ -10,7 +10,7 @@ use itoa::Buffer;
 use json::Token;
 use std::alloc::AllocError;
 
-/// Puts a field's name.
+/// Appends a field's name.
 fn put_name<T: Tokens>(out: &mut T, name: &str) -> Result<(), AllocError>
     ensures { OnOk result (T.tokens out.new ≡ T.tokens out.old ++ tokens.key name.now ∷ []) }
 {
@@ -54,14 +54,14 @@ pub fn end_array<T: Tokens>(out: &mut T) -> Result<(), AllocError>
     out.token(Token::EndArray)
 }
 
-/// Puts a text.
+/// Appends a string.
 pub fn put_string<T: Tokens>(out: &mut T, text: &str) -> Result<(), AllocError>
     ensures { PutsValues result (T.tokens out.old) (T.tokens out.new) (string text.now ∷ []) }
 {
     out.token(Token::String(text))
 }
 
-/// Puts a number.
+/// Appends a number.
 pub fn put_integer<T: Tokens>(out: &mut T, figure: u64) -> Result<(), AllocError>
     ensures { PutsValues result (T.tokens out.old) (T.tokens out.new) (number_value figure ∷ []) }
 {
@@ -69,7 +69,7 @@ pub fn put_integer<T: Tokens>(out: &mut T, figure: u64) -> Result<(), AllocError
     out.token(Token::Number(buffer.format(figure)))
 }
 
-/// Puts a field that is a text.
+/// Appends a string field.
 pub fn put_text<T: Tokens>(out: &mut T, name: &str, text: &str) -> Result<(), AllocError>
     ensures { PutsFields result (T.tokens out.old) (T.tokens out.new) (text_field name.now text.now ∷ []) }
 {
@@ -77,7 +77,7 @@ pub fn put_text<T: Tokens>(out: &mut T, name: &str, text: &str) -> Result<(), Al
     put_string(out, text)
 }
 
-/// Puts a field that is a number.
+/// Appends a number field.
 pub fn put_number<T: Tokens>(out: &mut T, name: &str, figure: u64) -> Result<(), AllocError>
     ensures { PutsFields result (T.tokens out.old) (T.tokens out.new) (number_field name.now figure ∷ []) }
 {
@@ -85,14 +85,14 @@ pub fn put_number<T: Tokens>(out: &mut T, name: &str, figure: u64) -> Result<(),
     put_integer(out, figure)
 }
 
-/// Puts a field that is a figure.
+/// Appends a number field from 32 bits.
 pub fn put_figure<T: Tokens>(out: &mut T, name: &str, figure: u32) -> Result<(), AllocError>
     ensures { PutsFields result (T.tokens out.old) (T.tokens out.new) (number_field name.now figure ∷ []) }
 {
     put_number(out, name, u64::from(figure))
 }
 
-/// Puts a field of which nothing is known.
+/// Appends a field that is null.
 pub fn put_null<T: Tokens>(out: &mut T, name: &str) -> Result<(), AllocError>
     ensures { PutsFields result (T.tokens out.old) (T.tokens out.new) ((name.now, null) ∷ []) }
 {
@@ -100,7 +100,7 @@ pub fn put_null<T: Tokens>(out: &mut T, name: &str) -> Result<(), AllocError>
     out.token(Token::Null)
 }
 
-/// Puts a field that is a number, unless it is 0.
+/// Appends a number field, or nothing if the number is 0.
 pub fn put_count<T: Tokens>(out: &mut T, name: &str, count: u32) -> Result<(), AllocError>
     ensures { PutsFields result (T.tokens out.old) (T.tokens out.new) (count_field name.now count) }
 {
@@ -110,7 +110,7 @@ pub fn put_count<T: Tokens>(out: &mut T, name: &str, count: u32) -> Result<(), A
     put_figure(out, name, count)
 }
 
-/// Puts a field that is true, where it holds.
+/// Appends a field that is true, or nothing if `holds` is false.
 pub fn put_flag<T: Tokens>(out: &mut T, name: &str, holds: bool) -> Result<(), AllocError>
     ensures { PutsFields result (T.tokens out.old) (T.tokens out.new) (flag_if holds name.now) }
 {
@@ -121,7 +121,7 @@ pub fn put_flag<T: Tokens>(out: &mut T, name: &str, holds: bool) -> Result<(), A
     out.token(Token::Bool(true))
 }
 
-/// Puts a field that is true or false.
+/// Appends a field that is true or false.
 pub fn put_bool<T: Tokens>(out: &mut T, name: &str, holds: bool) -> Result<(), AllocError>
     ensures { PutsFields result (T.tokens out.old) (T.tokens out.new) ((name.now, boolean holds) ∷ []) }
 {

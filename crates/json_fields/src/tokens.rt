@@ -1,4 +1,4 @@
-//! What JSON is put into, a token at a time.
+//! Outputs that JSON is written to, one token at a time.
 
 ghost use Rattle.std.specs.Prelude.{◌≡◌, ◌++◌, ◌∷◌, [], List, OnOk};
 ghost use Rattle.json.specs.Print.{IsPrintable, print};
@@ -9,12 +9,12 @@ use json::{Pretty, Token, Writer};
 use std::alloc::{AllocError, Global};
 use std::marker::Model;
 
-/// A writer of JSON, which the library lays out.
+/// An output for JSON tokens; the `json` library does the layout.
 pub trait Tokens {
-    /// The tokens that were put.
+    /// The tokens written so far.
     ghost tokens: { Self → List JsonToken };
 
-    /// Puts a token behind them.
+    /// Appends a token.
     fn token(&mut self, token: Token<'_>) -> Result<(), AllocError>
         requires { IsPrintable (token_of token) }
         ensures { OnOk result (tokens self.new ≡ tokens self.old ++ token_of token.entry ∷ []) };
@@ -23,13 +23,13 @@ pub trait Tokens {
 impl Tokens for Pretty {
     ghost tokens = { λ out. out };
 
-    /// Puts a token, with a line for each field and each value.
+    /// Appends a token, with each field and each value on a line of its own.
     fn token(&mut self, token: Token<'_>) -> Result<(), AllocError> {
         Pretty::token(self, token)
     }
 }
 
-/// JSON with no space.
+/// JSON without whitespace.
 #[derive(Drop)]
 pub struct Compact {
     writer: Writer,
@@ -49,7 +49,7 @@ impl Model for Compact {
 }
 
 impl Compact {
-    /// Nothing is put yet.
+    /// Begins an empty output.
     pub fn new(alloc: Global) -> Compact
         ensures { result ≡ [] }
     {
@@ -58,7 +58,7 @@ impl Compact {
         }
     }
 
-    /// The text of what was put.
+    /// Returns the text of the tokens written.
     pub fn into_inner(self) -> Vec<u8>
         ensures { result.items ≡ print self }
     {
@@ -69,7 +69,7 @@ impl Compact {
 impl Tokens for Compact {
     ghost tokens = { λ out. out };
 
-    /// Puts a token, with no space.
+    /// Appends a token, without whitespace.
     fn token(&mut self, token: Token<'_>) -> Result<(), AllocError> {
         self.writer.token(token)
     }

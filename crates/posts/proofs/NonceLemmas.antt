@@ -1,4 +1,4 @@
--- What is out over many calls.
+-- The nonces that are out over many calls.
 use Rattle.std.proofs.lemmas.Grind.{common_steps}
 use Rattle.std.proofs.Common.{◌≡◌, ◌≢◌, ◌∙◌, ◌<◌, ◌≤◌, ◌+◌, ◌==◌, ◌&&◌, ◌||◌, ℕ, Bool, true, false, List, [], ◌∷◌, ◌++◌, Option, None, Some, Result, Ok, Err, All, AllPairs, length, drop, if◌then◌else◌, nat_lt, arith, refl, sym, ap, subst}
 use Rattle.std.proofs.lemmas.Bool.Decides.{nat_tests}
@@ -17,12 +17,12 @@ use Rattle.posts.specs.Veils.{desk_seed, stream_key, turned}
 use Rattle.posts.proofs.VeilLemmas.{length-turned, turned-twice}
 use Rattle.posts.specs.declared.{judging.Post.Post, refusal.Refusal.Refusal, stamp.{Pass.Pass, Stamp.Stamp}}
 
--- ---- what is known of a post whose line is typed
+-- ---- what holds of a post whose line is typed
 
 same_tag : (secret : List ℕ) (s : Stamp) (line : List ℕ) → is_tagged secret s line ≡ true → s.tag ≡ tag_of secret s.nonce s.at line
 same_tag secret s line h = (bytes_eq-Decides s.tag (tag_of secret s.nonce s.at line)).0 h
 
--- of a stamp that is good
+-- of a good stamp
 record IsGood (secret out : List ℕ) (o : Option Stamp) (line : List ℕ) (s : Stamp) : Type 0 where
   is_it : o ≡ Some s
   was_out : is_out out s.nonce ≡ true
@@ -34,7 +34,7 @@ good secret out (Some t) line s h =
     let same : t ≡ s = grind (arith, h) in
     record { is_it = ap Some same; was_out = grind (arith, h, same); tagged = grind (arith, h, same) }
 
--- the stamp of a post that is from here and good
+-- the stamp of a post that is from this host and good
 record IsChecked (secret out : List ℕ) (post : Post) (s : Stamp) : Type 0 where
   from_here : post.is_from_here ≡ true
   is_good : IsGood secret out post.stamp (line_of_post secret post) s
@@ -70,7 +70,7 @@ placed : (is_one ends same room : Bool) (line l : List ℕ)
 placed is_one ends same room line l h =
     record { is_it = grind (arith, h); goes_on = grind (arith, h); here = grind (arith, h); whole = grind (arith, h) }
 
--- what is let go is out no more
+-- a nonce that is used is out no longer
 pub without_lacks : (n : ℕ) (out : List ℕ) → is_out (without n out) n ≡ false
 without_lacks n [] = refl
 without_lacks n (x ∷ xs) = by_test (x == n) refl (without_lacks n xs)
@@ -159,7 +159,7 @@ typed secret out post at nonce waiting line is was_out is_one goes_on short few 
     ap (λ r. after_check r (line_of_post secret post) at waiting) known ∙ ap (λ l. line_of s l at waiting) line_is
     ∙ all_pass (is_line line) (is_end line) (is_same_place s.at at) (nat_lt waiting 8) line is_one goes_on same (has_room waiting few)
 
--- ---- what is out
+-- ---- the nonces that are out
 
 -- each nonce that is out was given: it is below the next
 abbrev pub IsBelow : List ℕ → ℕ → Type 0
@@ -189,7 +189,7 @@ dropped n out h = grind (arith, common_steps, or_right)
 kept : (full : Bool) (n : ℕ) (out : List ℕ) → is_out (if full then drop 1 out else out) n ≡ true → is_out out n ≡ true
 kept full n out h = grind (arith, common_steps, dropped)
 
--- what is out once a nonce is given was out, or is it
+-- a nonce that is out once one is given was out before, or is the given one
 given : (n next : ℕ) (out : List ℕ) → is_out (with_given out next) n ≡ true → (n ≢ next) → is_out out n ≡ true
 given n next out h h2 = grind (arith, common_steps, list_any-append, kept, nat_tests)
 
@@ -214,7 +214,7 @@ below_given out next below = λ n is. by_test n is (n == next) refl
 same_stamp : (o : Option Stamp) (s t : Stamp) → o ≡ Some s → o ≡ Some t → s ≡ t
 same_stamp o s t h k = cc (h, k)
 
--- what holds of the nonces of later lines, and with that of a line that a post types
+-- a property of the nonces of later lines, extended by the line that a post types
 with_nonce : (P : List ℕ → Type 0) (r : Result (List ℕ) Refusal) (o : Option Stamp) (post : Post) (rest : List ℕ) → post.stamp ≡ o → P rest
     → ((s : Stamp) (line : List ℕ) → r ≡ Ok line → o ≡ Some s → P (s.nonce ∷ rest)) → P (accepted_by r post ++ rest)
 with_nonce P (Err why) o post rest e all h = all
@@ -237,13 +237,13 @@ pass_is_used : (is_good : Bool) (out : List ℕ) (p : Pass) → is_good ≡ true
 pass_is_used true out p h = without_lacks p.nonce out
 pass_is_used false out p h = absurd (cc h)
 
--- what holds of later nonces, and with that of a good pass
+-- a property of later nonces, extended by a good pass
 with_pass : (P : List ℕ → Type 0) (is_good : Bool) (p : Pass) (rest : List ℕ) → P rest → (is_good ≡ true → P (p.nonce ∷ rest))
     → P (let_by is_good p ++ rest)
 with_pass P true p rest all h = h refl
 with_pass P false p rest all h = all
 
--- a nonce that was given and is out no more types nothing
+-- a nonce that was given and is out no longer is never accepted
 never : (secret : List ℕ) (n : ℕ) (calls : List Call) (out : List ℕ) (next : ℕ) → n < next → is_out out n ≡ false
     → All (λ m. n ≢ m) (accepted secret out next calls)
 never secret n [] out next below lacks = All-nil (λ m. n ≢ m)
@@ -266,7 +266,7 @@ never secret n (Look p ∷ calls) out next below lacks =
     let was : is_out out n ≡ true = subst (λ x. is_out out x ≡ true) (sym e) (pass_was_out secret out p good) in
     absurd (cc (was, lacks))) later)
 
--- where none is out
+-- with no nonce out
 none_below : (next : ℕ) → IsBelow [] next
 none_below next = λ n is. absurd (cc is)
 

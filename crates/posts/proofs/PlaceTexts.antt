@@ -10,7 +10,7 @@ use Rattle.std.specs.Str.Parse.{AllDigits}
 use Rattle.agree_core.specs.declared.position.Position.{Position}
 use Rattle.posts.specs.Texts.{is_point, place_text}
 
--- where the first point stands, what is before it, and what is behind it
+-- where the first point is, the text before it, and the text after it
 pub record IsCutAt (text front back : List ℕ) : Type 0 where
   pub there : position_or_len is_point text < length text
   pub front_is : before_first is_point text ≡ front

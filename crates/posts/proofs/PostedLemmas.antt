@@ -1,4 +1,4 @@
--- What is logged was posted.
+-- Logged lines were posted.
 use Rattle.posts.specs.PostedLogs.{WerePosted}
 use Rattle.posts.specs.declared.posted_log.PostedLog.{PostedLog, Empty, Line'}
 

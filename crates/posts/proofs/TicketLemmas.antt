@@ -1,4 +1,4 @@
--- How a secret is hidden and read, and who is handed it.
+-- How a secret is encrypted and read, and who is handed it.
 use Rattle.std.proofs.Common.{◌≡◌, ◌∙◌, ◌<◌, ◌≤◌, ◌-◌, ℕ, zero, suc, Bool, true, false, List, [], ◌∷◌, ◌++◌, Option, None, Some, length, get_or, if◌then◌else◌, nat_lt, bit_xor, arith, refl, sym, ap}
 use Rattle.std.proofs.lemmas.Bool.Decides.{nat_tests}
 use Rattle.std.proofs.lemmas.Nat.Bits.{bit_at-lt, bit_at_xor, same_from_bits}
@@ -7,7 +7,7 @@ use Rattle.sha2.proofs.Facts256.{length-sha256}
 use Rattle.posts.specs.Tickets.{Asking, IsHanded, handed, handed_in, is_good_ticket, pad_of, ticket_tag, those_handed, xored}
 use Rattle.posts.specs.declared.tickets.{Ticket.Ticket, TheConstants.GOOD_FOR}
 
--- ---- what is hidden
+-- ---- the encrypted secret
 
 pub length-xored : (xs ys : List ℕ) → length xs ≤ length ys → length (xored xs ys) ≡ length xs
 length-xored [] ys h = refl
@@ -35,7 +35,7 @@ xored-twice (x ∷ xs) [] h = absurd (omega (arith, h))
 xored-twice (x ∷ xs) (y ∷ ys) h =
     ap (λ b. b ∷ xored (xored xs ys) ys) (xor_twice x y) ∙ ap (λ l. x ∷ l) (xored-twice xs ys (omega (arith, h)))
 
--- ---- who is handed it
+-- ---- who is handed the secret
 
 shown : (good : Bool) (o : Option (List ℕ)) (text : List ℕ) → ◌≡◌ {A = Option (List ℕ)} (if good then o else None) (Some text)
     → (good ≡ true) × (o ≡ Some text)

@@ -1,4 +1,4 @@
--- What is turned twice is as it was.
+-- A text XORed twice is as it was.
 use Rattle.std.proofs.Common.{◌≡◌, ◌≢◌, ◌∙◌, ◌<◌, ◌+◌, ◌/◌, ◌%◌, ℕ, zero, suc, Bool, true, false, List, [], ◌∷◌, ◌++◌, Option, None, Some, length, get_or, set, take, drop, if◌then◌else◌, bytes_eq, bit_xor, AllPairs, All, arith, refl, sym, ap}
 use Rattle.std.proofs.lemmas.List.{drop-drop, drop-set-lt, get_or-drop, take_more, take_more_set}
 use Rattle.std.proofs.lemmas.List.Elements.{All-nil, All-cons}
@@ -21,11 +21,11 @@ get_or-turned key seed from (b ∷ bs) (suc i) h =
     get_or-turned key seed (from + 1) bs i (omega (arith, h))
     ∙ ap (λ n. bit_xor (get_or bs i 0) (stream_byte key seed n)) (omega arith)
 
--- the byte behind one stands in its block, unless it begins the next
+-- the next byte is in the same block, unless it begins the next block
 pub same_block : (i : ℕ) → (i + 1) % 32 ≢ 0 → (i + 1) / 32 ≡ i / 32
 same_block i h = grind (arith, h)
 
--- one byte more is turned, of a text of which those from there on are as they were
+-- one more byte is XORed; the bytes after it are still as they were
 pub turned_more : (key seed first text pad : List ℕ) (i : ℕ) → i < length text → length text ≡ length first
     → take i text ≡ take i (turned_from key seed 0 first) → drop i text ≡ drop i first → pad ≡ block key seed (i / 32)
     → take (i + 1) (set text i (bit_xor (get_or text i 0) (get_or pad (i % 32) 0))) ≡ take (i + 1) (turned_from key seed 0 first)

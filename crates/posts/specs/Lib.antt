@@ -1,4 +1,5 @@
--- The texts of a post and its tag: Texts, Stamps. What a page knows of posts: Doors. What a post comes to: Posts. A line that was typed: Posted; a log of them: PostedLogs. What goes on over many of them: Runs. How a page gets its secret: Tickets. How texts are hidden: Veils.
+-- The texts of a post and its tag: Texts, Stamps. What a page keeps: Doors. How posts are judged: Posts. A line that was typed:
+-- Posted; a log of them: PostedLogs. Lists of calls: Runs. How a page gets its secret: Tickets. How texts are encrypted: Veils.
 pub mod Doors
 pub mod Posted
 pub mod PostedLogs

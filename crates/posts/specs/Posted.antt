@@ -6,8 +6,8 @@ use Rattle.posts.specs.Posts.{is_line, is_out}
 use Rattle.posts.specs.Texts.{tag_of}
 use Rattle.posts.specs.declared.stamp.Stamp.{Stamp}
 
--- By who had this secret, with one of these nonces, each good once, for the position at which the desk stood: its tag is made of
--- them and of the line, which ends no desk.
+-- Typed with this secret and one of these nonces, each good once, at the desk's position: its tag is made from them and from
+-- the line, which doesn't end the desk.
 pub record WasPosted (secret out : List ℕ) (stamp : Stamp) (at : Position) (line : List ℕ) : Type 0 where
   pub was_out : is_out out stamp.nonce ≡ true
   pub tag : stamp.tag ≡ tag_of secret stamp.nonce stamp.at line

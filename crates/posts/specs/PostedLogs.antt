@@ -1,4 +1,4 @@
--- The lines that a desk was given of those that posts typed.
+-- The posted lines that a desk was given.
 use Rattle.std.specs.Prelude.{ℕ, List, [], ◌∷◌, ◌++◌}
 use Rattle.posts.specs.Posted.{WasPosted}
 use Rattle.posts.specs.declared.posted_log.PostedLog.{PostedLog, Empty, Line'}
@@ -8,7 +8,7 @@ abbrev pub lines_of : PostedLog → List (List ℕ)
 lines_of Empty = []
 lines_of (Line' marker before line) = lines_of before ++ line.value.text.items ∷ []
 
--- each of them was posted
+-- each of the lines was posted
 abbrev pub WerePosted : PostedLog → Type 0
 WerePosted Empty = Unit {0}
 WerePosted (Line' marker before line) =

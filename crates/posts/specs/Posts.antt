@@ -1,4 +1,4 @@
--- What a page's post comes to, by the secret, the nonces that are out, and where the desk is.
+-- How a page's post is judged, by the secret, the nonces that are out, and the desk's position.
 use Rattle.std.specs.Prelude.{◌≡◌, ℕ, ◌==◌, Bool, ◌&&◌, true, false, nat_le, nat_lt, if◌then◌else◌, bytes_eq, List, [], ◌∷◌, ◌++◌, length, drop, filter, Option, None, Some, Result, Ok, Err}
 use Rattle.std.specs.List.{list_all, list_any}
 use Rattle.agree_core.specs.declared.position.Position.{Position}
@@ -8,7 +8,7 @@ use Rattle.posts.specs.Veils.{desk_seed, turned}
 use Rattle.posts.specs.declared.{judging.Post.Post, refusal.Refusal.Refusal, stamp.{Pass.Pass, Stamp.Stamp}}
 use Rattle.posts.specs.declared.refusal.Refusal.TheVariants.{Foreign, TooLong, Malformed, NotOut, WrongTag, Ends, Elsewhere, Busy}
 
--- with which status a refusal is answered
+-- the HTTP status that answers a refusal
 abbrev pub status_of : Refusal → ℕ
 status_of Malformed = 400
 status_of Foreign = 403
@@ -23,7 +23,7 @@ status_of Busy = 503
 abbrev pub with_given : List ℕ → ℕ → List ℕ
 with_given out nonce = (if length out == 64 then drop 1 out else out) ++ nonce ∷ []
 
--- those that are left once this one is used
+-- the nonces that are out once this one is used
 abbrev pub without : ℕ → List ℕ → List ℕ
 without nonce out = filter (λ n. if n == nonce then false else true) out
 
@@ -33,15 +33,15 @@ is_out out nonce = list_any (λ n. n == nonce) out
 abbrev pub is_printable : ℕ → Bool
 is_printable byte = nat_le 32 byte && nat_le byte 126
 
--- it may be a line: it isn't empty, and each byte of it is printable ASCII
+-- it may be a line: it isn't empty, and each of its bytes is printable ASCII
 abbrev pub is_line : List ℕ → Bool
 is_line text = if list_all is_printable text then nat_lt 0 (length text) else false
 
--- its tag is made with the secret, of its nonce, its position and its line
+-- its tag is made with the secret from its nonce, its position and its line
 abbrev pub is_tagged : List ℕ → Stamp → List ℕ → Bool
 is_tagged secret s line = bytes_eq s.tag (tag_of secret s.nonce s.at line)
 
--- the line that is hidden in a post with such a stamp
+-- the decrypted line of a post with such a stamp
 abbrev pub line_in : List ℕ → Option Stamp → List ℕ → List ℕ
 line_in secret None hidden = []
 line_in secret (Some s) hidden = turned secret (desk_seed s.tag) hidden
@@ -49,14 +49,14 @@ line_in secret (Some s) hidden = turned secret (desk_seed s.tag) hidden
 abbrev pub line_of_post : List ℕ → Post → List ℕ
 line_of_post secret post = line_in secret post.stamp post.hidden.now
 
--- a post from here with such a stamp, of this line
+-- the verdict on the stamp of a post from this host, with this decrypted line
 abbrev pub stamped : List ℕ → List ℕ → Option Stamp → List ℕ → Result Stamp Refusal
 stamped secret out None line = Err Malformed
 stamped secret out (Some s) line =
     if is_out out s.nonce then (if is_tagged secret s line then Ok s else Err WrongTag) else Err NotOut
 
--- whether who made a post had the secret: its stamp, or why not. In the order of these tests: of a line nothing is told before its
--- tag is seen to be good
+-- the stamp of a post that was made with the secret, or why it is refused. The tests come in this order: nothing is said about
+-- a line before its tag is found good
 abbrev pub checked : List ℕ → List ℕ → Post → Result Stamp Refusal
 checked secret out post =
     if post.is_from_here then
@@ -66,7 +66,7 @@ checked secret out post =
 abbrev pub is_same_place : Position → Position → Bool
 is_same_place p q = p.place == q.place && p.round == q.round
 
--- what becomes of the line of who had the secret, where the desk is at this position and so many lines wait. In this order
+-- the verdict on the line of a post made with the secret, for a desk at this position where this many lines wait; in this order
 abbrev pub line_of : Stamp → List ℕ → Position → ℕ → Result (List ℕ) Refusal
 line_of s line at waiting =
     if is_line line then
@@ -83,7 +83,7 @@ after_check (Ok s) line at waiting = line_of s line at waiting
 abbrev pub verdict : List ℕ → List ℕ → Post → Position → ℕ → Result (List ℕ) Refusal
 verdict secret out post at waiting = after_check (checked secret out post) (line_of_post secret post) at waiting
 
--- the nonces that are out after it: that of who had the secret is used, whatever becomes of the line
+-- the nonces that are out after a post: a post made with the secret uses up its nonce, whatever becomes of its line
 abbrev pub used_by : Result Stamp Refusal → List ℕ → List ℕ
 used_by (Err why) out = out
 used_by (Ok s) out = without s.nonce out
@@ -91,7 +91,7 @@ used_by (Ok s) out = without s.nonce out
 abbrev pub out_after : List ℕ → List ℕ → Post → List ℕ
 out_after secret out post = used_by (checked secret out post) out
 
--- what is known of a post whose line is typed
+-- what holds of a post whose line is typed
 pub record IsTaken (secret out : List ℕ) (post : Post) (at : Position) (line : List ℕ) : Type 0 where
   pub stamp : Stamp
   pub has_stamp : post.stamp ≡ Some stamp
@@ -104,7 +104,7 @@ pub record IsTaken (secret out : List ℕ) (post : Post) (at : Position) (line :
   pub is_it : is_line line ≡ true
   pub ends_no_desk : is_end line ≡ false
 
--- a post of this line, from here, with this nonce, for this position: its tag is made of them with the secret, and hides the line
+-- a post from this host with this line, nonce and position: its tag is made from them with the secret, and encrypts the line
 pub record IsPostOf (secret : List ℕ) (nonce : ℕ) (at : Position) (line : List ℕ) (post : Post) : Type 0 where
   pub stamp : Stamp
   pub has_stamp : post.stamp ≡ Some stamp
@@ -114,11 +114,11 @@ pub record IsPostOf (secret : List ℕ) (nonce : ℕ) (at : Position) (line : Li
   pub tag : stamp.tag ≡ tag_of secret nonce at line
   pub hides : post.hidden.now ≡ turned secret (desk_seed stamp.tag) line
 
--- a pass is good: its nonce is out, and its tag is made with the secret, of that nonce
+-- a pass is good: its nonce is out, and its tag is made with the secret from that nonce
 abbrev pub is_good_pass : List ℕ → List ℕ → Pass → Bool
 is_good_pass secret out p = is_out out p.nonce && bytes_eq p.tag (pass_tag secret p.nonce)
 
--- the nonces that are out after it: that of a good one is used
+-- the nonces that are out after a pass: a good one uses up its nonce
 abbrev pub passed_by : Bool → Pass → List ℕ → List ℕ
 passed_by is_good p out = if is_good then without p.nonce out else out
 

@@ -1,10 +1,10 @@
--- What goes on over any list of calls.
+-- What happens over any list of calls.
 use Rattle.std.specs.Prelude.{ℕ, ◌+◌, Bool, true, false, List, [], ◌∷◌, ◌++◌, Option, None, Some, Result, Ok, Err}
 use Rattle.agree_core.specs.declared.position.Position.{Position}
 use Rattle.posts.specs.Posts.{is_good_pass, verdict, out_after, out_after_pass, with_given}
 use Rattle.posts.specs.declared.{judging.Post.Post, refusal.Refusal.Refusal, stamp.{Pass.Pass, Stamp.Stamp}}
 
--- a nonce is given, a post is judged, a pass is looked at, a text is hidden, or the secret is another one
+-- a nonce is given, a post judged, a pass looked at, a text encrypted, or the secret changed
 pub data Call : Type 0 where
   Give : Call
   Judge : Post → Position → ℕ → Call
@@ -25,7 +25,7 @@ abbrev pub let_by : Bool → Pass → List ℕ
 let_by true p = p.nonce ∷ []
 let_by false p = []
 
--- the nonces of all posts whose lines are typed, and of all good passes, in order, where these are out and the next one is this
+-- the nonces of all posts whose lines are typed, and of all good passes, in order, with these nonces out and this next nonce
 abbrev pub accepted : List ℕ → List ℕ → ℕ → List Call → List ℕ
 accepted secret out next [] = []
 accepted secret out next (Give ∷ calls) = accepted secret (with_given out next) (next + 1) calls
@@ -36,7 +36,7 @@ accepted secret out next (Look p ∷ calls) =
 accepted secret out next (Hide ∷ calls) = accepted secret out next calls
 accepted secret out next (Renew other ∷ calls) = accepted other [] next calls
 
--- the numbers under which texts are hidden, in order, where the next one is this
+-- the numbers under which texts are encrypted, in order, from this next number on
 abbrev pub numbers : ℕ → List Call → List ℕ
 numbers number [] = []
 numbers number (Hide ∷ calls) = number ∷ numbers (number + 1) calls

@@ -1,4 +1,4 @@
--- What a post says of its line, by the texts of its fields, and a pass by its two.
+-- A stamp by the texts of its three fields, and a pass by the texts of its two.
 use Rattle.std.specs.Prelude.{◌≡◌, ℕ, List, Ok, decimal}
 use Rattle.hex.specs.Hex.{decode_sized}
 use Rattle.posts.specs.Texts.{place_text}

@@ -1,5 +1,5 @@
--- Worked rows, computed by Python's hmac module: of the secret 00 01 .. 0f both keys, and the second block of the keystream of
--- number 7.
+-- Worked examples, computed by Python's hmac module: both keys of the secret 00 01 .. 0f, and the second block of the keystream
+-- of number 7.
 use Rattle.std.specs.Prelude.{◌≡◌, ℕ, List, [], ◌∷◌}
 use Rattle.posts.specs.Veils.{block, frame_key, page_seed, stream_key}
 

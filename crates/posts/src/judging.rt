@@ -1,4 +1,4 @@
-//! What a page's post comes to, and a pass, and who is handed the secret.
+//! Judges posts and passes of a page, and hands out its secret.
 
 ghost use Rattle.std.specs.Prelude.{◌≡◌, ◌+◌, ◌<◌, ◌^◌, ◌≤◌, [], Err, IfOk, IsSome, MatchOption, MatchResult, None, Ok, OnOk, Some, length};
 ghost use Rattle.std.specs.List.{list_all};
@@ -22,21 +22,21 @@ use std::alloc::Global;
 use std::marker::Model;
 use std::snapshot::Snapshot;
 
-/// How many lines wait at most.
+/// The largest number of posted lines that may wait.
 pub const MOST_WAITING: usize = 8;
 
 /// A post of a page.
 #[derive(Clone, Copy)]
 pub struct Post<'p> {
-    /// Whether it names this host, and comes from a page of it or from none.
+    /// Whether it names this host, and comes from one of its pages or from no page.
     pub is_from_here: bool,
-    /// What it says of its line, where it says that.
+    /// The position, nonce and tag of its line, if it has them.
     pub stamp: Option<Stamp>,
-    /// Its line, hidden.
+    /// Its line, encrypted.
     pub hidden: &'p [u8],
 }
 
-/// A post whose maker had the secret.
+/// A post that was made with the secret.
 #[derive(Drop)]
 struct Opened {
     stamp: Stamp,
@@ -50,7 +50,7 @@ fn is_plain(text: &[u8]) -> bool
     text.iter().all(|byte| *byte >= 32 && *byte <= 126)
 }
 
-/// Whether a text may be a line: of what a terminal would obey there is none.
+/// Whether a text may be a line: not empty, and printable ASCII alone, so that no terminal obeys any of it.
 fn is_line(text: &[u8]) -> bool
     ensures { result ≡ posts.is_line text.now }
 {
@@ -61,7 +61,7 @@ fn is_line(text: &[u8]) -> bool
     }
 }
 
-/// The line that is hidden in a post with this stamp.
+/// Decrypts the line of a post with this stamp.
 fn line_in(secret: &[u8; 16], stamp: &Stamp, hidden: &[u8]) -> LineText
     requires { length hidden.now ≤ 128 }
     ensures items { result.items ≡ posts.line_in secret.now (Some stamp.now) hidden.now }
@@ -73,7 +73,7 @@ fn line_in(secret: &[u8; 16], stamp: &Stamp, hidden: &[u8]) -> LineText
     line
 }
 
-/// What becomes of the line of who had the secret.
+/// Judges the line of a post that was made with the secret. Refuses in this order: `Malformed`, `Ends`, `Elsewhere`, `Busy`.
 fn line_of(stamp: &Stamp, line: LineText, at: Position, waiting: usize) -> Result<LineText, Refusal>
     ensures { MatchResult result (λ posted. posts.line_of stamp.now line.items at waiting ≡ Ok posted.items)
         (λ why. posts.line_of stamp.now line.items at waiting ≡ Err why) }
@@ -93,15 +93,15 @@ fn line_of(stamp: &Stamp, line: LineText, at: Position, waiting: usize) -> Resul
     Ok(line)
 }
 
-/// Who may type from a page: who has its secret, for which the ticket of its square is given, each time by a nonce that is good
-/// for one post.
+/// Who may type from a page: whoever has its secret, which is handed out for the ticket of a square. Each nonce is good for
+/// one post.
 #[derive(Drop)]
 pub struct Posts {
     secret: [u8; 16],
     ticket: Option<Ticket>,
     out: Nonces,
     next: u64,
-    /// Under which the next text is hidden.
+    /// The number of the next frame.
     number: u64,
 }
 
@@ -114,7 +114,7 @@ impl Model for Posts {
 }
 
 impl Posts {
-    /// Of a page with this secret. No ticket and no nonce is out yet.
+    /// Begins with this secret, and with no ticket and no nonce out.
     pub fn new(secret: [u8; 16]) -> Posts
         ensures secret { result.secret ≡ secret }
         ensures ticket { result.ticket ≡ None }
@@ -131,7 +131,7 @@ impl Posts {
         }
     }
 
-    /// A square with this ticket is shown now: the one before is good no more.
+    /// Shows a square with this ticket from now on: the ticket before it is no longer good.
     pub fn show(&mut self, key: [u8; 16], now: u64)
         ensures ticket { self.new.ticket ≡ Some (record { key = key; since = now }) }
         ensures secret { self.new.secret ≡ self.old.secret }
@@ -142,7 +142,7 @@ impl Posts {
         self.ticket = Some(Ticket::new(key, now));
     }
 
-    /// The page has this secret from here on: no ticket, no nonce and no tag from before is good.
+    /// Changes the secret: no ticket, nonce or tag from before is good any longer.
     pub fn renew(&mut self, secret: [u8; 16])
         ensures secret { self.new.secret ≡ secret }
         ensures ticket { self.new.ticket ≡ None }
@@ -155,8 +155,8 @@ impl Posts {
         self.out.clear();
     }
 
-    /// What is handed out for a tag: the secret, hidden by the ticket that is out, where it is the tag of that, in its time. Then
-    /// the ticket is used up.
+    /// Hands out the secret, encrypted by the ticket that is out, if the tag is that ticket's and its time isn't over. That
+    /// uses up the ticket.
     pub fn hand_out(&mut self, tag: &[u8; 32], now: u64) -> Option<[u8; 16]>
         ensures handed { result ≡ tickets.handed self.old.secret self.old.ticket tag.now now }
         ensures ticket { self.new.ticket ≡ tickets.ticket_after self.old.ticket tag.now now }
@@ -177,7 +177,7 @@ impl Posts {
         }
     }
 
-    /// Gives the next nonce, unless all numbers are used up: then nothing changes.
+    /// Gives out the next nonce. Returns `None`, and changes nothing, if all numbers are used up.
     pub fn give(&mut self) -> Option<u64>
         ensures given { MatchOption result (self.new ≡ self.old)
             (λ nonce. (nonce ≡ self.old.next) × (self.new.next ≡ self.old.next + 1)
@@ -193,8 +193,8 @@ impl Posts {
         Some(nonce)
     }
 
-    /// Hides a text from all who haven't the secret, under the next number. Where all numbers are used up, or memory is refused,
-    /// nothing changes.
+    /// Encrypts a text with the secret, under the next number. Returns `None`, and changes nothing, if all numbers are used up
+    /// or memory is refused.
     pub fn hide(&mut self, alloc: Global, text: &[u8]) -> Option<Frame>
         ensures hidden { MatchOption result (self.new ≡ self.old)
             (λ frame. (frame.number ≡ self.old.number) × (self.new.number ≡ self.old.number + 1)
@@ -211,7 +211,7 @@ impl Posts {
         Some(Frame { number, bytes })
     }
 
-    /// The post from here with this stamp, opened.
+    /// Opens a post from this host with this stamp. Refuses with `NotOut`, then with `WrongTag`.
     fn stamped(&self, stamp: Stamp, hidden: &[u8]) -> Result<Opened, Refusal>
         requires { length hidden.now ≤ 128 }
         ensures { MatchResult result
@@ -232,7 +232,7 @@ impl Posts {
         Ok(Opened { stamp, line })
     }
 
-    /// The post whose maker had the secret, opened.
+    /// Opens a post made with the secret. Refuses in this order: `Foreign`, `TooLong`, `Malformed`, `NotOut`, `WrongTag`.
     fn checked(&self, post: &Post<'_>) -> Result<Opened, Refusal>
         ensures { MatchResult result
             (λ opened. (posts.checked self.now.secret self.now.out post.now ≡ Ok opened.stamp)
@@ -251,8 +251,8 @@ impl Posts {
         }
     }
 
-    /// The line that a post types at a desk that is at this position, where so many lines wait, or why it types none. The
-    /// nonce of who had the secret is used up, and nobody else's.
+    /// Judges a post for a desk at this position, where this many lines wait: returns its line, or why it is refused. A post
+    /// made with the secret uses up its nonce, whatever becomes of its line; no other post does.
     pub fn judge(
         &mut self,
         post: &Post<'_>,
@@ -286,7 +286,7 @@ impl Posts {
         })
     }
 
-    /// Whether a pass is good: then its nonce is used up.
+    /// Whether a pass is good; if so, its nonce is used up.
     pub fn look_at(&mut self, pass: &Pass) -> bool
         ensures is_good { result ≡ posts.is_good_pass self.old.secret self.old.out pass.now }
         ensures out { self.new.out ≡ posts.out_after_pass self.old.secret self.old.out pass.now }

@@ -11,22 +11,22 @@ ghost use Rattle.posts.specs.WorkedVeils.{WorkedBlock, WorkedKeys};
 ghost use Rattle.posts.specs.declared.tickets.Ticket.{Ticket};
 ghost use Rattle.screen.specs.Words.{is_end};
 
-/// Whose line is typed has made its tag with the secret, of this nonce, this position and this line; its nonce was out, and
-/// is out no more; the line doesn't end the desk.
+/// The tag of a line that is typed was made with the secret, from its nonce, this position and this line; the nonce was out,
+/// and is out no longer; and the line doesn't end the desk.
 pub fn what_is_taken()
     ensures { (secret out line : List ℕ) (post : Post) (at : Position) (waiting : ℕ)
         → verdict secret out post at waiting ≡ Ok line → IsTaken secret out post at line }
 {}
 
-/// A line that is hidden by its own tag is typed, where its nonce is out and it is made for the desk's position.
+/// A line encrypted by its own tag is typed, if its nonce is out and it is meant for the desk's position.
 pub fn what_is_typed()
     ensures { (secret out : List ℕ) (post : Post) (at : Position) (nonce waiting : ℕ) (line : List ℕ)
         → IsPostOf secret nonce at line post → is_out out nonce ≡ true → is_line line ≡ true → is_end line ≡ false
         → length line ≤ 128 → waiting < 8 → verdict secret out post at waiting ≡ Ok line }
 {}
 
-/// Who has the secret reads what was hidden under a number. What else opens under it has a tag by the secret of the direction,
-/// that number and just these hidden bytes.
+/// With the secret, what was encrypted under a number can be read. Anything else that opens under that number has a tag made
+/// with the secret from the direction, the number and exactly these encrypted bytes.
 pub fn what_a_page_reads()
     ensures reads { (secret : List ℕ) (number : ℕ) (text : List ℕ)
         → opened secret number (frame_tag secret number (hidden_by secret number text)) (hidden_by secret number text) ≡ Some text }
@@ -34,30 +34,29 @@ pub fn what_a_page_reads()
         → tag ≢ frame_tag secret number hidden → opened secret number tag hidden ≡ None }
 {}
 
-/// Over any list of calls, whatever the secret is in between, each text is hidden under a greater number than those before.
+/// Over any list of calls, even if the secret changes, each text is encrypted under a greater number than those before.
 pub fn each_number_once()
     ensures { (number : ℕ) (calls : List Call) → AllPairs (λ m n. m < n) (numbers number calls) }
 {}
 
-/// Over any list of calls, whatever the secret is in between, no nonce is good for two lines, nor for a line and a pass, nor for
-/// two passes.
+/// Over any list of calls, even if the secret changes, no nonce is good for two lines, for a line and a pass, or two passes.
 pub fn each_nonce_once()
     ensures { (secret : List ℕ) (calls : List Call) → AllPairs (λ m n. m ≢ n) (accepted secret [] 1 calls) }
 {}
 
-/// Who is handed something made a tag by the ticket that was out, in its time, and reads the secret by that ticket, which is out
-/// no more.
+/// Whoever is handed something made a tag with the ticket that was out, within its time, and reads the secret by that ticket,
+/// which is out no longer.
 pub fn what_a_ticket_gives()
     ensures { (secret tag text : List ℕ) (ticket : Option Ticket) (now : ℕ)
         → handed secret ticket tag now ≡ Some text → IsHanded secret ticket tag now text }
 {}
 
-/// Of all who ask between two squares, one at most is handed the secret.
+/// Of all who ask between two squares, at most one is handed the secret.
 pub fn each_ticket_once()
     ensures { (ticket : Option Ticket) (asking : List Asking) → length (handed_in ticket asking) ≤ 1 }
 {}
 
-/// Both keys of a secret, and a block of a keystream, as Python's `hmac` makes them.
+/// Both keys of a secret, and a block of a keystream, as Python's `hmac` computes them.
 pub fn worked_frames()
     ensures keys { WorkedKeys }
     ensures block { WorkedBlock }

@@ -1,5 +1,6 @@
-//! Who may type from a page: only who has its secret, for which the ticket of its square is given once, at the desk's position, and each such post once. Whose
-//! place there is safe: who has a pass by that secret. What hides from all others what a desk and its page say to each other.
+//! Who may type from a page: whoever has its secret, which the ticket of its square gives once; each post is for the desk's
+//! position and is good once. A pass made with the secret keeps a viewer's place there safe. What a desk and its page tell each
+//! other is encrypted by the secret.
 #![tactic(auto)]
 
 mod judging;

@@ -1,17 +1,17 @@
-//! The nonces that are out.
+//! The nonces that are out: given, and not yet used or forgotten.
 
 ghost use Rattle.std.specs.Prelude.{◌≡◌};
 ghost use Rattle.posts.specs.Posts as posts;
 
 use arrayvec::ArrayVec;
 
-/// How many nonces are out at most.
+/// The largest number of nonces that are out.
 pub const MOST_OUT: usize = 64;
 
 /// The nonces that are out, the oldest first.
 pub type Nonces = ArrayVec<u64, 64>;
 
-/// Has a nonce be out. Where as many are as may, the oldest is forgotten.
+/// Adds a nonce to those that are out. If they are full, the oldest is forgotten.
 pub fn put(out: &mut Nonces, nonce: u64)
     ensures { out.new.items ≡ posts.with_given out.old.items nonce }
 {
@@ -28,7 +28,7 @@ pub fn is_out(out: &Nonces, nonce: u64) -> bool
     out.as_slice().contains(&nonce)
 }
 
-/// Has a nonce be out no more.
+/// Takes a nonce off those that are out.
 pub fn let_go(out: &mut Nonces, nonce: u64)
     ensures { out.new.items ≡ posts.without nonce out.old.items }
 {

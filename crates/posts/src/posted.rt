@@ -16,9 +16,9 @@ pub type LineText = ArrayVec<u8, LINE_ROOM>;
 #[derive(Drop)]
 pub struct PostedLine {
     pub text: LineText,
-    /// Where the desk stood.
+    /// The position of the desk.
     pub at: Position,
-    /// The page's secret, the nonces that were out, and what the post said of the line: clauses alone read them.
+    /// The page's secret, the nonces that were out, and the post's stamp: only clauses read them.
     pub secret: Snapshot<[u8; 16]>,
     pub out: Snapshot<Nonces>,
     pub stamp: Snapshot<Stamp>,

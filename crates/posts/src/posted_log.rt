@@ -15,7 +15,7 @@ pub enum PostedLog {
 impl PostedLog {
     ghost use Rattle.posts.specs.PostedLogs.{lines_of};
 
-    /// This log, and then a line.
+    /// Adds a line to the log.
     pub fn line(&self, line: &PostedLine) -> PostedLog
         ensures { lines_of result ≡ lines_of self.now ++ line.now.text.items ∷ [] }
     {

@@ -1,17 +1,17 @@
-//! Why a post isn't taken.
+//! Why a post is refused.
 
 ghost use Rattle.std.specs.Prelude.{◌≡◌};
 
-/// Why a post isn't taken.
+/// Why a post is refused.
 #[derive(Clone, Copy, Debug, PartialEq, Eq)]
 pub enum Refusal {
-    /// It names another host, or comes from a page of another one.
+    /// It names another host, or comes from a page of another host.
     Foreign,
     /// Its line is longer than any that a desk takes.
     TooLong,
-    /// It lacks a position, a nonce or a tag, or what it hides is no line.
+    /// It lacks a position, a nonce or a tag, or its decrypted text isn't a line.
     Malformed,
-    /// Its nonce isn't out: it wasn't given, is used, or is forgotten.
+    /// Its nonce isn't out: it was never given, or is used or forgotten.
     NotOut,
     /// Its tag isn't made with the secret.
     WrongTag,
@@ -26,7 +26,7 @@ pub enum Refusal {
 impl Refusal {
     ghost use Rattle.posts.specs.Posts.{status_of};
 
-    /// With which status it is answered.
+    /// Returns the HTTP status of the answer.
     pub fn status(self) -> u16
         ensures { result ≡ status_of self }
     {

@@ -1,4 +1,4 @@
-//! What a post says of its line: where it is meant, with which nonce and tag.
+//! The stamp of a posted line: the position that it is meant for, its nonce and its tag.
 
 ghost use Rattle.std.specs.Prelude.{◌≡◌, ◌<◌, ◌^◌, ℕ, List, None, Some, IfSome, MatchOption, MatchResult, decimal, length};
 ghost use Rattle.std.specs.List.{after_first, before_first, position_or_len};
@@ -9,7 +9,7 @@ use agree_core::Position;
 use hex::FromHex;
 use itoa::Buffer;
 
-/// What a post says of its line.
+/// The position, nonce and tag of a posted line.
 #[derive(Clone, Copy)]
 pub struct Stamp {
     /// The position that the line is meant for.
@@ -18,14 +18,14 @@ pub struct Stamp {
     pub tag: [u8; 32],
 }
 
-/// What who asks to be told each state says to show that it has the secret.
+/// What a page sends with its request for events to prove that it has the secret.
 #[derive(Clone, Copy)]
 pub struct Pass {
     pub nonce: u64,
     pub tag: [u8; 32],
 }
 
-/// The number that a text is, in digits and without a needless zero.
+/// Parses a number in digits, without leading zeros.
 fn number_in(text: &str) -> Option<u64>
     ensures only { IfSome result (λ n. text.now ≡ decimal n) }
     ensures each { (n : ℕ) → n < 2 ^ 64 → text.now ≡ decimal n → result ≡ Some n }
@@ -38,7 +38,7 @@ fn number_in(text: &str) -> Option<u64>
     }
 }
 
-/// The same below 2 to the power of 32.
+/// Parses a number below 2 to the power of 32 in digits, without leading zeros.
 fn small_in(text: &str) -> Option<u32>
     ensures only { IfSome result (λ n. text.now ≡ decimal n) }
     ensures each { (n : ℕ) → n < 2 ^ 32 → text.now ≡ decimal n → result ≡ Some n }
@@ -46,7 +46,7 @@ fn small_in(text: &str) -> Option<u32>
     u32::try_from(number_in(text)?).ok()
 }
 
-/// What stands before the first point, and what stands after it.
+/// Cuts a text at its first point, if it has one.
 fn cut(text: &str) -> Option<(&str, &str)>
     ensures { MatchOption result (position_or_len texts.is_point text.now ≡ length text.now)
         (λ parts. (parts.0.now ≡ before_first texts.is_point text.now)
@@ -56,7 +56,7 @@ fn cut(text: &str) -> Option<(&str, &str)>
     text.split_once('.')
 }
 
-/// The position that a text names, as `18.0`: a place, a point and a round.
+/// Parses a position, as `18.0`: a place, a point and a round.
 pub fn place_in(text: &str) -> Option<Position>
     ensures only { IfSome result (λ at. text.now ≡ texts.place_text at) }
     ensures each { (place round : ℕ) → place < 2 ^ 32 → round < 2 ^ 32
@@ -70,7 +70,7 @@ pub fn place_in(text: &str) -> Option<Position>
     })
 }
 
-/// The tag that 64 hex digits are.
+/// Parses a tag of 64 hex digits.
 pub fn tag_in(text: &str) -> Option<[u8; 32]>
     ensures { MatchResult (decode_sized text.now 32) (λ tag. result ≡ Some tag) (λ _. result ≡ None) }
 {
@@ -80,7 +80,7 @@ pub fn tag_in(text: &str) -> Option<[u8; 32]>
 impl Stamp {
     ghost use Rattle.posts.specs.Stamps.{IsStamp};
 
-    /// What a post says of its line by the texts of three fields, where each of them is one of these.
+    /// Parses a stamp from the texts of three fields. Returns `None` if any of them is malformed.
     pub fn read(at: &str, nonce: &str, tag: &str) -> Option<Stamp>
         ensures only { IfSome result (IsStamp at.now nonce.now tag.now) }
         ensures each { (place round n : ℕ) (digest : List ℕ) → place < 2 ^ 32 → round < 2 ^ 32 → n < 2 ^ 64
@@ -98,7 +98,7 @@ impl Stamp {
 impl Pass {
     ghost use Rattle.posts.specs.Stamps.{IsPass};
 
-    /// A pass by the texts of its nonce and its tag, where they are these.
+    /// Parses a pass from the texts of its nonce and its tag. Returns `None` if either is malformed.
     pub fn read(nonce: &str, tag: &str) -> Option<Pass>
         ensures only { IfSome result (IsPass nonce.now tag.now) }
         ensures each { (n : ℕ) (digest : List ℕ) → n < 2 ^ 64

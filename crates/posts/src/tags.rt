@@ -1,4 +1,4 @@
-//! What a post's tag is made of, and a pass's.
+//! The tags of posts and passes.
 
 ghost use Rattle.std.specs.Prelude.{◌≡◌, ◌↔◌, ◌≤◌, ◌+◌, ◌++◌, IsTrue, decimal, length};
 ghost use Rattle.arrayvec.specs.ArrayVec.{array_vec_len};
@@ -9,13 +9,13 @@ use arrayvec::ArrayVec;
 use itoa::Buffer;
 use seal::hmac;
 
-/// How many bytes a tag has.
+/// The length of a tag, in bytes.
 const TAG: usize = 32;
 
-/// What a tag or a block of a keystream is made of; the longest is a nonce of 20 digits at most, a position of 21 and a line of 128, with two blanks.
+/// What a tag or keystream block is made from; at most a nonce of 20 digits, a position of 21, a line of 128 and two blanks.
 pub type Tagged = ArrayVec<u8, 171>;
 
-/// Whether these are the same bytes. It takes the same time wherever they differ.
+/// Whether two tags are equal. Takes the same time wherever they differ.
 pub fn is_same(tag: &[u8; 32], other: &[u8; 32]) -> bool
     ensures { IsTrue result ↔ (tag.now ≡ other.now) }
 {
@@ -26,7 +26,7 @@ pub fn is_same(tag: &[u8; 32], other: &[u8; 32]) -> bool
     different == 0
 }
 
-/// Adds bytes for which there is room.
+/// Appends bytes, for which there is room.
 pub fn put(text: &mut Tagged, bytes: &[u8])
     requires { array_vec_len text.old + length bytes.now ≤ 171 }
     ensures items { text.new.items ≡ text.old.items ++ bytes.now }
@@ -35,7 +35,7 @@ pub fn put(text: &mut Tagged, bytes: &[u8])
     let _fits = text.try_extend_from_slice(bytes);
 }
 
-/// Adds a number of at most ten digits.
+/// Appends a number of at most ten digits.
 fn put_small(text: &mut Tagged, number: u32)
     requires { array_vec_len text.old + 10 ≤ 171 }
     ensures items { text.new.items ≡ text.old.items ++ decimal number }
@@ -45,7 +45,7 @@ fn put_small(text: &mut Tagged, number: u32)
     put(text, digits.format(number).as_bytes());
 }
 
-/// Adds a position.
+/// Appends a position.
 fn put_place(text: &mut Tagged, at: Position)
     requires { array_vec_len text.old + 21 ≤ 171 }
     ensures items { text.new.items ≡ text.old.items ++ texts.place_text at }
@@ -56,7 +56,7 @@ fn put_place(text: &mut Tagged, at: Position)
     put_small(text, at.round);
 }
 
-/// What the tag of a line is made of.
+/// Returns the text that the tag of a line is made from.
 fn tagged(nonce: u64, at: Position, line: &[u8]) -> Tagged
     requires { length line.now ≤ 128 }
     ensures { result.items ≡ texts.tagged nonce at line.now }
@@ -71,7 +71,7 @@ fn tagged(nonce: u64, at: Position, line: &[u8]) -> Tagged
     text
 }
 
-/// The tag of a line that is meant for a position, with this nonce.
+/// Returns the tag of a line for a position, with this nonce.
 pub fn tag_of(secret: &[u8; 16], nonce: u64, at: Position, line: &[u8]) -> [u8; 32]
     requires { length line.now ≤ 128 }
     ensures { result ≡ texts.tag_of secret.now nonce at line.now }
@@ -79,7 +79,7 @@ pub fn tag_of(secret: &[u8; 16], nonce: u64, at: Position, line: &[u8]) -> [u8; 
     hmac(secret.as_slice(), tagged(nonce, at, line).as_slice())
 }
 
-/// The tag of a pass with this nonce.
+/// Returns the tag of a pass with this nonce.
 pub fn pass_tag(secret: &[u8; 16], nonce: u64) -> [u8; 32]
     ensures { result ≡ texts.pass_tag secret.now nonce }
 {

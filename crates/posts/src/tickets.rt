@@ -6,10 +6,10 @@ ghost use Rattle.posts.specs.Tickets as tickets;
 use crate::tags::is_same;
 use seal::hmac;
 
-/// For how many milliseconds a ticket is good, once its square is shown.
+/// How long a ticket is good once its square is shown, in milliseconds.
 pub const GOOD_FOR: u64 = 120_000;
 
-/// How many bytes a secret has.
+/// The length of a secret, in bytes.
 const SECRET: usize = 16;
 
 /// The ticket in the link of a square.
@@ -20,21 +20,21 @@ pub struct Ticket {
     since: u64,
 }
 
-/// What shows that its maker has a ticket.
+/// Returns the tag which shows that its maker has the ticket.
 fn ticket_tag(key: &[u8; 16]) -> [u8; 32]
     ensures { result ≡ tickets.ticket_tag key.now }
 {
     hmac(key.as_slice(), b"ticket")
 }
 
-/// What hides a secret from all who haven't a ticket.
+/// Returns the pad that encrypts a secret by a ticket.
 fn pad_of(key: &[u8; 16]) -> [u8; 32]
     ensures { result ≡ tickets.pad_of key.now }
 {
     hmac(key.as_slice(), b"secret")
 }
 
-/// A secret whose bits are turned where those of a pad are set.
+/// Returns a secret XORed with a pad.
 fn xored(secret: &[u8; 16], pad: &[u8; 32]) -> [u8; 16]
     ensures { result ≡ tickets.xored secret.now pad.now }
 {
@@ -46,14 +46,14 @@ fn xored(secret: &[u8; 16], pad: &[u8; 32]) -> [u8; 16]
 }
 
 impl Ticket {
-    /// One whose square is shown now.
+    /// Makes a ticket whose square is shown now.
     pub fn new(key: [u8; 16], now: u64) -> Ticket
         ensures { result ≡ record { key = key; since = now } }
     {
         Ticket { key, since: now }
     }
 
-    /// Whether this is its tag, in its time.
+    /// Whether this is the ticket's tag, and its time isn't over.
     pub fn is_good(&self, tag: &[u8; 32], now: u64) -> bool
         ensures { result ≡ tickets.is_good_ticket (Some self.now) tag.now now }
     {
@@ -64,7 +64,7 @@ impl Ticket {
         }
     }
 
-    /// A secret, hidden by it.
+    /// Returns a secret, encrypted by this ticket.
     pub fn hides(&self, secret: &[u8; 16]) -> [u8; 16]
         ensures { Some result ≡ tickets.hidden_by (Some self.now) secret.now }
     {

@@ -1,4 +1,4 @@
-//! What hides texts between a desk and its page from all who haven't its secret.
+//! Encrypts texts between a desk and its page, by the page's secret.
 
 ghost use Rattle.std.specs.Prelude.{◌≡◌, ◌≢◌, ◌≤◌, ◌/◌, ◌%◌, ◌++◌, IfOk, length};
 ghost use Rattle.arrayvec.specs.ArrayVec.{array_vec_len};
@@ -9,19 +9,19 @@ use itoa::Buffer;
 use seal::hmac;
 use std::alloc::{AllocError, Global};
 
-/// How many bytes a block of the keystream has.
+/// The length of a keystream block, in bytes.
 const BLOCK: usize = 32;
 
-/// A text that is hidden for the page.
+/// A text encrypted for the page.
 #[derive(Drop)]
 pub struct Frame {
-    /// Under which number.
+    /// Its number.
     pub number: u64,
-    /// Its tag, and the hidden bytes.
+    /// Its tag, and the encrypted bytes.
     pub bytes: Vec<u8>,
 }
 
-/// What the keystream is of that hides what a desk tells under a number.
+/// Returns the seed of the keystream that encrypts a desk's text with this number.
 fn page_seed(number: u64) -> Tagged
     ensures items { result.items ≡ veils.page_seed number }
     ensures len { array_vec_len result ≤ 37 }
@@ -33,7 +33,7 @@ fn page_seed(number: u64) -> Tagged
     seed
 }
 
-/// What the keystream is of that hides the line of a post with this tag.
+/// Returns the seed of the keystream that encrypts the line of a post with this tag.
 fn desk_seed(tag: &[u8; 32]) -> Tagged
     ensures items { result.items ≡ veils.desk_seed tag.now }
     ensures len { array_vec_len result ≤ 37 }
@@ -44,7 +44,7 @@ fn desk_seed(tag: &[u8; 32]) -> Tagged
     seed
 }
 
-/// A block of the keystream.
+/// Returns a block of the keystream.
 fn block(key: &[u8; 32], seed: &Tagged, number: u64) -> [u8; 32]
     requires { array_vec_len seed.now ≤ 37 }
     ensures { result ≡ veils.block key.now seed.now.items number }
@@ -57,7 +57,7 @@ fn block(key: &[u8; 32], seed: &Tagged, number: u64) -> [u8; 32]
     hmac(key.as_slice(), text.as_slice())
 }
 
-/// The block of the keystream in which its byte i stands: this one, unless i begins the next.
+/// Returns the block of the keystream that has its byte i: `last`, unless byte i begins the next block.
 fn block_at(last: [u8; 32], key: &[u8; 32], seed: &Tagged, i: usize) -> [u8; 32]
     requires { array_vec_len seed.now ≤ 37 }
     ensures { (i % 32 ≢ 0 → last ≡ veils.block key.now seed.now.items (i / 32))
@@ -70,7 +70,7 @@ fn block_at(last: [u8; 32], key: &[u8; 32], seed: &Tagged, i: usize) -> [u8; 32]
     }
 }
 
-/// Turns the bits of a text where those of the keystream are set.
+/// XORs a text with the keystream.
 fn turn(key: &[u8; 32], seed: &Tagged, text: &mut [u8])
     requires { array_vec_len seed.now ≤ 37 }
     ensures { text.new ≡ veils.turned_from key.now seed.now.items 0 text.old }
@@ -82,7 +82,7 @@ fn turn(key: &[u8; 32], seed: &Tagged, text: &mut [u8])
     }
 }
 
-/// Turns a text by the keystream of a seed, under the key that is made of a secret for that.
+/// XORs a text with the keystream of a seed, under the stream key made from a secret.
 fn turn_by(secret: &[u8; 16], seed: &Tagged, text: &mut [u8])
     requires { array_vec_len seed.now ≤ 37 }
     ensures { text.new ≡ veils.turned secret.now seed.now.items text.old }
@@ -91,14 +91,14 @@ fn turn_by(secret: &[u8; 16], seed: &Tagged, text: &mut [u8])
     turn(&key, seed, text);
 }
 
-/// Opens the hidden line of a post with this tag.
+/// Decrypts the line of a post with this tag.
 pub fn open_line(secret: &[u8; 16], tag: &[u8; 32], line: &mut [u8])
     ensures { line.new ≡ veils.turned secret.now (veils.desk_seed tag.now) line.old }
 {
     turn_by(secret, &desk_seed(tag), line);
 }
 
-/// The tag of what is hidden under a number.
+/// Returns the tag of the encrypted bytes of a text with this number.
 fn frame_tag(
     alloc: Global,
     secret: &[u8; 16],
@@ -115,7 +115,7 @@ fn frame_tag(
     Ok(hmac(key.as_slice(), text.as_slice()))
 }
 
-/// A text, hidden under a number.
+/// Encrypts a text under a number.
 fn hidden_by(
     alloc: Global,
     secret: &[u8; 16],
@@ -130,7 +130,7 @@ fn hidden_by(
     Ok(hidden)
 }
 
-/// What is sent of a text under a number: the tag, and the hidden bytes.
+/// Returns the frame of a text under a number: the tag, and the encrypted bytes.
 pub fn frame_of(
     alloc: Global,
     secret: &[u8; 16],

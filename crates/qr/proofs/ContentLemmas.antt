@@ -1,11 +1,11 @@
--- What was put of a text, and what its rest makes.
+-- The codewords put so far, and those of the rest of the text.
 use Rattle.std.proofs.Common.{◌≡◌, ◌+◌, ◌*◌, ◌/◌, ◌%◌, ◌<◌, ◌≤◌, ℕ, List, [], ◌∷◌, ◌++◌, append_assoc, arith, length, drop, get_or}
 use Rattle.std.specs.List.{flat_map}
 use Rattle.std.proofs.lemmas.Grind.{common_steps}
 use Rattle.std.proofs.lemmas.List.{at_drop_more, at_drop_all}
 use Rattle.qr.specs.Content.{halves, joined}
 
--- what the rest of a text makes behind a byte
+-- the codewords that the rest of a text makes after a byte
 abbrev pub rest_codewords : ℕ → List ℕ → List ℕ
 rest_codewords before rest = joined (before % 16 ∷ flat_map halves rest ++ 0 ∷ [])
 

@@ -1,4 +1,4 @@
--- Codewords have one list of modules.
+-- The codewords determine the modules.
 use Rattle.std.proofs.Common.{◌≡◌, ◌<◌, ◌&&◌, ◌||◌, inl, inr, ℕ, zero, suc, Bool, true, false, cond, not, eqb, List, [], ◌∷◌, ◌++◌, map}
 use Rattle.std.proofs.Common.{get_or, refl, ap, sym, subst, ◌∙◌, arith, add-one}
 use Rattle.std.specs.Prelude.{All, Contains, nat_lt}
@@ -12,7 +12,7 @@ use Rattle.qr.proofs.RangeLemmas.{holds_at}
 abbrev is_passed : ℕ → Bool
 is_passed k = not (is_data k) || (eqb (place (step_of k)) k && nat_lt (step_of k) 1056)
 
--- the way leads through each module of data
+-- the placement path reaches each data module
 passed : (k : ℕ) → k < 1089 → is_data k ≡ true → (place (step_of k) ≡ k) × (step_of k < 1056)
 passed k low one =
     let tested : is_passed k ≡ true = holds_at is_passed 1089 k low refl in

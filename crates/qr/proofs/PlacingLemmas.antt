@@ -1,4 +1,4 @@
--- The places of data, and a module that is written.
+-- The places of the data modules, and a module that is written.
 use Rattle.std.proofs.Common.{◌≡◌, ◌≢◌, ◌+◌, ◌-◌, ◌*◌, ◌/◌, ◌%◌, ◌<◌, ◌≤◌, ℕ, zero, suc, Bool, true, false, cond, eqb, List, [], ◌∷◌}
 use Rattle.std.proofs.Common.{◌++◌, map, set, length, get_or, refl, ap, sym, ◌∙◌, arith, add-one, append-nil, get_or-set_same}
 use Rattle.std.proofs.Common.{get_or-set_other}
@@ -22,7 +22,7 @@ step_of at =
 found : (n : ℕ) → n < 1056 → step_of (place n) ≡ n
 found n h = eqb-true _ _ (holds_at (λ n. eqb (step_of (place n)) n) 1056 n h refl)
 
--- no two steps lead to one place
+-- no two steps lead to the same place
 pub places_differ : (n s : ℕ) → n < s → s < 1056 → place n ≢ place s
 places_differ n s lt within e =
     let same : n ≡ s = sym (found n (omega arith)) ∙ ap step_of e ∙ found s within in omega arith
@@ -38,7 +38,7 @@ pub places_same : (n : ℕ) → is_data (place n) ≡ false → data_places (n +
 places_same n h =
     places_next n ∙ ap (λ (b : Bool). data_places n ++ cond b (place n ∷ []) []) h ∙ append-nil (data_places n)
 
--- a module that is written changes none at an earlier step
+-- writing a module changes none at an earlier step
 kept : (modules : List Bool) (b : Bool) (s n : ℕ) → s < 1056 → n ≤ s
     → map (unmasked (set modules (place s) b)) (data_places n) ≡ map (unmasked modules) (data_places n)
 kept modules b s zero within h = refl
@@ -69,17 +69,17 @@ bit_more codewords modules bit s within inside h so_far =
     rw (places_more s h, map_push new, kept modules b s s within (omega arith), so_far, here)
     (sym (map-range_with_len_more (is_set codewords) 0 bit bit (omega arith)))
 
--- and no other module
+-- writing a data module changes no module that isn't data
 pub others_kept : (modules : List Bool) (s at : ℕ) (b : Bool) → is_data (place s) ≡ true → is_data at ≡ false
     → get_or (set modules (place s) b) at false ≡ get_or modules at false
 others_kept modules s at b one other =
     get_or-set_other modules (place s) at b false (λ (same : at ≡ place s). let bad : true ≡ false = sym one ∙ ap is_data (sym same) ∙ other in cc)
 
--- there are 807 places of data
+-- there are 807 data modules
 all_places : length (data_places 1056) ≡ 807
 all_places = refl
 
--- when all steps are done
+-- after all steps
 pub placed_at_last : (codewords : List ℕ) (modules : List Bool) (bit s : ℕ) → length modules ≡ 1089 → s ≡ 1056 → length (data_places s) ≡ bit
     → map (unmasked modules) (data_places s) ≡ map (is_set codewords) (range_with_len 0 bit)
     → ((at : ℕ) → at < 1089 → is_data at ≡ false → get_or modules at false ≡ is_dark_in_all at) → IsPlaced codewords modules

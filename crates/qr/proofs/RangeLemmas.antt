@@ -1,4 +1,4 @@
--- The first numbers: with one more, and a test that all of them pass.
+-- A range of numbers with one more number, and a test that all of them pass.
 use Rattle.std.proofs.Common.{◌≡◌, ◌≢◌, ◌+◌, ◌<◌, ◌≤◌, ℕ, zero, suc, Bool, true, List, [], ◌∷◌, ◌++◌, ap, sym, subst, inl, inr, ◌∙◌, arith, add-one, zero-add}
 use Rattle.std.specs.Prelude.{fold}
 use Rattle.std.specs.List.{flat_map, list_all, range_with_len}

@@ -1,4 +1,4 @@
--- Why codewords with their check codewords have the roots that a reader looks for.
+-- Codewords followed by their error correction codewords have the roots that a reader tests for.
 use Rattle.std.proofs.Common.{◌≡◌, ◌+◌, ◌*◌, ◌-◌, ◌/◌, ◌%◌, ◌^◌, ◌<◌, ◌≤◌, inl, inr, ℕ, zero, suc, Bool, true, List, [], ◌∷◌, ◌++◌, map}
 use Rattle.std.proofs.Common.{length, get_or, replicate, refl, ap, sym, subst, ◌∙◌, arith, eqb, add-one, bit_xor}
 use Rattle.std.specs.Prelude.{nat_lt, fold, All}
@@ -15,7 +15,7 @@ use Rattle.qr.specs.declared.check.TheConstants.{GENERATOR}
 use Rattle.qr.specs.Roots.{HasRoots, next, times_power}
 use Rattle.qr.proofs.RangeLemmas.{holds_at}
 
--- each is an element of the field
+-- each number is an element of the field
 abbrev pub Bytes : List ℕ → Type 0
 Bytes [] = Unit {0}
 Bytes (x ∷ xs) = (x < 256) × Bytes xs
@@ -23,7 +23,7 @@ Bytes (x ∷ xs) = (x < 256) × Bytes xs
 xor_crossed : (a b c d : ℕ) → bit_xor (bit_xor a b) (bit_xor c d) ≡ bit_xor (bit_xor a c) (bit_xor b d)
 xor_crossed a b c d = grind (arith, xor_assoc, xor_comm)
 
--- twice an element by its lower bits and its highest one
+-- twice an element, by its lower bits and its highest bit
 abbrev doubled_parts : ℕ → ℕ
 doubled_parts a = bit_xor (2 * (a % 128)) (a / 128 * 29)
 
@@ -120,7 +120,7 @@ products_low : (a : ℕ) (bs : List ℕ) → a < 256 → Bytes (map (times a) bs
 products_low a [] low = tt
 products_low a (b ∷ bs) low = (bits_low a b 0 (range_with_len 0 8) low (omega arith), products_low a bs low)
 
--- a product of sums, and what the generator makes of it
+-- the product of a sum is the sum of the products, and a multiple of the generator likewise
 bit_sum : (a b c p q k : ℕ) → p < 256 → q < 256
     → times_bit (bit_xor a b) c (bit_xor p q) k ≡ bit_xor (times_bit a c p k) (times_bit b c q k)
 unfolding times_bit
@@ -163,7 +163,7 @@ power_of_2 j k low_j low_k =
 multiple_none : (j : ℕ) → multiple j 0 ≡ 0
 multiple_none j = multiple_sum j 0 0 (omega arith) (omega arith) ∙ xor_self (multiple j 0)
 
--- one more bit of what is multiplied
+-- one more bit of the factor
 one_bit_more : (j : ℕ) → j < 20 → (k : ℕ) → k < 8 → 2 ^ k + 2 ^ k ≤ 256 → ((b : ℕ) → b < 2 ^ k → multiple j b ≡ 0)
     → (a : ℕ) → a < 2 ^ k + 2 ^ k → multiple j a ≡ 0
 one_bit_more j low_j k low_k fits below a low_a =
@@ -188,7 +188,7 @@ multiple_zero j low_j =
     let to_128 : (b : ℕ) → b < 128 → multiple j b ≡ 0 = one_bit_more j low_j 6 (omega arith) (omega arith) to_64 in
     one_bit_more j low_j 7 (omega arith) (omega arith) to_128
 
--- what a step of the division leaves is a sum of two polynomials
+-- the remainder after a step of the division is a sum of two polynomials
 zero_past : (xs : List ℕ) (k : ℕ) → get_or (xs ++ 0 ∷ []) k 0 ≡ get_or xs k 0
 zero_past [] zero = refl
 zero_past [] (suc k) = refl
@@ -231,7 +231,7 @@ divided_low r rs c long low low_c =
 next_zero : (j : ℕ) → next j 0 0 ≡ 0
 next_zero j = ap (λ (x : ℕ). bit_xor x 0) (power_zero j)
 
--- a root of what was divided so far is one after a step
+-- a root of the polynomial divided so far is a root after one more step
 step_zero : (j v r : ℕ) (rs : List ℕ) (c : ℕ) → j < 20 → v < 256 → Bytes (r ∷ rs) → length (r ∷ rs) ≡ 20 → c < 256
     → fold (next j) v (r ∷ rs) ≡ 0 → fold (next j) (next j v c) (divided (r ∷ rs) c) ≡ 0
 unfolding multiple

@@ -8,16 +8,16 @@ use Rattle.qr.specs.Check.{check_codewords}
 abbrev pub halves : ℕ → List ℕ
 halves b = b / 16 ∷ b % 16 ∷ []
 
--- two halves are a codeword
+-- joins each two halves into a codeword
 abbrev pub joined : List ℕ → List ℕ
 joined (high ∷ low ∷ rest) = (high * 16 + low) ∷ joined rest
 joined _ = []
 
--- the mode of bytes, how many there are, the bytes, and the end
+-- the mode for bytes, the number of bytes, the bytes, and the terminator
 abbrev pub text_codewords : List ℕ → List ℕ
 text_codewords text = joined (4 ∷ flat_map halves (length text ∷ text) ++ 0 ∷ [])
 
--- what stands behind the end: by turns these two
+-- the pad codewords after the terminator: these two alternate
 abbrev pub pad : ℕ → ℕ
 pad k = if k % 2 == 0 then 0xEC else 0x11
 

@@ -1,4 +1,4 @@
--- What is claimed: the codewords of a text and their roots, which modules are dark, and the text that is printed.
+-- The specification: the codewords of a text and their roots, which modules are dark, and the text that is printed.
 pub mod Check
 pub mod Content
 pub mod Modules

@@ -1,4 +1,4 @@
--- What a reader tests of codewords: at 20 elements of the field their polynomial is 0.
+-- What a reader tests: the polynomial of the codewords is 0 at 20 elements of the field.
 use Rattle.std.specs.Prelude.{◌≡◌, ◌<◌, ℕ, zero, suc, List, fold, bit_xor}
 use Rattle.qr.specs.Check.{doubled}
 
@@ -7,7 +7,7 @@ abbrev pub times_power : ℕ → ℕ → ℕ
 times_power zero a = a
 times_power (suc j) a = doubled (times_power j a)
 
--- the value at 2^j so far, and with one more coefficient
+-- the value at 2^j, extended by one more coefficient
 abbrev pub next : ℕ → ℕ → ℕ → ℕ
 next j value coefficient = bit_xor (times_power j value) coefficient
 

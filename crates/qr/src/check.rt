@@ -1,14 +1,14 @@
-//! The codewords by which a reader corrects errors: a Reed-Solomon code over the field of 256 elements.
+//! The error correction codewords: a Reed-Solomon code over the field of 256 elements.
 
 ghost use Rattle.std.specs.Prelude.{◌≡◌, ◌<◌, slice_index};
 ghost use Rattle.qr.specs.Check as check;
 
-/// What is divided by, behind x^20: the product of x - 2^i for each i below 20.
+/// The generator polynomial without its first term x^20: the product of x - 2^i for each i below 20.
 const GENERATOR: [u8; 20] = [
     152, 185, 240, 5, 111, 99, 6, 220, 112, 150, 69, 36, 187, 22, 228, 198, 121, 121, 165, 174,
 ];
 
-/// Twice an element of the field.
+/// Returns twice an element of the field.
 fn doubled(element: u8) -> u8
     ensures { result ≡ check.doubled element }
 {
@@ -19,7 +19,7 @@ fn doubled(element: u8) -> u8
     }
 }
 
-/// The product of an element and the first bits of another, with one more bit.
+/// Extends the product of an element and the first bits of another by one more bit.
 #[tactic(auto, unfolding(crate::specs::Check::times_bit))]
 fn times_bit(one: u8, other: u8, product: u8, k: u8) -> u8
     requires { k < 8 }
@@ -33,7 +33,7 @@ fn times_bit(one: u8, other: u8, product: u8, k: u8) -> u8
     }
 }
 
-/// The product of two elements.
+/// Returns the product of two elements.
 #[tactic(auto, using(crate::proofs::RangeLemmas::fold_range_more))]
 fn times(one: u8, other: u8) -> u8
     ensures { result ≡ check.times one other }
@@ -45,14 +45,14 @@ fn times(one: u8, other: u8) -> u8
     product
 }
 
-/// A coefficient of what has 20 of them.
+/// Returns coefficient k of a remainder; 0 from 20 on.
 fn coefficient_of(rest: &[u8; 20], k: usize) -> u8
     ensures { result ≡ slice_index rest.now k }
 {
     if k < 20 { rest[k] } else { 0 }
 }
 
-/// A coefficient of what is left when a multiple of the divisor is taken off, one place further on.
+/// Returns coefficient k after the remainder is shifted by one place and a multiple of the generator is subtracted.
 fn coefficient(rest: &[u8; 20], factor: u8, k: usize) -> u8
     requires { k < 20 }
     ensures { result ≡ check.coefficient rest.now factor k }
@@ -60,7 +60,7 @@ fn coefficient(rest: &[u8; 20], factor: u8, k: usize) -> u8
     coefficient_of(rest, k + 1) ^ times(factor, GENERATOR[k])
 }
 
-/// What is left when one more codeword is divided.
+/// Returns the remainder after one more codeword is divided.
 fn divided(rest: &[u8; 20], codeword: u8) -> [u8; 20]
     ensures { result ≡ check.divided rest.now codeword }
 {
@@ -72,7 +72,7 @@ fn divided(rest: &[u8; 20], codeword: u8) -> [u8; 20]
     left
 }
 
-/// The 20 codewords that follow these.
+/// Returns the 20 error correction codewords that follow these.
 #[tactic(auto, using(std::proofs::lemmas::List::Sums::fold_more))]
 pub fn check_of(codewords: &[u8]) -> [u8; 20]
     ensures { result ≡ check.check_codewords codewords.now }

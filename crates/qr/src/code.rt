@@ -1,4 +1,4 @@
-//! A code.
+//! A QR code.
 
 ghost use Rattle.std.specs.Prelude.{◌≡◌, ◌≤◌, ◌↔◌, length, IsSome, IfSome};
 ghost use Rattle.qr.specs.Modules as specs;
@@ -8,15 +8,15 @@ use crate::content::{LONGEST, codewords_of};
 use crate::pattern::SIDE;
 use crate::placing::placed;
 
-/// A QR code. It prints as 19 rows of 41 half blocks, black on white, with the margin of four modules that readers ask for at both sides, and
-/// half of it above and below.
+/// A QR code. It prints as 19 rows of 41 half blocks, black on white, with the quiet zone of four modules that readers ask for
+/// at both sides, and half of that above and below.
 #[derive(Clone, Copy)]
 pub struct Code {
     modules: [bool; 1089],
 }
 
 impl Code {
-    /// Whether a module is dark; beyond the code none is.
+    /// Whether a module is dark; no module outside the code is.
     pub fn is_dark(&self, row: usize, column: usize) -> bool
         ensures { result ≡ specs.is_dark self.now row column }
     {
@@ -28,7 +28,7 @@ impl Code {
     }
 }
 
-/// The code of a text of at most 78 bytes. There is none of a longer one.
+/// Returns the code of a text of at most 78 bytes, and `None` for a longer one.
 pub fn code_of(text: &[u8]) -> Option<Code>
     ensures fits { IsSome result ↔ (length text.now ≤ LONGEST) }
     ensures code { IfSome result (IsCodeOf text.now) }

@@ -7,10 +7,10 @@ ghost use Rattle.qr.specs.Content as content;
 use crate::check::check_of;
 use arrayvec::ArrayVec;
 
-/// How many bytes a text has at most.
+/// The largest length of a text, in bytes.
 pub const LONGEST: usize = 78;
 
-/// Puts a text behind the mode: each codeword has the second half of a byte and the first half of the next.
+/// Puts the mode, the length and the text: each codeword has the second half of a byte and the first half of the next.
 fn put_text(codewords: &mut ArrayVec<u8, 100>, text: &[u8])
     requires empty { codewords.old.items ≡ [] }
     requires fits { length text.now ≤ LONGEST }
@@ -26,14 +26,14 @@ fn put_text(codewords: &mut ArrayVec<u8, 100>, text: &[u8])
     codewords.push(before % 16 * 16);
 }
 
-/// A codeword that stands for nothing.
+/// Returns pad codeword k.
 fn pad(k: usize) -> u8
     ensures { result ≡ content.pad k }
 {
     if k % 2 == 0 { 0xEC } else { 0x11 }
 }
 
-/// Puts so many codewords that stand for nothing.
+/// Puts this many pad codewords.
 fn put_pads(codewords: &mut ArrayVec<u8, 100>, count: usize)
     requires { array_vec_len codewords.old + count ≤ 100 }
     ensures text { codewords.new.items ≡ codewords.old.items ++ content.pads count }
@@ -44,7 +44,7 @@ fn put_pads(codewords: &mut ArrayVec<u8, 100>, count: usize)
     }
 }
 
-/// The codewords of a text: 80 of data, and 20 by which a reader corrects errors.
+/// Returns the codewords of a text: 80 of data, and 20 for error correction.
 pub fn codewords_of(text: &[u8]) -> ArrayVec<u8, 100>
     requires { length text.now ≤ LONGEST }
     ensures { result.items ≡ content.codewords text.now }

@@ -1,4 +1,4 @@
-//! What codewords and modules are. These functions do nothing: each stands for the law that it ensures.
+//! The laws of codewords and modules. These functions do nothing: each stands for the law that it ensures.
 
 ghost use Rattle.std.specs.Prelude.{◌≡◌, ◌<◌, ◌≤◌, ◌++◌, ℕ, Bool, List, All, length};
 ghost use Rattle.qr.specs.Check.{check_codewords};
@@ -8,13 +8,13 @@ ghost use Rattle.qr.specs.Roots.{HasRoots};
 
 use crate::content::LONGEST;
 
-/// Codewords with their check codewords behind them have the roots that a reader looks for, and so have all codewords of a text.
+/// Codewords followed by their error correction codewords have the roots that a reader tests for, and so have those of a text.
 pub fn codewords_have_roots()
     ensures check { (data_part : List ℕ) → All (λ c. c < 256) data_part → HasRoots (data_part ++ check_codewords data_part) }
     ensures text { (text : List ℕ) → All (λ b. b < 256) text → length text ≤ LONGEST → HasRoots (codewords text) }
 {}
 
-/// Codewords have one list of modules.
+/// The codewords determine the modules.
 pub fn modules_are_determined()
     ensures { (codewords : List ℕ) (one other : List Bool) → IsPlaced codewords one → IsPlaced codewords other → one ≡ other }
 {}

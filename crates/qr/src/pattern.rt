@@ -1,12 +1,12 @@
-//! What each code of this version, level and mask has.
+//! The function patterns: the modules that every code of this version, level and mask has.
 
-/// How many modules a side has.
+/// The number of modules a side.
 pub const SIDE: usize = 33;
 
-/// How many modules there are.
+/// The number of modules.
 pub const MODULES: usize = 1089;
 
-/// The modules of a code row by row: `#` is dark and `.` light in each code, `-` is one of data.
+/// The modules of a code row by row: in every code `#` is dark and `.` light; `-` is a data module.
 pub const PATTERN: &[u8; 1089] = b"\
 #######..----------------.#######\
 #.....#..----------------.#.....#\

@@ -1,4 +1,4 @@
-//! Where the bits of codewords stand.
+//! Where the bits of the codewords are placed.
 
 ghost use Rattle.std.specs.Prelude.{◌≡◌, ◌<◌, ℕ, false, length, slice_index_or};
 ghost use Rattle.qr.specs.Modules as specs;
@@ -6,10 +6,10 @@ ghost use Rattle.qr.specs.Modules.{IsPlaced};
 
 use crate::pattern::{MODULES, PATTERN};
 
-/// How many steps the way of data has.
+/// The number of steps of the placement path.
 pub const STEPS: usize = 1056;
 
-/// Whether a module is one of data.
+/// Whether a module is a data module.
 fn is_data(at: usize) -> bool
     requires { at < MODULES }
     ensures { result ≡ specs.is_data at }
@@ -17,7 +17,7 @@ fn is_data(at: usize) -> bool
     PATTERN[at] == b'-'
 }
 
-/// Whether it is dark in each code.
+/// Whether a module is dark in every code.
 fn is_dark_in_all(at: usize) -> bool
     requires { at < MODULES }
     ensures { result ≡ specs.is_dark_in_all at }
@@ -25,8 +25,8 @@ fn is_dark_in_all(at: usize) -> bool
     PATTERN[at] == b'#'
 }
 
-/// The place of a step of the way that data takes: up and down in columns of two modules, from the right, without the column
-/// of the timing pattern.
+/// Returns the module at a step of the placement path: up and down in columns of two modules, from the right, without the
+/// column of the timing pattern.
 fn place(step: usize) -> usize
     requires { step < STEPS }
     ensures place { result ≡ specs.place step }
@@ -43,7 +43,7 @@ fn place(step: usize) -> usize
     33 * row + right - step % 2
 }
 
-/// A bit of codewords, of which the highest comes first. Behind the last one none is set.
+/// Whether a bit of the codewords is set; the highest bit of each comes first, and no bit after the last codeword is set.
 fn is_set(codewords: &[u8], bit: usize) -> bool
     ensures { result ≡ specs.is_set codewords.now bit }
 {
@@ -55,15 +55,15 @@ fn is_set(codewords: &[u8], bit: usize) -> bool
     (codeword >> (7 - bit % 8)) % 2 == 1
 }
 
-/// A module with the mask, or a masked one without it. The mask turns each second module, as a chessboard's squares: as a row
-/// has 33, these are the ones at even places.
+/// Masks a module, or unmasks a masked one. The mask inverts every second module, like a chessboard: as a row has 33 modules,
+/// these are the ones at even places.
 fn masked(at: usize, dark: bool) -> bool
     ensures { result ≡ specs.masked at dark }
 {
     if at % 2 == 0 { !dark } else { dark }
 }
 
-/// The modules that are dark in each code.
+/// Returns the modules that are dark in every code.
 fn dark_in_all() -> [bool; 1089]
     ensures len { length result ≡ MODULES }
     ensures modules { (at : ℕ) → at < MODULES → slice_index_or result at false ≡ specs.is_dark_in_all at }
@@ -75,7 +75,7 @@ fn dark_in_all() -> [bool; 1089]
     modules
 }
 
-/// The modules of a code: which of them are dark.
+/// Places codewords: returns for each module of the code whether it is dark.
 pub fn placed(codewords: &[u8]) -> [bool; 1089]
     ensures { IsPlaced codewords.now result }
 {

@@ -1,4 +1,4 @@
-//! A code, printed.
+//! A QR code, printed.
 
 ghost use Rattle.std.specs.Prelude.{◌≡◌, Some};
 ghost use Rattle.qr.specs.Print as print;
@@ -6,10 +6,10 @@ ghost use Rattle.qr.specs.Print as print;
 use crate::code::Code;
 use std::fmt;
 
-/// How many light modules are printed around a code.
+/// The number of light modules around a code at each side.
 const MARGIN: usize = 4;
 
-/// Two modules, one above the other. Two dark ones are a dark background, as some letters don't fill their place.
+/// Returns two modules, one above the other. Two dark ones are a space on black, as some fonts' blocks don't fill their cell.
 fn block(upper: bool, lower: bool) -> &'static str
     ensures { result.now ≡ print.block upper lower }
 {
@@ -22,7 +22,7 @@ fn block(upper: bool, lower: bool) -> &'static str
 }
 
 impl Code {
-    /// Whether a module is dark, where the margin is counted too.
+    /// Whether a module is dark; rows and columns are counted from the margin's edge.
     fn is_dark_within(&self, row: usize, column: usize) -> bool
         ensures { result ≡ print.is_dark_within self.now row column }
     {
@@ -33,7 +33,7 @@ impl Code {
         }
     }
 
-    /// The character at a place of the print.
+    /// Returns the character at a row and column of the print.
     fn block_at(&self, row: u8, column: u8) -> &'static str
         ensures { result.now ≡ print.block_at self.now row column }
     {
@@ -67,8 +67,8 @@ impl fmt::Display for Blocks<'_> {
 impl fmt::Display for Code {
     ghost output = { λ code. Some (print.printed code) };
 
-    /// Writes it as 19 rows, each with a line feed, in black and white of 256 colours, which themes leave as they are. Half of
-    /// the margin is left out above and below, so that a screen of 24 rows has all.
+    /// Writes the code as 19 rows, each with a line feed, in black and white from the 256 colours, which themes don't change.
+    /// Half of the margin is left out above and below, so that the code fits a screen of 24 rows.
     fn fmt<W: fmt::Write>(&self, f: &mut fmt::Formatter<W>) -> fmt::Result {
         for row in 0..19 {
             let blocks = Blocks {

@@ -1,4 +1,4 @@
--- The overs by what stands, and by the history.
+-- The overs counted over the clean list are those of the history.
 use Rattle.std.proofs.Common.{arith, ◌≡◌, List, [], ◌∷◌, refl, ap, ◌∙◌}
 use Rattle.notation.specs.declared.entry.{Plain.Plain, Entry.Entry}
 use Rattle.ball_laws.specs.History.{History}

@@ -1,4 +1,4 @@
--- The last five overs by what stands, and by the history.
+-- The last five overs counted over the clean list are those of the history.
 use Rattle.std.proofs.Common.{arith, ◌≡◌, ◌*◌, ℕ, List, [], ◌∷◌, length, take, refl, ap, ◌∙◌}
 use Rattle.notation.specs.declared.entry.{Plain.Plain, Entry.Entry}
 use Rattle.ball_laws.specs.History.{History}
@@ -25,7 +25,7 @@ pub recent_book : (book : List Entry) (items : List Placed) → items ≡ clean_
     → walk recent_after none_recent items ≡ recent_of (history_of book)
 recent_book book items is = walk_book recent_after passes none_recent book items is ∙ recent_along (history_of book)
 
--- five overs have the sum and the number of the first five of a list
+-- five_of has the sum and the number of the first five elements of a list
 sum_is : (rs : List ℕ) → sum_of (five_of rs) ≡ tally (λ n. n) (take 5 rs)
 sum_is [] = refl
 sum_is (a ∷ []) = omega arith

@@ -1,4 +1,4 @@
--- The values of a table that is filled from the front, put one by one.
+-- The values of an array that is filled from the front, put one by one.
 use Rattle.std.proofs.Common.{◌≡◌, ℕ, ◌+◌, List, [], ◌∷◌, ◌++◌, refl, ap}
 use Rattle.std.specs.Prelude.{map}
 use Rattle.json.specs.Json.{Json}

@@ -12,18 +12,18 @@ use Rattle.corrections.specs.inner.Scoring.{history_after}
 use Rattle.scoreboard.specs.declared.stand.Stand.{Stand}
 use Rattle.scoreboard.specs.Stand.{no_stand, share_after, share_of}
 
--- nothing of a legal history was refused
+-- no item of a legal history was refused
 pub played : (n : ℕ) (h : History) → IsLegal n h → IsPlayed h
 played n [] legal = tt
 played n (Void ∷ h) legal = (played n h legal.0, refl)
 played n (x ∷ h) legal = (played n h legal.0, (taken n h x refl legal.1).ball)
 
--- nor of what it began with
+-- nor was any item of the history that it extends
 played_before : (h : History) (xs : List Placed) → IsPlayed (history_after h xs) → IsPlayed h
 played_before h [] all = all
 played_before h (x ∷ xs) all = (played_before (x.item ∷ h) xs all).0
 
--- a player's share of what stands up to what is left of it, and the crease there
+-- a player's share after the items taken so far, the items left, and the crease between them
 pub record Sharing (p : ℕ) (all left : List Placed) (there : Standing) (made : Stand) : Type 0 where
   pub history : History
   pub ends : history_after history left ≡ history_after [] all
@@ -33,12 +33,12 @@ pub record Sharing (p : ℕ) (all left : List Placed) (there : Standing) (made :
 pub shares_none : (p : ℕ) (all : List Placed) (crease : Standing) → crease ≡ standing_of start → Sharing p all all crease no_stand
 shares_none p all crease is = record { history = []; ends = refl; crease = is; share = refl }
 
--- nothing of what is left is refused
+-- no item of those left is refused
 pub shares_played : {p : ℕ} {all left : List Placed} {x : Placed} {crease : Standing} {share : Stand} (m : Sharing p all (x ∷ left) crease share)
     → IsPlayed (history_after [] all) → refusal (state_after m.history) x.item ≡ None
 shares_played {left = left} {x = x} m all = (played_before (x.item ∷ m.history) left (subst IsPlayed (sym m.ends) all)).1
 
--- one item more
+-- one more item
 pub shares_one : {p : ℕ} {all left : List Placed} {x : Placed} {crease later : Standing} {share more : Stand} (m : Sharing p all (x ∷ left) crease share)
     → later ≡ standing_of (after (state_after m.history) x.item) → more ≡ share_after p (state_after m.history).ends x.item (share_of p m.history)
     → Sharing p all left later more

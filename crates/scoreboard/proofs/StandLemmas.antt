@@ -1,4 +1,4 @@
--- A partnership by what stands, and by the history.
+-- The partnership counted over the clean list is that of the history.
 use Rattle.std.proofs.Common.{arith, ◌≡◌, List, [], ◌∷◌, refl, ap, ◌∙◌}
 use Rattle.notation.specs.declared.entry.Entry.{Entry}
 use Rattle.ball_laws.specs.History.{History}

@@ -14,15 +14,15 @@ use Rattle.falls.specs.Falls.{falls_at, falls_in, over_and_ball}
 use Rattle.json.specs.Json.{Json, boolean, string}
 use Rattle.json_fields.specs.Values.{Field, array_of, object_of, text_field, number_field, up_to}
 
--- so many overs, and so many balls of another
+-- whole overs and the balls of the unfinished one, as `12.3`
 abbrev pub overs_text : ℕ → ℕ → List ℕ
 overs_text whole odd = decimal whole ++ codes "." ++ decimal odd
 
--- the innings is over: it isn't the one that is in play
+-- the innings has ended: it isn't the one in play
 abbrev pub is_closed : History → ℕ → Bool
 is_closed h i = not (is_open h && (begun h == i + 1))
 
--- its ten wickets are down
+-- its ten wickets have fallen
 abbrev pub is_all_out : History → ℕ → Bool
 is_all_out h i = wickets h i == 10
 
@@ -38,11 +38,11 @@ extras_value x =
 abbrev pub player_field : ℕ → Field
 player_field p = number_field (codes "number") p
 
--- what became of a batter, in the words of the batting card
+-- a batter's fate, in the words of the batting card
 abbrev pub fate_field : Sheet → Side → BattingRow → Field
 fate_field s side row = text_field (codes "how") (fate_text s (opponent side) row.fate)
 
--- a batter of the side, by his row
+-- a batter of the side with the figures of his row
 abbrev pub batter_value : Sheet → Side → ℕ → BattingRow → Json
 batter_value s side p row =
     object_of (player_field p ∷ []
@@ -53,7 +53,7 @@ batter_value s side p row =
     ++ number_field (codes "fours") row.fours ∷ []
     ++ number_field (codes "sixes") row.sixes ∷ [])
 
--- a bowler of the side, by his row
+-- a bowler of the side with the figures of his row
 abbrev pub bowler_value : Sheet → Side → ℕ → BowlingRow → Json
 bowler_value s side p row =
     object_of (player_field p ∷ []
@@ -65,12 +65,12 @@ bowler_value s side p row =
     ++ number_field (codes "wides") row.wides ∷ []
     ++ number_field (codes "noballs") row.noballs ∷ [])
 
--- the over and the ball of a fall, where it is known
+-- the over and the ball of a fall, or no field if they aren't known
 abbrev pub overs_fields : Option FallAt → List Field
 overs_fields None = []
 overs_fields (Some at) = text_field (codes "overs") (over_and_ball at) ∷ []
 
--- the fall of a side's wicket behind k others, at this total; those of its innings fell there
+-- the fall of a side's wicket after k others, at this total; `there` has the over and ball of each fall of the innings
 abbrev pub fall_value : Sheet → Side → List FallAt → ℕ → Fall → Json
 fall_value s side there k fall =
     object_of (number_field (codes "wicket") (k + 1) ∷ []
@@ -79,23 +79,23 @@ fall_value s side there k fall =
     ++ player_field fall.player ∷ []
     ++ text_field (codes "name") (player_of s side fall.player) ∷ [])
 
--- the value of each of these, with how many stand before it
+-- the value of each element with its index, from k on
 abbrev pub values_from : {X : Type 0} → (ℕ → X → Json) → ℕ → List X → List Json
 values_from value k [] = []
 values_from value k (x ∷ xs) = value k x ∷ values_from value (k + 1) xs
 
--- players p of innings i
+-- batter p or bowler p of innings i
 abbrev pub batter_of : Sheet → History → ℕ → ℕ → Json
 batter_of s h i p = batter_value s (side_of h i) p (batting_row_of h i p)
 
 abbrev pub bowler_of : Sheet → History → ℕ → ℕ → Json
 bowler_of s h i p = bowler_value s (fielding h i) p (bowling_row_of h i p)
 
--- who came in or was timed out, in that order
+-- the batters who came in or were timed out, in that order
 abbrev pub batting : Sheet → History → ℕ → List Json
 batting s h i = map (batter_of s h i) (batting_order h i)
 
--- who bowled, in the order of the first delivery
+-- the bowlers, in the order of their first deliveries
 abbrev pub bowling : Sheet → History → ℕ → List Json
 bowling s h i = map (bowler_of s h i) (bowling_order h i)
 
@@ -105,7 +105,7 @@ falls_values s h i = values_from (fall_value s (side_of h i) (falls_in (i + 1) (
 abbrev pub overs_field : History → ℕ → Field
 overs_field h i = text_field (codes "overs") (overs_text (overs h i) (balls h i))
 
--- the side with its score
+-- the name of the side that bats, with its score
 abbrev pub score_fields : Sheet → History → ℕ → List Field
 score_fields s h i =
     text_field (codes "team") (name_of s (side_of h i)) ∷ []

@@ -1,4 +1,5 @@
--- What the public calls claim: Value with all that it cites (Innings, Now, Limited, Stand, OverRuns, and the marks of `cards`), and Laws. inner: for private functions only.
+-- The specification: Value with all that it cites (Innings, Now, Limited, Stand, OverRuns, and the marks of `cards`), and Laws.
+-- inner: for private functions only.
 pub mod Innings
 pub mod Limited
 pub mod Now

@@ -1,5 +1,5 @@
--- What a board tells of what the sheet limits, and of what follows. s is the sheet, n the innings a side, h the history and i
--- the innings.
+-- What a board shows of the limits of the sheet, and of what follows from them. s is the sheet, n the innings a side, h the
+-- history and i the innings.
 use Rattle.std.specs.Prelude.{ℕ, ◌==◌, ◌&&◌, Bool, false, if◌then◌else◌, List, [], ◌∷◌, ◌++◌, Option, Some, None, map, codes}
 use Rattle.ball_laws.specs.History.{History}
 use Rattle.match_laws.specs.History.{begun, is_open}
@@ -14,17 +14,17 @@ use Rattle.json.specs.Json.{Json, null, boolean, string}
 use Rattle.json_fields.specs.Values.{Field, array_of, object_of, number_field, number_value}
 use Rattle.scoreboard.specs.declared.situation.Situation.{Situation}
 
--- a number, if there is one
+-- a number, or null if there is none
 abbrev pub number_or_null : Option ℕ → Json
 number_or_null None = null
 number_or_null (Some n) = number_value n
 
--- a rate with two places, as a text, if there is one
+-- a rate as a text with two decimals, or null if there is none
 abbrev pub rate_or_null : Option ℕ → Json
 rate_or_null None = null
 rate_or_null (Some x) = string (two_places x)
 
--- ---- what the sheet limits
+-- ---- the limits of the sheet
 
 abbrev pub powerplay_value : Powerplay → Json
 powerplay_value p = object_of (number_field (codes "first") p.first ∷ [] ++ number_field (codes "last") p.last ∷ [])
@@ -36,13 +36,13 @@ limits_value l =
     ++ (codes "free_hits", boolean l.free_hits) ∷ []
     ++ (codes "powerplays", array_of (map powerplay_value l.powerplays)) ∷ [])
 
--- ---- what follows
+-- ---- what follows from them
 
--- how many overs the innings has, while it is open
+-- the number of overs of the innings, while it is open
 abbrev pub overs_open : Sheet → History → ℕ → Option ℕ
 overs_open s h i = if is_open h then overs_for s.limits i else None
 
--- of so many, overs and deliveries left
+-- how many overs and deliveries are left of n overs
 abbrev pub overs_in : History → ℕ → Option ℕ → Option ℕ
 overs_in h i None = None
 overs_in h i (Some n) = Some (overs_left n h i)
@@ -51,7 +51,7 @@ abbrev pub balls_in : History → ℕ → Option ℕ → Option ℕ
 balls_in h i None = None
 balls_in h i (Some n) = Some (deliveries_left n h i)
 
--- a rate of these runs off these deliveries, where both are known
+-- the rate of these runs off these deliveries, if both are known
 abbrev pub rate_of : (ℕ → ℕ → Option ℕ) → Option ℕ → Option ℕ → Option ℕ
 rate_of rate None left = None
 rate_of rate (Some runs) None = None
@@ -94,7 +94,7 @@ no_situation = record {
   bowler_overs = None;
 }
 
--- of the innings begun last
+-- what follows for the innings that began last
 abbrev pub situation_of : Sheet → ℕ → History → Situation
 situation_of s n h = if begun h == 0 then no_situation else situation_in s n h (current h)
 

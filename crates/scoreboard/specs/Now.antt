@@ -1,5 +1,5 @@
--- What is going on: who bats and who bowls, this over and the last one, what is needed, the result, and what is left. s is the
--- sheet, n the innings a side and h the history.
+-- The current state of play: the batters and the bowler, this over and the last one, what is needed, the result, and what is
+-- left. s is the sheet, n the innings a side and h the history.
 use Rattle.std.specs.Prelude.{ℕ, List, [], ◌∷◌, ◌++◌, Option, Some, None, map, reverse, codes}
 use Rattle.notation.specs.declared.entry.Ball.{Ball}
 use Rattle.ball_laws.specs.History.{History, open_over, last_called_over}
@@ -15,7 +15,7 @@ use Rattle.cards.specs.Marks.{mark_of}
 use Rattle.scoreboard.specs.Limited.{number_or_null, situation_fields, situation_of}
 use Rattle.scoreboard.specs.Stand.{partnership_field, partnership_now}
 
--- a text, if there is one
+-- a text, or null if there is none
 abbrev pub text_or_null : Option (List ℕ) → Json
 text_or_null None = null
 text_or_null (Some text) = string text
@@ -30,11 +30,11 @@ players_fields h =
     ++ (codes "other", number_or_null (state_after h).ends.other) ∷ []
     ++ (codes "bowler", number_or_null (bowler_now h)) ∷ []
 
--- this over and the last one, each the oldest delivery first
+-- this over and the last one, each with the oldest delivery first
 abbrev pub overs_fields : List Ball → List Ball → List Field
 overs_fields this last = (codes "this_over", over_value this) ∷ [] ++ (codes "last_over", over_value last) ∷ []
 
--- this over and the one called last, where an innings is open
+-- the open over and the over called last, while an innings is open
 abbrev pub both_overs : History → List Field
 both_overs h = overs_fields (reverse (open_over h)) (reverse (last_called_over h))
 

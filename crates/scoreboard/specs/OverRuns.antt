@@ -1,4 +1,4 @@
--- The runs off each over that was called, of all innings, the oldest first.
+-- The runs off each over called in any innings, the oldest first.
 use Rattle.std.specs.Prelude.{List, [], ◌∷◌, ◌++◌, map, codes}
 use Rattle.notation.specs.declared.entry.Plain.{Plain}
 use Rattle.ball_laws.specs.History.{History, open_over}
@@ -9,7 +9,7 @@ use Rattle.json.specs.Json.{Json}
 use Rattle.json_fields.specs.Values.{Field, array_of, object_of, number_field}
 use Rattle.scoreboard.specs.declared.value.OverRuns.{OverRuns}
 
--- each with the number of its innings, from 1
+-- each over with the number of its innings, from 1
 abbrev pub over_runs : History → List OverRuns
 over_runs [] = []
 over_runs (Plain.Over ∷ h) = over_runs h ++ record { innings = begun h; runs = tally runs_of (open_over h) } ∷ []

@@ -1,5 +1,5 @@
--- The partnership: what came since the last wicket of the open innings fell, or since that began, and what each of the two who
--- are in made of it.
+-- The partnership: runs and balls since the last wicket of the open innings, or since that innings began, and the share of
+-- each of the two batters.
 use Rattle.std.specs.Prelude.{ℕ, ◌+◌, is_some, if◌then◌else◌, List, [], ◌∷◌, ◌++◌, Option, Some, None, option_map, codes}
 use Rattle.notation.specs.declared.entry.{Ball.Ball, Leave.Leave, Plain.Plain}
 use Rattle.notation.specs.declared.entry.Leave as leave
@@ -12,24 +12,24 @@ use Rattle.json.specs.Json.{Json, null}
 use Rattle.json_fields.specs.Values.{Field, object_of, number_field}
 use Rattle.scoreboard.specs.declared.stand.{Stand.Stand, Partnership.Partnership}
 
--- nothing yet
+-- before its first delivery
 abbrev pub no_stand : Stand
 no_stand = record { runs = 0; balls = 0 }
 
--- a delivery more: all its runs, and one ball unless it is a Wide
+-- one more delivery: all its runs, and one ball unless it is a Wide
 abbrev pub stand_with : Ball → Stand → Stand
 stand_with b s = record { runs = s.runs + runs_of b; balls = s.balls + faced_of b }
 
--- behind a delivery: a wicket ends it
+-- after a delivery: a wicket ends the partnership
 abbrev pub stand_behind : Ball → Stand → Stand
 stand_behind b s = if is_some b.out then no_stand else stand_with b s
 
--- as a batter leaves: who is retired hurt may come in again
+-- after a batter has left: the partnership ends, unless he retired hurt and so may come in again
 abbrev pub stand_left : Leave → Stand → Stand
 stand_left leave.TheVariants.RetiredHurt s = s
 stand_left way s = no_stand
 
--- behind an item: a wicket ends it too, and so do the beginning and the end of an innings
+-- after an item: the beginning and the end of an innings end the partnership too
 abbrev pub stand_after : Plain → Stand → Stand
 stand_after (Plain.Ball b) s = stand_behind b s
 stand_after (Plain.Gone way p) s = stand_left way s
@@ -43,11 +43,11 @@ stand_of (x ∷ h) = stand_after x (stand_of h)
 
 -- ---- a batter's share
 
--- a delivery more that he faced: the runs off his bat, and one ball unless it is a Wide
+-- one more delivery that he faced: the runs off his bat, and one ball unless it is a Wide
 abbrev pub share_with : Ball → Stand → Stand
 share_with b s = record { runs = s.runs + batted_of b; balls = s.balls + faced_of b }
 
--- of player p, behind an item before which these were at the ends: it ends where the partnership does
+-- the share of player p after an item, with these batters at the ends before it: it ends with the partnership
 abbrev pub share_after : ℕ → Ends → Plain → Stand → Stand
 share_after p e (Plain.Ball b) s = if is_some b.out then no_stand else if is_at e.striker p then share_with b s else s
 share_after p e x s = stand_after x s
@@ -56,9 +56,9 @@ abbrev pub share_of : ℕ → History → Stand
 share_of p [] = no_stand
 share_of p (x ∷ h) = share_after p (state_after h).ends x (share_of p h)
 
--- ---- all of it
+-- ---- the whole partnership
 
--- with the shares of these two
+-- with the shares of the two batters at the ends
 abbrev pub partnership_of : History → Ends → Partnership
 partnership_of h e = record {
   all = stand_of h;
@@ -66,7 +66,7 @@ partnership_of h e = record {
   other = option_map (λ p. share_of p h) e.other;
 }
 
--- while an innings is open
+-- the partnership while an innings is open
 abbrev pub partnership_now : History → Option Partnership
 partnership_now h = if is_open h then Some (partnership_of h (state_after h).ends) else None
 

@@ -1,4 +1,4 @@
--- The state of a board as one JSON value: a function of the sheet s and of the book.
+-- The state of a board as one JSON value: a function of the sheet s and the book.
 use Rattle.std.specs.Prelude.{ℕ, List, [], ◌∷◌, ◌++◌, length, codes, decimal, Option, Some, None}
 use Rattle.notation.specs.declared.entry.Entry.{Entry}
 use Rattle.corrections.specs.CleanList.{history_of}
@@ -16,7 +16,7 @@ use Rattle.scoreboard.specs.Limited.{limits_value, number_or_null}
 use Rattle.scoreboard.specs.Now.{now_value}
 use Rattle.scoreboard.specs.OverRuns.{over_runs, overs_field}
 
--- The match number is a text, since a reader's numbers may not go so far.
+-- The match number is a text, since a reader's numbers may not be large enough for it.
 abbrev pub head_fields : Sheet → ℕ → List Field
 head_fields s entries =
     text_field (codes "format") (codes "yermudosh board 1") ∷ []
@@ -24,7 +24,7 @@ head_fields s entries =
     ++ text_field (codes "title") s.title ∷ []
     ++ number_field (codes "entries") entries ∷ []
 
--- of so many entries, by the history that the Laws see of them, with n innings a side
+-- the fields of a book with this many entries, whose history for the Laws is h, with n innings a side
 abbrev pub fields_of : Sheet → ℕ → ℕ → History → List Field
 fields_of s n entries h =
     head_fields s entries
@@ -39,26 +39,26 @@ book_fields s n book = fields_of s n (length book) (history_of book)
 abbrev pub board_value : Sheet → ℕ → List Entry → Json
 board_value s n book = object_of (book_fields s n book)
 
--- how many seconds ago a board heard each desk last, where it ever did
+-- how many seconds ago a board last heard each desk, if it ever did
 abbrev pub heard_fields : LastHeard → List Field
 heard_fields l = (codes "a", number_or_null l.a) ∷ [] ++ (codes "b", number_or_null l.b) ∷ []
 
 abbrev pub heard_field : LastHeard → Field
 heard_field l = (codes "heard", object_of (heard_fields l))
 
--- why a board doesn't go on
+-- why a board can't go on
 abbrev pub why_text : Why → List ℕ
 why_text Refused = codes "refused"
 why_text Anew = codes "written anew"
 why_text Apart = codes "different lines"
 
--- and in words
+-- why a board can't go on, in words
 abbrev pub why_words : Why → List ℕ
 why_words Refused = codes "both desks' votes were refused: no later score is shown"
 why_words Anew = codes "a desk's file lacks lines: no later score is shown"
 why_words Apart = codes "the desks told this board different lines"
 
--- what keeps a board from going on: at which place of its book, and why
+-- what keeps a board from going on: the place in its book, and why
 abbrev pub trouble_fields : Trouble → List Field
 trouble_fields t =
     number_field (codes "place") t.place ∷ []
@@ -72,7 +72,7 @@ trouble_or_null (Some t) = object_of (trouble_fields t)
 abbrev pub trouble_field : Option Trouble → Field
 trouble_field trouble = (codes "trouble", trouble_or_null trouble)
 
--- the same, when the board heard its desks, and what keeps it from going on
+-- the same fields, with when the board last heard its desks, and what keeps it from going on
 abbrev pub told_value : Sheet → ℕ → List Entry → LastHeard → Option Trouble → Json
 told_value s n book heard trouble = object_of (book_fields s n book ++ heard_field heard ∷ [] ++ trouble_field trouble ∷ [])
 

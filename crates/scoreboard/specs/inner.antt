@@ -1,4 +1,4 @@
--- What serves private functions only.
+-- Definitions for private functions only.
 pub mod Marks
 pub mod Counting
 pub mod Recent

@@ -16,7 +16,7 @@ use match_laws::{BattingRow, BowlingRow, Fall, opponent};
 use notation::{Player, Side};
 use std::alloc::{AllocError, Global};
 
-/// So many overs, and so many balls of another.
+/// Returns a number of whole overs and the balls of the unfinished one, as `12.3`.
 fn overs_text(alloc: Global, whole: u32, odd: u32) -> Result<String, AllocError>
     ensures { IfOk result (λ text. string_bytes text ≡ laws.overs_text whole odd) }
 {
@@ -27,7 +27,7 @@ fn overs_text(alloc: Global, whole: u32, odd: u32) -> Result<String, AllocError>
     Ok(text)
 }
 
-/// Puts so many overs, and so many balls of another.
+/// Puts a number of whole overs and the balls of the unfinished one.
 pub fn put_overs(out: &mut Compact, alloc: Global, whole: u32, odd: u32) -> Result<(), AllocError>
     ensures { PutsFields result out.old out.new
         (text_field (codes "overs") (laws.overs_text whole odd) ∷ []) }
@@ -36,7 +36,7 @@ pub fn put_overs(out: &mut Compact, alloc: Global, whole: u32, odd: u32) -> Resu
     put_text(out, "overs", text.as_str())
 }
 
-/// Puts what became of a batter.
+/// Puts a batter's fate, in the words of the batting card.
 fn put_fate(
     out: &mut Compact,
     alloc: Global,
@@ -57,7 +57,7 @@ fn put_number_of(out: &mut Compact, player: Player) -> Result<(), AllocError>
     put_figure(out, "number", u32::from(player.number()))
 }
 
-/// Puts a batter of a side, by his row.
+/// Puts a batter of a side with the figures of his row.
 fn put_batter(
     out: &mut Compact,
     alloc: Global,
@@ -80,7 +80,7 @@ fn put_batter(
     end_object(out)
 }
 
-/// Puts a bowler of a side, by his row.
+/// Puts a bowler of a side with the figures of his row.
 fn put_bowler(
     out: &mut Compact,
     alloc: Global,
@@ -104,14 +104,14 @@ fn put_bowler(
     end_object(out)
 }
 
-/// The fall at an index, where there is one.
+/// Returns the over and ball of the fall at an index, if the list has one there.
 fn fall_there(there: &[FallAt], index: usize) -> Option<FallAt>
     ensures { result ≡ slice_get there.now index }
 {
     there.get(index).copied()
 }
 
-/// Puts the over and the ball of a fall, where they are known.
+/// Puts the over and ball of a fall, or nothing if they aren't known.
 fn put_overs_at(out: &mut Compact, alloc: Global, at: Option<FallAt>) -> Result<(), AllocError>
     ensures { PutsFields result out.old out.new (laws.overs_fields at) }
 {
@@ -122,7 +122,7 @@ fn put_overs_at(out: &mut Compact, alloc: Global, at: Option<FallAt>) -> Result<
     put_text(out, "overs", text.as_str())
 }
 
-/// Puts the fall of a side's wicket, behind so many others; those of its innings fell there.
+/// Puts the fall of a side's wicket at an index from 0; `there` has the over and ball of each fall of the innings.
 fn put_fall(
     out: &mut Compact,
     alloc: Global,
@@ -180,7 +180,7 @@ fn put_bowler_of(
     )
 }
 
-/// Puts who came in or was timed out, in that order.
+/// Puts the batters who came in or were timed out, in that order.
 pub fn put_batters(out: &mut Compact, alloc: Global, innings: Innings<'_>) -> Result<(), AllocError>
     ensures { ForInnings innings.entry (λ s h i.
         PutsValues result out.old out.new (laws.batting s h i)) }
@@ -194,7 +194,7 @@ pub fn put_batters(out: &mut Compact, alloc: Global, innings: Innings<'_>) -> Re
     Ok(())
 }
 
-/// Puts who bowled, in the order of the first delivery.
+/// Puts the bowlers, in the order of their first deliveries.
 pub fn put_bowlers(out: &mut Compact, alloc: Global, innings: Innings<'_>) -> Result<(), AllocError>
     ensures { ForInnings innings.entry (λ s h i.
         PutsValues result out.old out.new (laws.bowling s h i)) }
@@ -208,7 +208,7 @@ pub fn put_bowlers(out: &mut Compact, alloc: Global, innings: Innings<'_>) -> Re
     Ok(())
 }
 
-/// Puts each fall of an innings; its wickets fell there.
+/// Puts each fall of an innings; `there` has the over and ball of each.
 fn put_each_fall(
     out: &mut Compact,
     alloc: Global,
@@ -228,7 +228,7 @@ fn put_each_fall(
     Ok(())
 }
 
-/// Puts the falls of an innings, by where the wickets of all innings fell.
+/// Puts the falls of an innings; `falls` has the over and ball of every fall of the match.
 pub fn put_falls(
     out: &mut Compact,
     alloc: Global,

@@ -35,7 +35,7 @@ fn put_extras(out: &mut Compact, extras: &Extras) -> Result<(), AllocError>
     end_object(out)
 }
 
-/// Whether an innings is over.
+/// Whether an innings has ended.
 fn is_closed(innings: Innings<'_>) -> bool
     ensures { ForInnings innings.entry (λ s h i. result ≡ laws.is_closed h i) }
 {
@@ -51,7 +51,7 @@ fn is_all_out(innings: Innings<'_>) -> bool
     innings.score.wickets(innings.index) == 10
 }
 
-/// Puts the side with its score.
+/// Puts the name of the side that bats, its score and its extras.
 fn put_score(out: &mut Compact, alloc: Global, innings: Innings<'_>) -> Result<(), AllocError>
     ensures { ForInnings innings.entry (λ s h i.
         PutsFields result out.old out.new (laws.score_fields s h i)) }
@@ -66,7 +66,7 @@ fn put_score(out: &mut Compact, alloc: Global, innings: Innings<'_>) -> Result<(
     put_extras(out, &innings.score.extras(innings.index))
 }
 
-/// The player at an index, from 0 to 10.
+/// Returns the player at an index from 0 to 10.
 fn player_at(index: u8) -> Player
     requires { index < 11 }
     ensures { result ≡ index + 1 }
@@ -84,7 +84,7 @@ fn put_names(out: &mut Compact, sheet: &MatchSheet, side: Side) -> Result<(), Al
     Ok(())
 }
 
-/// Puts the field of them, of the side that bats.
+/// Puts the field of the players of the side that bats.
 fn put_players(out: &mut Compact, innings: Innings<'_>) -> Result<(), AllocError>
     ensures { ForInnings innings.entry (λ s h i.
         PutsFields result out.old out.new
@@ -117,7 +117,7 @@ fn put_bowling(out: &mut Compact, alloc: Global, innings: Innings<'_>) -> Result
     end_array(out)
 }
 
-/// Puts the fall of wickets, by where those of all innings fell.
+/// Puts the falls of wickets; `falls` has the over and ball of every fall of the match.
 fn put_falls_of(
     out: &mut Compact,
     alloc: Global,
@@ -133,7 +133,7 @@ fn put_falls_of(
     end_array(out)
 }
 
-/// Puts an innings, by where the wickets of all innings fell.
+/// Puts an innings; `falls` has the over and ball of every fall of the match.
 fn put_innings(
     out: &mut Compact,
     alloc: Global,
@@ -152,7 +152,7 @@ fn put_innings(
     end_object(out)
 }
 
-/// Puts each innings that has begun, by where the wickets of all fell.
+/// Puts each innings that has begun; `falls` has the over and ball of every fall of the match.
 fn put_each(
     out: &mut Compact,
     alloc: Global,
@@ -174,7 +174,7 @@ fn put_each(
     Ok(())
 }
 
-/// Puts the field of all innings that have begun, by where the wickets of all fell.
+/// Puts the field of all innings that have begun; `falls` has the over and ball of every fall of the match.
 pub fn put_all_innings(
     out: &mut Compact,
     alloc: Global,

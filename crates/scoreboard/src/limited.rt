@@ -1,4 +1,4 @@
-//! What the sheet limits, and what follows.
+//! The limits of the sheet, and what follows from them.
 
 ghost use Rattle.std.specs.Prelude.{◌≡◌, ◌∷◌, [], IfOk, codes, map, string_bytes};
 ghost use Rattle.limits.specs.Rates.{two_places};
@@ -14,7 +14,7 @@ use json_fields::{
 use limits::{Limits, Powerplay};
 use std::alloc::{AllocError, Global};
 
-/// Puts a number, if there is one.
+/// Puts a number, or null if there is none.
 pub fn put_figure_or_null(
     out: &mut Compact,
     name: &str,
@@ -28,7 +28,7 @@ pub fn put_figure_or_null(
     }
 }
 
-/// Puts a number of overs, if there is one.
+/// Puts a number of overs, or null if there is none.
 fn put_overs_or_null(out: &mut Compact, name: &str, number: Option<u16>) -> Result<(), AllocError>
     ensures { PutsFields result out.old out.new ((name.now, laws.number_or_null number) ∷ []) }
 {
@@ -38,7 +38,7 @@ fn put_overs_or_null(out: &mut Compact, name: &str, number: Option<u16>) -> Resu
     }
 }
 
-/// Puts which of some it is, if it is one.
+/// Puts which one of several it is, or null if it is none of them.
 fn put_count_or_null(out: &mut Compact, name: &str, number: Option<usize>) -> Result<(), AllocError>
     ensures { PutsFields result out.old out.new ((name.now, laws.number_or_null number) ∷ []) }
 {
@@ -48,7 +48,7 @@ fn put_count_or_null(out: &mut Compact, name: &str, number: Option<usize>) -> Re
     }
 }
 
-/// The text of a rate, with two places.
+/// Returns the text of a rate, with two decimals.
 fn rate_text(alloc: Global, hundredths: u64) -> Result<String, AllocError>
     ensures { IfOk result (λ text. string_bytes text ≡ two_places hundredths) }
 {
@@ -60,7 +60,7 @@ fn rate_text(alloc: Global, hundredths: u64) -> Result<String, AllocError>
     Ok(text)
 }
 
-/// Puts a rate, if there is one.
+/// Puts a rate, or null if there is none.
 fn put_rate(
     out: &mut Compact,
     alloc: Global,
@@ -88,7 +88,7 @@ fn put_each_overs(out: &mut Compact, overs: &[u16]) -> Result<(), AllocError>
     Ok(())
 }
 
-/// Puts the field of them.
+/// Puts the field of the numbers of overs.
 fn put_overs(out: &mut Compact, overs: &[u16]) -> Result<(), AllocError>
     ensures { PutsFields result out.old out.new ((codes "overs", array_of (map number_value overs.now)) ∷ []) }
 {
@@ -116,7 +116,7 @@ fn put_each_powerplay(out: &mut Compact, powerplays: &[Powerplay]) -> Result<(),
     Ok(())
 }
 
-/// Puts the field of them.
+/// Puts the field of the powerplays.
 fn put_powerplays(out: &mut Compact, powerplays: &[Powerplay]) -> Result<(), AllocError>
     ensures { PutsFields result out.old out.new
         ((codes "powerplays", array_of (map laws.powerplay_value powerplays.now)) ∷ []) }
@@ -126,7 +126,7 @@ fn put_powerplays(out: &mut Compact, powerplays: &[Powerplay]) -> Result<(), All
     end_array(out)
 }
 
-/// Puts what a sheet limits.
+/// Puts the limits of a sheet.
 pub fn put_limits(out: &mut Compact, limits: &Limits) -> Result<(), AllocError>
     ensures { PutsFields result out.old out.new ((codes "limits", laws.limits_value limits.now) ∷ []) }
 {
@@ -138,7 +138,7 @@ pub fn put_limits(out: &mut Compact, limits: &Limits) -> Result<(), AllocError>
     end_object(out)
 }
 
-/// Puts what is left.
+/// Puts the overs of the innings, and the overs and balls left.
 fn put_left(out: &mut Compact, situation: &Situation) -> Result<(), AllocError>
     ensures { PutsFields result out.old out.new (laws.left_fields situation.now) }
 {
@@ -147,7 +147,7 @@ fn put_left(out: &mut Compact, situation: &Situation) -> Result<(), AllocError>
     put_figure_or_null(out, "balls_left", situation.balls_left)
 }
 
-/// Puts what is needed, and how fast runs came.
+/// Puts the rates needed, and the run rates.
 fn put_rates(out: &mut Compact, alloc: Global, situation: &Situation) -> Result<(), AllocError>
     ensures { PutsFields result out.old out.new (laws.rate_fields situation.now) }
 {
@@ -157,7 +157,7 @@ fn put_rates(out: &mut Compact, alloc: Global, situation: &Situation) -> Result<
     put_rate(out, alloc, "last_rate", situation.last_rate)
 }
 
-/// Puts a free hit, the powerplay, and the overs of the bowler.
+/// Puts whether the next delivery is a free hit, the powerplay, and the number of overs in which the bowler has bowled.
 fn put_play(out: &mut Compact, situation: &Situation) -> Result<(), AllocError>
     ensures { PutsFields result out.old out.new (laws.play_fields situation.now) }
 {
@@ -166,7 +166,7 @@ fn put_play(out: &mut Compact, situation: &Situation) -> Result<(), AllocError>
     put_figure_or_null(out, "bowler_overs", situation.bowler_overs)
 }
 
-/// Puts what follows of what the sheet limits.
+/// Puts what follows from the limits of the sheet.
 pub fn put_situation(
     out: &mut Compact,
     alloc: Global,

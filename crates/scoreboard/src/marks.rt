@@ -1,4 +1,4 @@
-//! Deliveries as an over's row shows them.
+//! The marks of deliveries, as an over's row shows them.
 
 ghost use Rattle.std.specs.Prelude.{◌≡◌, ◌∷◌, [], IfOk, map, reverse, string_bytes};
 ghost use Rattle.corrections.specs.Overs.{balls_of};
@@ -14,7 +14,7 @@ use json_fields::{Compact, put_string};
 use notation::{Ball, Plain};
 use std::alloc::{AllocError, Global};
 
-/// The text of a mark.
+/// Returns the text of a mark.
 fn text_of(alloc: Global, mark: Mark) -> Result<String, AllocError>
     ensures { IfOk result (λ text. string_bytes text ≡ laws.mark_text mark) }
 {
@@ -30,7 +30,7 @@ fn text_of(alloc: Global, mark: Mark) -> Result<String, AllocError>
     }
 }
 
-/// Puts a delivery.
+/// Puts the mark of a delivery.
 fn put_mark(out: &mut Compact, alloc: Global, ball: &Ball) -> Result<(), AllocError>
     ensures { PutsValues result out.old out.new (string (laws.mark_of ball.now) ∷ []) }
 {
@@ -38,7 +38,7 @@ fn put_mark(out: &mut Compact, alloc: Global, ball: &Ball) -> Result<(), AllocEr
     put_string(out, text.as_str())
 }
 
-/// Puts an item, where it is a delivery.
+/// Puts the mark of an item, or nothing if the item isn't a delivery.
 fn put_item(out: &mut Compact, alloc: Global, item: &Plain) -> Result<(), AllocError>
     ensures { PutsValues result out.old out.new (marks.item_values item.now) }
 {
@@ -48,7 +48,7 @@ fn put_item(out: &mut Compact, alloc: Global, item: &Plain) -> Result<(), AllocE
     }
 }
 
-/// Puts the deliveries of an over.
+/// Puts the marks of an over's deliveries.
 pub fn put_marks(out: &mut Compact, alloc: Global, over: &[Placed]) -> Result<(), AllocError>
     ensures { PutsValues result out.old out.new
         (map (λ b. string (laws.mark_of b)) (reverse (balls_of over.now))) }

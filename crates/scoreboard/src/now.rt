@@ -1,4 +1,4 @@
-//! What is going on.
+//! The current state of play.
 
 ghost use Rattle.std.specs.Prelude.{◌≡◌, ◌∷◌, [], codes, reverse, string_bytes};
 ghost use Rattle.match_laws.specs.Stands.{ForEachHistory};
@@ -22,7 +22,7 @@ use match_laws::Match;
 use notation::Player;
 use std::alloc::{AllocError, Global};
 
-/// Puts a player's number, if there is one.
+/// Puts a player's number, or null if there is none.
 fn put_player(out: &mut Compact, name: &str, player: Option<Player>) -> Result<(), AllocError>
     ensures { PutsFields result out.old out.new ((name.now, limited.number_or_null player) ∷ []) }
 {
@@ -32,7 +32,7 @@ fn put_player(out: &mut Compact, name: &str, player: Option<Player>) -> Result<(
     }
 }
 
-/// Puts who bats and who bowls.
+/// Puts the batters and the bowler.
 fn put_players(out: &mut Compact, score: &Match, overs: &Overs<'_>) -> Result<(), AllocError>
     ensures { ForEachHistory score.now (λ n h. AreOversOf overs.now h →
         PutsFields result out.old out.new (laws.players_fields h)) }
@@ -61,7 +61,7 @@ fn put_overs(out: &mut Compact, alloc: Global, overs: &Overs<'_>) -> Result<(), 
     put_over(out, alloc, "last_over", overs.last)
 }
 
-/// Puts the result, where there is one.
+/// Puts the result, or null if there is none.
 fn put_result(
     out: &mut Compact,
     alloc: Global,
@@ -77,7 +77,7 @@ fn put_result(
     }
 }
 
-/// Puts what is to be reached, what is needed, and the result.
+/// Puts the target, the runs needed, and the result.
 fn put_aim(
     out: &mut Compact,
     alloc: Global,
@@ -92,7 +92,7 @@ fn put_aim(
     put_result(out, alloc, sheet, score)
 }
 
-/// Puts what is going on.
+/// Puts the current state of play.
 pub fn put_now(
     out: &mut Compact,
     alloc: Global,

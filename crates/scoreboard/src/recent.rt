@@ -13,8 +13,7 @@ use corrections::{BookOf, Placed};
 use limits::an_over;
 use notation::Plain;
 
-/// The runs off the last overs that were called, the newest first, none for one that there wasn't; and how many there were, of
-/// five.
+/// The runs off each of the last five overs called, the newest first, 0 if there were fewer; and the number of those overs.
 #[derive(Clone, Copy)]
 struct Five {
     first: u32,
@@ -25,14 +24,14 @@ struct Five {
     overs: u32,
 }
 
-/// These, and the runs off the open over.
+/// The runs off the open over, and off the last five overs called.
 #[derive(Clone, Copy)]
 struct Recent {
     this: u32,
     called: Five,
 }
 
-/// Of an innings that begins.
+/// The runs before the first delivery of an innings.
 fn none_recent() -> Recent
     ensures { result ≡ laws.none_recent }
 {
@@ -49,7 +48,7 @@ fn none_recent() -> Recent
     }
 }
 
-/// With an over more, of so many runs.
+/// Adds an over with these runs.
 fn five_with(runs: u32, five: Five) -> Five
     requires { five.overs ≤ 5 }
     ensures value { result ≡ laws.five_with runs five }
@@ -66,7 +65,7 @@ fn five_with(runs: u32, five: Five) -> Five
     }
 }
 
-/// Behind an item.
+/// Adds an item.
 fn recent_after(item: &Plain, recent: Recent) -> Recent
     requires runs { recent.this + laws.sum_of recent.called ≤ 260 * PLACES }
     requires overs { recent.called.overs ≤ 5 }
@@ -88,7 +87,7 @@ fn recent_after(item: &Plain, recent: Recent) -> Recent
     }
 }
 
-/// Behind these items.
+/// Returns the runs after these items.
 fn recent_behind(items: &[Placed]) -> Recent
     requires { length items.now ≤ PLACES }
     ensures value { result ≡ walk laws.recent_after laws.none_recent items.now }
@@ -102,7 +101,7 @@ fn recent_behind(items: &[Placed]) -> Recent
     recent
 }
 
-/// The rate of these overs.
+/// Returns the rate of these overs.
 fn rate_of(five: Five) -> Option<u64>
     requires runs { laws.sum_of five ≤ 260 * PLACES }
     requires overs { five.overs ≤ 5 }
@@ -112,7 +111,7 @@ fn rate_of(five: Five) -> Option<u64>
     an_over(runs, 6 * five.overs)
 }
 
-/// The runs for an over in the last five overs of the open innings, in hundredths.
+/// Returns the runs an over in the last five overs of the open innings, in hundredths.
 pub fn last_rate<B: BookOf>(book: &B) -> Option<u64>
     ensures { result ≡ figures.last_rate (history_of (B.content book.now)) }
 {

@@ -1,4 +1,4 @@
-//! What a batter made of the partnership.
+//! A batter's share of the partnership.
 
 ghost use Rattle.std.specs.Prelude.{◌≡◌, ◌+◌, ◌*◌, ◌<◌, ◌≤◌, [], None, Some, length, slice_get};
 ghost use Rattle.notation.specs.declared.entry.TheConstants.{PLACES};
@@ -15,7 +15,7 @@ use corrections::Placed;
 use match_laws::is_void;
 use notation::{Ball, Plain, Player};
 
-/// With a delivery more that he faced.
+/// Adds a delivery that the batter faced.
 fn share_with(ball: &Ball, share: Stand) -> Stand
     requires runs { share.runs ≤ 260 * PLACES }
     requires balls { share.balls ≤ PLACES }
@@ -29,7 +29,7 @@ fn share_with(ball: &Ball, share: Stand) -> Stand
     }
 }
 
-/// Behind a delivery with these at the ends: a wicket ends it.
+/// Returns the share after a delivery with these batters at the ends: a wicket ends the partnership.
 fn share_behind(player: Player, ends: Ends, ball: &Ball, share: Stand) -> Stand
     requires runs { share.runs ≤ 260 * PLACES }
     requires balls { share.balls ≤ PLACES }
@@ -46,7 +46,7 @@ fn share_behind(player: Player, ends: Ends, ball: &Ball, share: Stand) -> Stand
     }
 }
 
-/// Behind an item with these at the ends.
+/// Returns the share after an item with these batters at the ends.
 fn share_after(player: Player, ends: Ends, item: &Plain, share: Stand) -> Stand
     requires runs { share.runs ≤ 260 * PLACES }
     requires balls { share.balls ≤ PLACES }
@@ -60,7 +60,7 @@ fn share_after(player: Player, ends: Ends, item: &Plain, share: Stand) -> Stand
     }
 }
 
-/// The crease behind an item that isn't refused.
+/// Returns the crease after an item, if the item isn't refused.
 fn crease_after(crease: &Crease, item: &Plain) -> Crease
     ensures { (s : State) → crease.now ≡ standing_of s → refusal s item.now ≡ None → result ≡ standing_of (after s item.now) }
 {
@@ -71,7 +71,7 @@ fn crease_after(crease: &Crease, item: &Plain) -> Crease
     next
 }
 
-/// What stands at an index.
+/// Returns the item at an index.
 fn placed_at(items: &[Placed], index: usize) -> Placed
     requires { index < length items.now }
     ensures { slice_get items.now index ≡ Some result }
@@ -79,7 +79,7 @@ fn placed_at(items: &[Placed], index: usize) -> Placed
     items[index]
 }
 
-/// What a player made of the partnership behind what stands here, of which nothing is refused.
+/// Returns a player's share of the partnership after these items, none of which is refused.
 pub fn share_of(player: Player, items: &[Placed]) -> Stand
     requires few { length items.now ≤ PLACES }
     requires played { IsPlayed (history_after [] (kept items.now)) }

@@ -1,4 +1,4 @@
-//! What follows of what the sheet limits.
+//! What follows from the limits of the sheet.
 
 ghost use Rattle.std.specs.Prelude.{◌≡◌, ◌<◌};
 ghost use Rattle.match_laws.specs.History.{begun};
@@ -17,26 +17,26 @@ use limits::{
 };
 use notation::Player;
 
-/// What follows for the innings that began last: rates are in hundredths.
+/// What follows from the limits for the innings that began last; rates are in hundredths.
 #[derive(Clone, Copy)]
 pub struct Situation {
-    /// How many overs it has.
+    /// The number of overs that the innings has.
     pub overs: Option<u16>,
     pub overs_left: Option<u32>,
     pub balls_left: Option<u32>,
     pub needed_an_over: Option<u64>,
     pub needed_a_ball: Option<u64>,
     pub run_rate: Option<u64>,
-    /// In the last five overs.
+    /// The run rate in the last five overs.
     pub last_rate: Option<u64>,
     pub free_hit: bool,
-    /// Which powerplay the over is in, from 1.
+    /// The powerplay that the over is in, from 1.
     pub powerplay: Option<usize>,
-    /// In how many overs the bowler has bowled.
+    /// The number of overs in which the bowler has bowled.
     pub bowler_overs: Option<u32>,
 }
 
-/// How many overs the innings has, while it is open.
+/// Returns the number of overs of the innings, while it is open.
 fn overs_open(innings: Innings<'_>) -> Option<u16>
     ensures { ForInnings innings.entry (λ s h i. result ≡ laws.overs_open s h i) }
 {
@@ -47,7 +47,7 @@ fn overs_open(innings: Innings<'_>) -> Option<u16>
     }
 }
 
-/// Of so many, the overs left.
+/// Returns how many of this number of overs are left.
 fn overs_in(innings: Innings<'_>, overs: Option<u16>) -> Option<u32>
     ensures { ForInnings innings.entry (λ s h i. result ≡ laws.overs_in h i overs) }
 {
@@ -57,7 +57,7 @@ fn overs_in(innings: Innings<'_>, overs: Option<u16>) -> Option<u32>
     }
 }
 
-/// Of so many, the deliveries left.
+/// Returns how many deliveries are left of this number of overs.
 fn balls_in(innings: Innings<'_>, overs: Option<u16>) -> Option<u32>
     ensures { ForInnings innings.entry (λ s h i. result ≡ laws.balls_in h i overs) }
 {
@@ -67,7 +67,7 @@ fn balls_in(innings: Innings<'_>, overs: Option<u16>) -> Option<u32>
     }
 }
 
-/// What is needed an over, where both are known.
+/// Returns the runs needed an over, if both the runs and the deliveries left are known.
 fn needed_an_over(runs: Option<u32>, left: Option<u32>) -> Option<u64>
     ensures { result ≡ laws.rate_of rates.an_over runs left }
 {
@@ -80,7 +80,7 @@ fn needed_an_over(runs: Option<u32>, left: Option<u32>) -> Option<u64>
     }
 }
 
-/// What is needed a ball, where both are known.
+/// Returns the runs needed a ball, if both the runs and the deliveries left are known.
 fn needed_a_ball(runs: Option<u32>, left: Option<u32>) -> Option<u64>
     ensures { result ≡ laws.rate_of rates.a_ball runs left }
 {
@@ -93,7 +93,7 @@ fn needed_a_ball(runs: Option<u32>, left: Option<u32>) -> Option<u64>
     }
 }
 
-/// In how many overs the bowler has bowled.
+/// Returns in how many overs the bowler has bowled.
 fn bowled_by<B: BookOf>(book: &B, bowler: Option<Player>) -> Option<u32>
     ensures { result ≡ laws.bowled_by (history_of (B.content book.now)) bowler }
 {
@@ -110,7 +110,7 @@ fn is_free_now<B: BookOf>(sheet: &MatchSheet, book: &B) -> bool
     sheet.limits().free_hits() && is_free_hit(book)
 }
 
-/// What follows for an innings, of a book with these overs.
+/// Returns what follows for an innings of the book, whose overs these are.
 fn situation_in<B: BookOf>(
     sheet: &MatchSheet,
     book: &B,
@@ -161,7 +161,7 @@ fn no_situation() -> Situation
     }
 }
 
-/// What follows for the innings that began last, of a book with these overs.
+/// Returns what follows for the innings that began last in the book, whose overs these are.
 pub fn situation_of<B: BookOf>(sheet: &MatchSheet, book: &B, overs: &Overs<'_>) -> Situation
     ensures { AreOversOf overs.now (history_of (B.content book.now))
         → result ≡ laws.situation_of sheet.now (B.innings_a_side book.now) (history_of (B.content book.now)) }

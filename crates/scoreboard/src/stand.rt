@@ -18,14 +18,14 @@ use json_fields::{Compact, begin_field, end_object, put_figure, put_null};
 use notation::{Ball, Kind, Leave, Plain, Player};
 use std::alloc::AllocError;
 
-/// What came since a wicket fell: runs, and balls that were faced.
+/// The runs of a partnership or a share, and the balls faced.
 #[derive(Clone, Copy)]
 pub struct Stand {
     pub runs: u32,
     pub balls: u32,
 }
 
-/// What came of both, and what each who is in made of it.
+/// The whole partnership, and each batter's share of it.
 #[derive(Clone, Copy)]
 pub struct Partnership {
     pub all: Stand,
@@ -33,14 +33,14 @@ pub struct Partnership {
     pub other: Option<Stand>,
 }
 
-/// Nothing yet.
+/// A partnership before its first delivery.
 pub fn no_stand() -> Stand
     ensures { result ≡ laws.no_stand }
 {
     Stand { runs: 0, balls: 0 }
 }
 
-/// One, unless the delivery is a Wide.
+/// Returns the number of balls faced: 1, or 0 for a Wide.
 pub fn faced(ball: &Ball) -> u32
     ensures value { result ≡ faced_of ball.now }
     ensures bound { result ≤ 1 }
@@ -51,7 +51,7 @@ pub fn faced(ball: &Ball) -> u32
     }
 }
 
-/// With a delivery more.
+/// Adds a delivery.
 fn stand_with(ball: &Ball, stand: Stand) -> Stand
     requires runs { stand.runs ≤ 260 * PLACES }
     requires balls { stand.balls ≤ PLACES }
@@ -65,7 +65,7 @@ fn stand_with(ball: &Ball, stand: Stand) -> Stand
     }
 }
 
-/// Behind a delivery: a wicket ends it.
+/// Returns the partnership after a delivery: a wicket ends it.
 fn stand_behind(ball: &Ball, stand: Stand) -> Stand
     requires runs { stand.runs ≤ 260 * PLACES }
     requires balls { stand.balls ≤ PLACES }
@@ -80,7 +80,7 @@ fn stand_behind(ball: &Ball, stand: Stand) -> Stand
     }
 }
 
-/// As a batter leaves: who is retired hurt may come in again.
+/// Returns the partnership after a batter has left: it ends, unless he retired hurt and so may come in again.
 fn stand_left(how: Leave, stand: Stand) -> Stand
     ensures value { result ≡ laws.stand_left how stand }
     ensures runs { result.runs ≤ stand.runs }
@@ -92,7 +92,7 @@ fn stand_left(how: Leave, stand: Stand) -> Stand
     }
 }
 
-/// Behind an item.
+/// Returns the partnership after an item.
 pub fn stand_after(item: &Plain, stand: Stand) -> Stand
     requires runs { stand.runs ≤ 260 * PLACES }
     requires balls { stand.balls ≤ PLACES }
@@ -108,7 +108,7 @@ pub fn stand_after(item: &Plain, stand: Stand) -> Stand
     }
 }
 
-/// Behind these items.
+/// Returns the partnership after these items.
 fn stand_of(items: &[Placed]) -> Stand
     requires { length items.now ≤ PLACES }
     ensures { result ≡ walk laws.stand_after laws.no_stand items.now }
@@ -120,7 +120,7 @@ fn stand_of(items: &[Placed]) -> Stand
     stand
 }
 
-/// The share of a batter who is in.
+/// Returns the share of the batter at an end, if somebody is there.
 fn share_for(items: &[Placed], batter: Option<Player>) -> Option<Stand>
     requires few { length items.now ≤ PLACES }
     requires played { IsPlayed (history_after [] (kept items.now)) }
@@ -132,7 +132,7 @@ fn share_for(items: &[Placed], batter: Option<Player>) -> Option<Stand>
     }
 }
 
-/// The partnership of a book, with these two at the ends.
+/// Returns the partnership of a book, with these two batters at the ends.
 fn partnership_of<B: BookOf>(book: &B, ends: Ends) -> Partnership
     requires { IsPlayed (history_of (B.content book.now)) }
     ensures { result ≡ laws.partnership_of (history_of (B.content book.now)) ends }
@@ -145,7 +145,7 @@ fn partnership_of<B: BookOf>(book: &B, ends: Ends) -> Partnership
     }
 }
 
-/// The partnership of a book, while an innings is open.
+/// Returns the partnership of a book, while an innings is open.
 pub fn partnership_now<B: BookOf>(book: &B) -> Option<Partnership>
     ensures { result ≡ laws.partnership_now (history_of (B.content book.now)) }
 {
@@ -173,7 +173,7 @@ fn put_some_share(out: &mut Compact, name: &str, share: Stand) -> Result<(), All
     end_object(out)
 }
 
-/// Puts a batter's share, if he is in.
+/// Puts a batter's share, or null if he isn't there.
 fn put_share(out: &mut Compact, name: &str, share: Option<Stand>) -> Result<(), AllocError>
     ensures { PutsFields result out.old out.new ((name.now, laws.share_or_null share) ∷ []) }
 {
@@ -193,7 +193,7 @@ fn put_some(out: &mut Compact, partnership: Partnership) -> Result<(), AllocErro
     end_object(out)
 }
 
-/// Puts a partnership, if there is one.
+/// Puts a partnership, or null if there is none.
 pub fn put_partnership(
     out: &mut Compact,
     partnership: Option<Partnership>,

@@ -1,4 +1,4 @@
-//! The state of a board as one JSON value, with the runs off each over that was called, and its text.
+//! The state of a board as one JSON value, with the runs off each over that was called, and the value's text.
 
 ghost use Rattle.std.specs.Prelude.{◌≡◌, ◌≤◌, ◌∷◌, [], IfOk, Some, codes, length, map};
 ghost use Rattle.notation.specs.declared.entry.TheConstants.{PLACES};
@@ -34,7 +34,7 @@ struct OverRuns {
     runs: u32,
 }
 
-/// Of these items, the overs that were called.
+/// Returns the overs called in these items, with their runs.
 fn counted(alloc: Global, items: &[Placed]) -> Result<Vec<OverRuns>, AllocError>
     requires { length items.now ≤ PLACES }
     ensures { IfOk result (λ overs.
@@ -80,7 +80,7 @@ fn put_each(out: &mut Compact, overs: &[OverRuns]) -> Result<(), AllocError>
     Ok(())
 }
 
-/// Puts the runs off each over of a book that was called, the oldest first.
+/// Puts the runs off each over called in a book, the oldest first.
 fn put_over_runs<B: BookOf>(out: &mut Compact, alloc: Global, book: &B) -> Result<(), AllocError>
     ensures { PutsFields result out.old out.new (overs_field (over_runs (history_of (B.content book.now))) ∷ []) }
 {
@@ -90,7 +90,7 @@ fn put_over_runs<B: BookOf>(out: &mut Compact, alloc: Global, book: &B) -> Resul
     end_array(out)
 }
 
-/// Puts what is said of the file and of the match, with so many entries.
+/// Puts the format, the match number and title, and the number of entries.
 fn put_head(out: &mut Compact, sheet: &MatchSheet, entries: u32) -> Result<(), AllocError>
     ensures { PutsFields result out.old out.new (laws.head_fields sheet.now entries) }
 {
@@ -101,7 +101,7 @@ fn put_head(out: &mut Compact, sheet: &MatchSheet, entries: u32) -> Result<(), A
     put_figure(out, "entries", entries)
 }
 
-/// Puts what is told of a book.
+/// Puts everything that a book shows.
 fn put_book<B: BookOf>(
     out: &mut Compact,
     alloc: Global,
@@ -130,8 +130,8 @@ fn put_book<B: BookOf>(
     put_over_runs(out, alloc, book)
 }
 
-/// Puts the state of a board with this book as one value: the score of each innings with its cards, who bats and who bowls,
-/// this over and the last, what is needed, and the result. It fails only where memory is refused.
+/// Puts the state of a board with this book as one value: the score of each innings with its cards, the batters and the bowler,
+/// this over and the last one, what is needed, and the result. Fails only if memory is refused.
 pub fn put_board_value<B: BookOf>(
     out: &mut Compact,
     alloc: Global,
@@ -146,14 +146,14 @@ pub fn put_board_value<B: BookOf>(
     end_object(out)
 }
 
-/// How many seconds ago a board heard each desk last, if it ever did.
+/// How many seconds ago a board last heard each desk, if it ever did.
 #[derive(Clone, Copy)]
 pub struct LastHeard {
     pub a: Option<u64>,
     pub b: Option<u64>,
 }
 
-/// Puts how many seconds ago a desk was heard last.
+/// Puts how many seconds ago a desk was last heard, or null if it never was.
 fn put_seconds(out: &mut Compact, desk: &str, seconds: Option<u64>) -> Result<(), AllocError>
     ensures { PutsFields result out.old out.new ((desk.now, number_or_null seconds) ∷ []) }
 {
@@ -163,7 +163,7 @@ fn put_seconds(out: &mut Compact, desk: &str, seconds: Option<u64>) -> Result<()
     }
 }
 
-/// Puts when a board heard its desks.
+/// Puts when a board last heard its desks.
 fn put_heard(out: &mut Compact, heard: LastHeard) -> Result<(), AllocError>
     ensures { PutsFields result out.old out.new (laws.heard_field heard ∷ []) }
 {
@@ -173,7 +173,7 @@ fn put_heard(out: &mut Compact, heard: LastHeard) -> Result<(), AllocError>
     end_object(out)
 }
 
-/// Puts why a board doesn't go on.
+/// Puts why a board can't go on.
 fn put_why(out: &mut Compact, why: Why) -> Result<(), AllocError>
     ensures { PutsFields result out.old out.new (text_field (codes "why") (laws.why_text why) ∷ []) }
 {
@@ -184,7 +184,7 @@ fn put_why(out: &mut Compact, why: Why) -> Result<(), AllocError>
     }
 }
 
-/// Puts that in words.
+/// Puts why a board can't go on, in words.
 fn put_words(out: &mut Compact, why: Why) -> Result<(), AllocError>
     ensures { PutsFields result out.old out.new (text_field (codes "text") (laws.why_words why) ∷ []) }
 {
@@ -213,7 +213,7 @@ fn put_some_trouble(out: &mut Compact, trouble: Trouble) -> Result<(), AllocErro
     end_object(out)
 }
 
-/// Puts what keeps a board from going on, if anything does.
+/// Puts what keeps a board from going on, or null if nothing does.
 fn put_trouble(out: &mut Compact, trouble: Option<Trouble>) -> Result<(), AllocError>
     ensures { PutsFields result out.old out.new (laws.trouble_field trouble ∷ []) }
 {
@@ -223,7 +223,7 @@ fn put_trouble(out: &mut Compact, trouble: Option<Trouble>) -> Result<(), AllocE
     }
 }
 
-/// Puts the same value, and in it when the board heard its desks, and what keeps it from going on.
+/// Puts the value of `put_board_value`, with when the board last heard its desks, and what keeps it from going on.
 fn put_told<B: BookOf>(
     out: &mut Compact,
     alloc: Global,
@@ -242,8 +242,8 @@ fn put_told<B: BookOf>(
     end_object(out)
 }
 
-/// The state of a board with this book, which heard its desks so and which this keeps from going on, if anything does, as JSON
-/// on one line, and a newline.
+/// Returns the state of a board as JSON on one line, and a newline: its book, when it last heard each desk, and what keeps it
+/// from going on, if anything does.
 pub fn board_text<B: BookOf>(
     alloc: Global,
     sheet: &MatchSheet,

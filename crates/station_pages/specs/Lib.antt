@@ -1,4 +1,4 @@
--- The texts that a page was handed: Handed. What a page shows of a desk: Sights. The words that are the page's: PageWords.
+-- The texts that a page was handed: Handed. What a page shows of a desk: Sights. The page's own words: PageWords.
 pub mod Handed
 pub mod PageWords
 pub mod Sights

@@ -7,8 +7,8 @@ use crate::handed::HandedLog;
 use std::os::fd::RawFd;
 use viewers::Viewers;
 
-/// The page of a board: who looks at it, and the six lines and the states that it was handed. Wherever it is, and whatever they
-/// send, it shows the newest of each.
+/// The page of a board: its viewers, and the six lines and the states that it was handed. Whatever its viewers send, it shows
+/// the newest of each.
 #[derive(Drop)]
 pub struct BoardPage {
     viewers: Viewers,
@@ -19,7 +19,7 @@ pub struct BoardPage {
 }
 
 impl BoardPage {
-    /// With these who look at it. It wasn't handed anything yet.
+    /// Begins with these viewers, before anything is handed to it.
     pub fn new(viewers: Viewers) -> BoardPage
         ensures lines { texts_in result.lines ≡ [] }
         ensures states { texts_in result.states ≡ [] }
@@ -31,12 +31,12 @@ impl BoardPage {
         }
     }
 
-    /// What ends a board's waits where somebody looks at it.
+    /// Returns the descriptor that ends a board's wait when a viewer needs something.
     pub fn descriptor(&self) -> RawFd {
         self.viewers.descriptor()
     }
 
-    /// It is handed these lines.
+    /// Shows these lines from now on.
     pub fn put_lines(&mut self, text: Vec<u8>)
         ensures lines { texts_in self.new.lines ≡ texts_in self.old.lines ++ text.items ∷ [] }
         ensures states { self.new.states ≡ self.old.states }
@@ -45,7 +45,7 @@ impl BoardPage {
         self.viewers.put_lines(text);
     }
 
-    /// It is handed this state.
+    /// Shows this state from now on.
     pub fn put_state(&mut self, text: Vec<u8>)
         ensures states { texts_in self.new.states ≡ texts_in self.old.states ++ text.items ∷ [] }
         ensures lines { self.new.lines ≡ self.old.lines }
@@ -54,8 +54,8 @@ impl BoardPage {
         self.viewers.put_state(text);
     }
 
-    /// Does what can be done at once for those who look at it, and tells them what it shows, where they weren't told it. Where
-    /// nobody called, none has come or asked.
+    /// Does what can be done at once for the viewers, and tells them what is shown if it is new to them. Unless `is_called`,
+    /// nobody has connected or asked.
     pub fn attend(&mut self, is_called: bool, now: u64)
         ensures lines { self.new.lines ≡ self.old.lines }
         ensures states { self.new.states ≡ self.old.states }
@@ -64,7 +64,7 @@ impl BoardPage {
         self.viewers.tell(now);
     }
 
-    /// For how many milliseconds it may be left alone since it was seen to.
+    /// Returns for how many milliseconds the page needs nothing, since it was last attended to.
     pub fn longest_wait(&self) -> u64 {
         self.viewers.longest_wait()
     }

@@ -5,7 +5,7 @@ ghost use Rattle.station_pages.specs.Handed.{newest_or, texts_in};
 
 use std::snapshot::Snapshot;
 
-/// The texts that a page was handed, in order. Clauses alone read it.
+/// The texts that a page was handed, in order. Only clauses read it.
 #[derive(Drop)]
 pub enum HandedLog {
     Empty,
@@ -13,7 +13,7 @@ pub enum HandedLog {
 }
 
 impl HandedLog {
-    /// These, and then this one.
+    /// Adds a text.
     pub fn handed(&self, text: &Vec<u8>) -> HandedLog
         ensures texts { texts_in result ≡ texts_in self.now ++ text.now.items ∷ [] }
         ensures newest { (other : List ℕ) → newest_or other result ≡ text.now.items }

@@ -1,5 +1,5 @@
-//! A station and its page: of a desk what is typed in it, the words that are its own, the rows that it shows, and the state; of a
-//! board what it shows.
+//! A station and its page: for a desk the lines typed in the page, the page's own words, its rows and its state; for a board
+//! what it shows.
 #![tactic(auto)]
 
 mod board_page;

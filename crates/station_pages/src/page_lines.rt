@@ -1,4 +1,4 @@
-//! The lines that are typed in a desk's page.
+//! The lines typed in a desk's page.
 
 ghost use Rattle.std.specs.Prelude.{◌≡◌, ◌≤◌, [], take};
 ghost use Rattle.posts.specs.PostedLogs.{lines_of};
@@ -11,7 +11,7 @@ use std::cell::RefCell;
 use std::io::Write;
 use std::str;
 
-/// The lines of a page, where there is one: each was posted there, and is told.
+/// The lines of a page, if there is one: each was posted there, and is printed.
 #[derive(Drop)]
 pub struct PageLines<'p, E> {
     page: Option<&'p RefCell<ScorersPage>>,
@@ -20,7 +20,7 @@ pub struct PageLines<'p, E> {
 }
 
 impl<'p, E: Write> PageLines<'p, E> {
-    /// Of this page, none of whose lines was given yet.
+    /// Begins with this page, before any of its lines was given to the desk.
     pub fn of(page: Option<&'p RefCell<ScorersPage>>, errors: E) -> PageLines<'p, E>
         ensures { lines_of result.log ≡ [] }
     {
@@ -31,14 +31,14 @@ impl<'p, E: Write> PageLines<'p, E> {
         }
     }
 
-    /// What was given, which clauses alone read.
+    /// Returns the lines that were given to the desk; only clauses read them.
     pub fn posted(&self) -> &PostedLog
         ensures { result.now ≡ self.now.log }
     {
         &self.log
     }
 
-    /// Tells how many look at the page, where others did before.
+    /// Prints how many viewers the page has, if that has changed.
     fn tell_change(&mut self)
         ensures { self.new.log ≡ self.old.log }
     {
@@ -50,7 +50,7 @@ impl<'p, E: Write> PageLines<'p, E> {
         };
     }
 
-    /// Tells that a line was typed in the page.
+    /// Prints a line that was typed in the page.
     fn tell(&mut self, line: &[u8])
         ensures { self.new.log ≡ self.old.log }
     {
@@ -59,7 +59,7 @@ impl<'p, E: Write> PageLines<'p, E> {
     }
 }
 
-/// A line as it is told: one with a character that a terminal would obey is a question mark.
+/// Returns a line as it is printed: a question mark if it isn't UTF-8 or has a control character.
 fn as_told(line: &[u8]) -> &str {
     match str::from_utf8(line) {
         Ok(text) if !text.chars().any(|letter| letter.is_control()) => text,
@@ -67,13 +67,13 @@ fn as_told(line: &[u8]) -> &str {
     }
 }
 
-/// How many look at a page, where others did when that was told last.
+/// Returns how many viewers a page has, if that has changed since it was last printed.
 fn change_of(page: Option<&RefCell<ScorersPage>>) -> Option<usize> {
     let mut page = page?.try_borrow_mut().ok()?;
     page.take_change()
 }
 
-/// The next line of a page, for the desk that stands so.
+/// Returns the next line of a page, for the desk at this position.
 fn next_of(page: Option<&RefCell<ScorersPage>>, at: Stand) -> Option<PostedLine> {
     let mut page = page?.try_borrow_mut().ok()?;
     page.stand(Position {
@@ -83,7 +83,7 @@ fn next_of(page: Option<&RefCell<ScorersPage>>, at: Stand) -> Option<PostedLine>
     page.next_line()
 }
 
-/// Puts a line into the front of a buffer, and tells its length.
+/// Copies a line to the front of a buffer, and returns its length.
 fn put(line: &PostedLine, buffer: &mut LineBuffer) -> usize
     ensures length { (result ≤ 128) × (take result buffer.new ≡ line.now.text.items) }
 {

@@ -1,4 +1,4 @@
-//! The words of a desk's page, `page` and `page new`, which the desk isn't given.
+//! The words of a desk's page, `page` and `page new`, which aren't given to the desk.
 
 ghost use Rattle.std.specs.Prelude.{◌≡◌, ◌↔◌, [], IfSome, IsNone, false};
 ghost use Rattle.links.specs.Logs.{inputs_of};
@@ -12,24 +12,24 @@ use links::{HeldLine, InputLog, Keys, LineBuffer, Stand, Typed};
 pub enum PageWord {
     /// `page`: a new square.
     Square,
-    /// `page new`: a new square, and all who have the page are let go.
+    /// `page new`: a new square, and all signed viewers are dropped.
     Anew,
 }
 
-/// What shows the squares of a desk's page.
+/// Shows the squares of a desk's page.
 pub trait Squares {
-    /// Shows a new square, as this word asks for it.
+    /// Shows a new square, as the word asks for.
     fn show(&mut self, word: PageWord);
 }
 
-/// A line without the blanks at its end.
+/// Returns a line without the white space at its end.
 fn trimmed(line: &[u8]) -> &[u8]
     ensures { result.now ≡ words.trimmed line.now }
 {
     line.trim_ascii_end()
 }
 
-/// The word of a page that a line is. It writes nothing.
+/// Returns the page's word if the line is one. Such a line writes nothing in the book.
 fn word_in(line: &[u8]) -> Option<PageWord>
     ensures { IsNone result ↔ (is_page_word line.now ≡ false) }
 {
@@ -43,7 +43,7 @@ fn word_in(line: &[u8]) -> Option<PageWord>
     }
 }
 
-/// A scorer's lines without the words of the page, each of which shows a square.
+/// A scorer's lines without the page's words, each of which shows a square.
 #[derive(Drop)]
 pub struct PageWords<K: Keys, S> {
     keys: K,
@@ -53,7 +53,7 @@ pub struct PageWords<K: Keys, S> {
 }
 
 impl<K: Keys, S: Squares> PageWords<K, S> {
-    /// Of a keyboard that gave nothing yet.
+    /// Begins with a keyboard that has given nothing yet.
     pub fn of(keys: K, squares: S) -> PageWords<K, S>
         requires { K.inputs keys ≡ [] }
         ensures { inputs_of result.given ≡ [] }
@@ -65,7 +65,7 @@ impl<K: Keys, S: Squares> PageWords<K, S> {
         }
     }
 
-    /// The keyboard.
+    /// Returns the keyboard.
     pub fn keys(&self) -> &K
         ensures keys { result.now ≡ self.now.keys }
         ensures others { inputs_of self.now.given ≡ for_desk (K.inputs result.now) }
@@ -73,7 +73,7 @@ impl<K: Keys, S: Squares> PageWords<K, S> {
         &self.keys
     }
 
-    /// What was given.
+    /// Returns the lines that were given to the desk.
     pub fn given(&self) -> &InputLog
         ensures { result.now ≡ self.now.given }
     {

@@ -1,25 +1,25 @@
-//! The newest rows that a scorer was told.
+//! The newest rows printed for a scorer.
 
 use json::Token;
 use json_fields::{Compact, Tokens, put_string};
 use std::alloc::{AllocError, Global};
 use std::str;
 
-/// How many are kept.
+/// The largest number of rows kept.
 const MOST_ROWS: usize = 40;
 
-/// The newest rows that a scorer was told, the oldest first.
+/// The newest rows printed for a scorer, the oldest first.
 #[derive(Drop)]
 pub struct Rows {
     alloc: Global,
     rows: Vec<Vec<u8>>,
-    /// One that isn't ended yet.
+    /// The row that isn't ended yet.
     begun: Vec<u8>,
     is_new: bool,
 }
 
 impl Rows {
-    /// None yet.
+    /// Begins with no rows.
     pub fn new(alloc: Global) -> Rows {
         Rows {
             alloc,
@@ -29,7 +29,7 @@ impl Rows {
         }
     }
 
-    /// Ends the row that was begun. The oldest goes, where there are more than are kept.
+    /// Ends the current row. Drops the oldest row if there are more than are kept.
     fn end_row(&mut self) -> Result<(), AllocError> {
         let mut row = Vec::new(self.alloc);
         row.extend_from_slice(self.begun.as_slice())?;
@@ -42,7 +42,7 @@ impl Rows {
         Ok(())
     }
 
-    /// Takes a byte that was told.
+    /// Takes a byte of what was printed.
     fn take_byte(&mut self, byte: u8) -> Result<(), AllocError> {
         if byte == b'\n' {
             return self.end_row();
@@ -51,14 +51,14 @@ impl Rows {
         Ok(())
     }
 
-    /// Takes what was told. A row for which there is no memory is left out.
+    /// Takes what was printed, as far as memory allows.
     pub fn take(&mut self, told: &[u8]) {
         for byte in told {
             let _ = self.take_byte(*byte);
         }
     }
 
-    /// Puts the rows, as texts. One that is none is a question mark.
+    /// Puts the rows as strings; a row that isn't UTF-8 is a question mark.
     fn put(&self, out: &mut Compact) -> Result<(), AllocError> {
         for row in &self.rows {
             put_string(out, str::from_utf8(row.as_slice()).unwrap_or("?"))?;
@@ -66,7 +66,7 @@ impl Rows {
         Ok(())
     }
 
-    /// The rows as JSON, in one line, where there are new ones.
+    /// Returns the rows as JSON on one line, if there are new ones.
     pub fn take_news(&mut self) -> Result<Option<Vec<u8>>, AllocError> {
         if !self.is_new {
             return Ok(None);

@@ -11,25 +11,25 @@ use std::alloc::Global;
 use std::os::fd::RawFd;
 use viewers::Viewers;
 
-/// For how many milliseconds those who look at a desk's page aren't counted again.
-/// Strangers who come and go fill no screen.
+/// How long the count of a desk's viewers stays as it is, in milliseconds, so that strangers who come and go don't fill the
+/// screen.
 const WATCHERS_COUNT_PAUSE: u64 = 5_000;
 
-/// The page of a desk: who looks at it, and the newest rows that its scorer was told.
+/// The page of a desk: its viewers, and the newest rows printed for its scorer.
 #[derive(Drop)]
 pub struct ScorersPage {
     viewers: Viewers,
     rows: Rows,
-    /// How many look at it, as was counted last, and when; and how many that was when it was told last.
+    /// The number of viewers last counted, when it was counted, and the number last printed.
     watching: usize,
     counted: u64,
     told: usize,
-    /// When it was seen to last, by the desk's clock.
+    /// When the page was last attended to, by the desk's clock.
     now: u64,
 }
 
 impl ScorersPage {
-    /// With these who look at it, from now on.
+    /// Begins with these viewers.
     pub fn new(alloc: Global, viewers: Viewers, now: u64) -> ScorersPage {
         ScorersPage {
             viewers,
@@ -41,27 +41,27 @@ impl ScorersPage {
         }
     }
 
-    /// What ends a desk's waits where somebody looks or types.
+    /// Returns the descriptor that ends a desk's wait when a viewer asks or types.
     pub fn descriptor(&self) -> RawFd {
         self.viewers.descriptor()
     }
 
-    /// A square with this ticket in its link is shown now.
+    /// Shows a square with this ticket in its link from now on.
     pub fn show_square(&mut self, ticket: [u8; 16]) {
         self.viewers.show(ticket, self.now);
     }
 
-    /// It has this secret from here on. Who had the one before is let go.
+    /// Changes the page's secret. Signed viewers are dropped.
     pub fn renew(&mut self, secret: [u8; 16]) {
         self.viewers.renew(secret);
     }
 
-    /// Takes what the scorer was told.
+    /// Takes what was printed for the scorer.
     pub fn tell(&mut self, told: &[u8]) {
         self.rows.take(told);
     }
 
-    /// Shows the rows that are new, to its scorer alone.
+    /// Shows the new rows, to the scorer only.
     pub fn show_rows(&mut self)
         ensures { self.new.viewers.shown ≡ self.old.viewers.shown }
     {
@@ -70,7 +70,7 @@ impl ScorersPage {
         }
     }
 
-    /// This state is shown to all from here on, and the whole one to its scorer alone.
+    /// Shows this state to all from now on, and the whole one to the scorer only.
     pub fn show_state(&mut self, openly: Vec<u8>, whole: Vec<u8>)
         ensures openly { ShowsOpenly openly.items self.old.viewers.shown self.new.viewers.shown }
         ensures own { self.new.viewers.own.state ≡ whole }
@@ -79,7 +79,7 @@ impl ScorersPage {
         self.viewers.put_own_state(whole);
     }
 
-    /// This is what stands in the book from here on.
+    /// Shows these items of the book from now on.
     pub fn show_book(&mut self, book: Vec<u8>)
         ensures shown { ShowsBook book.items self.old.viewers.shown self.new.viewers.shown }
         ensures digest { self.new.viewers.own.digest ≡ sha256 book.items }
@@ -87,7 +87,7 @@ impl ScorersPage {
         self.viewers.put_book(book);
     }
 
-    /// The desk is at this position from here on. Lines that were typed here for another one are dropped, and told.
+    /// Sets the desk's position. Lines typed here for another position are dropped, and a row says so.
     pub fn stand(&mut self, at: Position) {
         if self.viewers.stand(at) > 0 {
             self.rows
@@ -96,12 +96,12 @@ impl ScorersPage {
         }
     }
 
-    /// Takes the next line that was typed here, if there is one.
+    /// Takes the next line typed here, if there is one.
     pub fn next_line(&mut self) -> Option<PostedLine> {
         self.viewers.next_line()
     }
 
-    /// Counts who look at it, once in a while: strangers who come and go fill no screen.
+    /// Counts the viewers once in a while: strangers who come and go don't fill the screen.
     fn count(&mut self, now: u64) {
         if now.saturating_sub(self.counted) >= WATCHERS_COUNT_PAUSE {
             self.counted = now;
@@ -109,7 +109,7 @@ impl ScorersPage {
         }
     }
 
-    /// How many look at it, where it were others when that was told last.
+    /// Returns the number of viewers, if it isn't the one last printed.
     pub fn take_change(&mut self) -> Option<usize> {
         if self.watching == self.told {
             return None;
@@ -123,8 +123,8 @@ impl ScorersPage {
         self.viewers.has_lines()
     }
 
-    /// Does what can be done at once for those who look or type, and tells them what is new. Where nobody called, none has come, asked
-    /// or typed.
+    /// Does what can be done at once for those who look or type, and tells them what is new. Unless `is_called`, nobody has
+    /// connected, asked or typed.
     pub fn attend(&mut self, is_called: bool, now: u64) {
         self.now = now;
         self.viewers.pump(is_called, now);
@@ -133,7 +133,7 @@ impl ScorersPage {
         self.count(now);
     }
 
-    /// For how many milliseconds it may be left alone since it was seen to.
+    /// Returns for how many milliseconds the page needs nothing, since it was last attended to.
     pub fn longest_wait(&self) -> u64 {
         self.viewers.longest_wait()
     }

@@ -1,4 +1,4 @@
-//! The state of a desk, in its page.
+//! The state of a desk on its page.
 
 ghost use Rattle.std.specs.Prelude.{◌≡◌, ◌⊎◌, ◌∷◌, ◌++◌, [], IfOk, IfSome, Some, length, true};
 ghost use Rattle.notation.specs.Written.{IsEntry};
@@ -20,21 +20,21 @@ use std::alloc::{AllocError, Global};
 use std::cell::{Cell, RefCell};
 use std::snapshot::Snapshot;
 
-/// The state of a desk: as all may read it, and whole, for its scorer alone.
+/// The state of a desk: as all may read it, and the whole of it for its scorer.
 #[derive(Drop)]
 struct Texts {
     openly: Vec<u8>,
     own: Vec<u8>,
 }
 
-/// The texts that a page was given, in order. Clauses alone read it.
+/// The texts that a page was given, in order. Only clauses read it.
 #[derive(Drop)]
 enum TextLog {
     Empty,
     Given(Snapshot<TextLog>, Snapshot<Vec<u8>>, Snapshot<Vec<u8>>),
 }
 
-/// What was shown last: it is shown again once something of it is another.
+/// What was last shown; the state is shown again once any of it changes.
 #[derive(Clone, Copy, PartialEq, Eq)]
 struct Seen {
     entries: u32,
@@ -43,24 +43,24 @@ struct Seen {
     has_voted: bool,
 }
 
-/// What a page shows of a desk: its state, whenever it is another one. It is seen to whenever it is shown the desk.
+/// Shows a desk on its page: its state, whenever it has changed. The page is attended to each time.
 #[derive(Drop)]
 pub struct PageSight<'p> {
     alloc: Global,
     desk: DeskId,
     page: Option<&'p RefCell<ScorersPage>>,
-    /// Whether somebody came or asks there.
+    /// Whether a wait ended for the page.
     called: &'p Cell<bool>,
-    /// How many entries the book had that was shown last.
+    /// How many entries the book last shown had.
     entries: Option<u32>,
     seen: Option<Seen>,
-    /// The lines that were held then.
+    /// The held lines last shown.
     held: HeldLines,
     log: TextLog,
 }
 
 impl TextLog {
-    /// These, and then those of a desk.
+    /// Adds the two texts of a desk.
     fn given(&self, texts: &Texts) -> TextLog
         ensures { texts_in result ≡ texts_in self.now ++ (texts.now.openly.items, texts.now.own.items) ∷ [] }
     {
@@ -72,7 +72,7 @@ impl TextLog {
     }
 }
 
-/// The texts of a desk with this book, that votes at this position, voted so there, and holds these lines.
+/// Returns the texts of a desk with this book, position, own vote and held lines.
 fn texts_of<B: BookOf>(
     alloc: Global,
     sheet: &MatchSheet,
@@ -94,7 +94,7 @@ fn texts_of<B: BookOf>(
 }
 
 impl<'p> PageSight<'p> {
-    /// Of this desk, of which nothing was shown yet. It is noted elsewhere whether somebody came or asks at the page.
+    /// Begins with this desk, of which nothing was shown yet. `called` is set elsewhere when somebody connects or asks.
     pub fn new(
         alloc: Global,
         desk: DeskId,
@@ -116,7 +116,7 @@ impl<'p> PageSight<'p> {
         }
     }
 
-    /// Has a page show what stands in a book, unless it was shown one with as many entries, and tells whether it is.
+    /// Shows the items of a book on the page, unless the last book shown had as many entries. Returns whether they are shown.
     fn put_book<B: BookOf>(&mut self, page: &mut ScorersPage, book: &B) -> bool
         ensures others { ServesBook page.old.viewers.shown page.new.viewers.shown (B.content book.now) }
         ensures shows { result ≡ true → (self.old.entries ≡ Some (length (B.content book.now)))
@@ -139,7 +139,7 @@ impl<'p> PageSight<'p> {
         }
     }
 
-    /// Has a page show this state, unless it does so already.
+    /// Shows this state on the page, unless it already does.
     fn put_state<B: BookOf>(
         &mut self,
         page: &mut ScorersPage,
@@ -175,7 +175,7 @@ impl<'p> PageSight<'p> {
         }
     }
 
-    /// Has a page show both, the book first: a page that reads of an entry can have all that stands then.
+    /// Shows the book and then the state: so a page that reads of an entry can already fetch the book with it.
     fn put<B: BookOf>(
         &mut self,
         page: &mut ScorersPage,

@@ -1,4 +1,4 @@
--- Lemmas on answers, as HTTP's grammar reads them, on what isn't hidden, and on who is let go.
+-- Lemmas on answers read as HTTP, on what isn't encrypted, and on who is dropped.
 pub mod OpenLemmas
 pub mod PlaceLemmas
 pub mod ResponseLemmas

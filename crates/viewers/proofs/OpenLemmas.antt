@@ -1,4 +1,4 @@
--- What is served of what is shown, by all of it that isn't hidden.
+-- What is served depends only on the texts that aren't encrypted.
 use Rattle.std.proofs.Common.{◌≡◌, ◌∙◌, Bool, false, ap, codes}
 use Rattle.http1.specs.declared.server.Server.{Server}
 use Rattle.http1.specs.Server.{writing}

@@ -1,4 +1,4 @@
--- Who is let go, place after place.
+-- Who is dropped, place after place.
 use Rattle.std.proofs.Common.{◌≡◌, ◌≢◌, ◌∙◌, ◌<◌, ◌≤◌, ◌+◌, ◌==◌, ℕ, Bool, true, false, List, Option, None, length, get_or, nat_lt, arith, refl, ap}
 use Rattle.std.proofs.lemmas.Bool.Decides.{nat_tests}
 use Rattle.std.proofs.lemmas.List.{get_or_past}
@@ -11,7 +11,7 @@ other_places : (n m : ℕ) → (n == m) ≡ false → n ≢ m
 other_places n m e = λ s. grind (arith, nat_tests, e, s)
 
 module _ {V : Type 0} where
-  -- one place more of which this doesn't hold
+  -- one more place that fails the test
   pub gone_more : (test : Option V → Bool) (n : ℕ) (old new : List (Option V))
       → ((k : ℕ) → k < n → test (get_or old k None) ≡ false) → test (get_or new n None) ≡ false → KeepsOthers n old new
       → (k : ℕ) → k < n + 1 → test (get_or new k None) ≡ false
@@ -26,14 +26,14 @@ module _ {V : Type 0} where
           by_less : k ≢ n → k < n
           by_less differs = grind (arith, less, differs)
 
-  -- those of which it holds stay, at one place more
+  -- the places that pass the test are kept, at one more place
   pub keeps_more : (test : Option V → Bool) (first old new : List (Option V)) → KeepsThose test first old → KeepsThose test old new
       → KeepsThose test first new
   keeps_more test first old new before more k holds =
       let same = before k holds in
       more k (ap test same ∙ holds) ∙ same
 
-  -- behind the last place there was nobody, and is nobody
+  -- beyond the last place there was nobody, and is nobody
   pub gone_at_all : (test keeps : Option V → Bool) (n : ℕ) (first slots : List (Option V)) → length first ≤ n
       → test None ≡ false → keeps None ≡ true → KeepsThose keeps first slots
       → ((k : ℕ) → k < n → test (get_or slots k None) ≡ false) → (k : ℕ) → test (get_or slots k None) ≡ false

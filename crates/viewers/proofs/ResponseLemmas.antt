@@ -1,4 +1,4 @@
--- What is written as a whole answer is read back as one.
+-- A whole answer, as written, is read back as one response.
 use Rattle.std.proofs.Common.{◌≡◌, ℕ, ◌<◌, ◌^◌, List, [], ◌∷◌, ◌++◌, length, Result, Ok, Err, None, sym, refl, ap, ◌∙◌, subst}
 use Rattle.std.proofs.lemmas.List.{append-nil, append_assoc}
 use Rattle.http1.specs.declared.framing.Framing.{Framing}
@@ -55,7 +55,7 @@ module _ (s : Server) (status : ℕ) (reason : List ℕ) (size : BodySize) (fiel
   }
   reads_back (Err e) planned valid fits ends short = cc
 
--- a head, and then its text, as they were written
+-- a head followed by its text, as they were written
 pub is_response :
     (s after : Server) (status : ℕ) (reason : List ℕ) (size : BodySize) (fields : List Header) (text sent front bytes : List ℕ)
     → front ≡ planned_response s status reason size fields

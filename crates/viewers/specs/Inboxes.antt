@@ -1,10 +1,10 @@
--- The lines that wait, and those that posts add.
+-- The waiting lines, and those that posts add.
 use Rattle.std.specs.Prelude.{◌≡◌, ℕ, List, [], ◌∷◌, ◌++◌, Option, None, Some}
 use Rattle.agree_core.specs.declared.position.Position.{Position}
 use Rattle.posts.specs.declared.posted.PostedLine.{PostedLine}
 use Rattle.viewers.specs.declared.inbox.Inbox.{Inbox}
 
--- this line waits behind those that did before: it was posted by this secret, to a desk at this position
+-- this line waits after those before it: it was posted with this secret, to a desk at this position
 pub record Adds (secret : List ℕ) (at : Position) (line : List ℕ) (before after : List (Option PostedLine)) : Type 0 where
   pub posted : PostedLine
   pub added : after ≡ before ++ Some posted ∷ []
@@ -12,7 +12,7 @@ pub record Adds (secret : List ℕ) (at : Position) (line : List ℕ) (before af
   pub by : posted.secret.value ≡ secret
   pub stands : posted.at ≡ at
 
--- one line more waits at a desk's page, by its secret, for where the desk is
+-- one more line waits, posted with the page's secret for the desk's position
 pub record AddsOne (before after : Inbox) : Type 0 where
   pub line : List ℕ
   pub adds : Adds before.posts.secret before.at line before.lines.items after.lines.items

@@ -1,4 +1,5 @@
--- What a viewer is sent: Replies. That each answer is one of HTTP: Responses. What was said to one, and what its stream has taken: Said. The lines that wait for a desk: Inboxes. Whose place is safe: Places. What is hidden: Veiled.
+-- What a viewer is sent: Replies; each answer is one HTTP response: Responses. What a viewer was told, and what its stream
+-- took: Said. The lines that wait for a desk: Inboxes. Whose place is safe: Places. What is encrypted: Veiled.
 pub mod Replies
 pub mod Responses
 pub mod Said

@@ -1,5 +1,5 @@
--- What a viewer is sent, of what is shown: a head by HTTP's grammar, as `http1` writes it, and behind it the page, a text
--- that was handed over, or a refusal.
+-- What a viewer is sent: an HTTP head, as `http1` writes it, followed by the page, one of the texts that are shown, or a
+-- refusal.
 use Rattle.std.specs.Prelude.{◌≡◌, ℕ, ◌+◌, ◌-◌, ◌^◌, min, bytes_eq, ◌==◌, Bool, true, false, if◌then◌else◌, List, [], ◌∷◌, ◌++◌, length, codes, decimal}
 use Rattle.hex.specs.Hex.{encode_lower}
 use Rattle.http1.specs.declared.server.Server.{Server}
@@ -14,7 +14,7 @@ use Rattle.served_pages.specs.declared.desk.TheConstants as desk
 use Rattle.viewers.specs.declared.{page_texts.PageTexts.PageTexts, station.Station.Station}
 use Rattle.viewers.specs.declared.station.Station.TheVariants.{Board, Desk}
 
--- a station's page, and what may be run and loaded in it
+-- a station's page, and its content security policy
 abbrev pub page_of : Station → List ℕ
 page_of Board = board.PAGE.now
 page_of Desk = desk.PAGE.now
@@ -23,16 +23,16 @@ abbrev pub policy_of : Station → List ℕ
 policy_of Board = board.POLICY.now
 policy_of Desk = desk.POLICY.now
 
--- what may be done at a station's page
+-- the methods allowed at a station's page
 abbrev pub allowed_at : Station → List ℕ
 allowed_at Board = codes "GET, HEAD"
 allowed_at Desk = codes "GET, HEAD, POST"
 
--- where nothing can be had for the present, in how many seconds to ask again, and else what may be done
+-- `retry-after` in seconds for status 503, and otherwise the methods allowed
 abbrev pub hint_of : Station → ℕ → Header
 hint_of station status = if status == 503 then (codes "retry-after", codes "2") else (codes "allow", allowed_at station)
 
--- the fields of each head, with what kind of text follows it
+-- the header fields of a response with this status and content type
 abbrev pub fields_of : Station → ℕ → List ℕ → List Header
 fields_of station status kind =
     (codes "content-type", kind)
@@ -44,11 +44,11 @@ fields_of station status kind =
     ∷ (codes "connection", codes "close")
     ∷ []
 
--- what is sent of a text
+-- the text that is sent: none if only the head is asked for
 abbrev pub sent_of : List ℕ → Bool → List ℕ
 sent_of text is_head = if is_head then [] else text
 
--- a head of this status and a whole text of this kind, of which the head alone may be asked for
+-- a head with this status, followed by a whole text of this type, or only the head
 abbrev pub whole_text : Server → Station → ℕ → List ℕ → List ℕ → List ℕ → Bool → List ℕ
 whole_text s station status reason kind text is_head =
     let size = Known (length text) in
@@ -70,7 +70,7 @@ plain = codes "text/plain; charset=utf-8"
 abbrev pub events : List ℕ
 events = codes "text/event-stream"
 
--- a head alone, behind which states follow
+-- the head of a stream, which states follow
 abbrev pub stream_text : Server → Station → List ℕ
 stream_text s station = planned_response s 200 (codes "OK") Unknown (fields_of station 200 events)
 
@@ -81,11 +81,11 @@ page_text s station head = whole_text s station 200 (codes "OK") html (page_of s
 abbrev pub nonce_text : Server → Station → ℕ → List ℕ
 nonce_text s station nonce = whole_text s station 200 (codes "OK") plain (decimal nonce ++ codes "\n") false
 
--- a hidden secret in hex digits, as a text of one line
+-- an encrypted secret in hex digits, as a text of one line
 abbrev pub handed_text : Server → Station → List ℕ → List ℕ
 handed_text s station hidden = whole_text s station 200 (codes "OK") plain (encode_lower hidden ++ codes "\n") false
 
--- the answer to what is asked for, while this is shown
+-- the answer to a request while these texts are shown
 abbrev pub answer_text : Server → Ask → Bool → PageTexts → List ℕ
 answer_text s Page head shown = page_text s shown.station head
 answer_text s Lines head shown =
@@ -107,28 +107,28 @@ answer_text s (Faulty status) head shown = whole_text s shown.station status (co
 abbrev pub reply_text : Server → Asked → PageTexts → List ℕ
 reply_text s asked shown = answer_text s asked.ask asked.is_head shown
 
--- a text that ends its own line, as an event with its number
+-- a text that ends with a line feed, as an event with its number
 abbrev pub event_of : ℕ → List ℕ → List ℕ
 event_of number text = codes "id: " ++ decimal number ++ codes "\ndata: " ++ text ++ codes "\n"
 
--- the number of what is shown to who is signed or isn't
+-- the number of the text that a signed or an unsigned viewer reads
 abbrev pub number_for : Bool → PageTexts → ℕ
 number_for true shown = shown.veiled.number
 number_for false shown = shown.number
 
--- what is shown, as an event: to who is signed what is hidden by the secret of the desk's page, and to all others the state
+-- what is shown as an event: the encrypted text for a signed viewer, the state for any other
 abbrev pub event : Bool → PageTexts → List ℕ
 event true shown = event_of shown.veiled.number shown.veiled.text.items
 event false shown = event_of shown.number shown.state.items
 
--- to who has asked for each new state, and is signed or isn't: the state, or that there is none but that the station is there
+-- what a watching viewer, signed or not, is told: the text shown, or a beat
 abbrev pub told_text : Server → Bool → PageTexts → List ℕ
 told_text s is_signed shown = data_text (writing s) (event is_signed shown)
 
 abbrev pub beat_text : Server → List ℕ
 beat_text s = data_text (writing s) (codes "event: beat\ndata: -\n\n")
 
--- of what is shown all that isn't hidden is the same
+-- the texts that aren't encrypted are equal
 pub record SameOpenly (one other : PageTexts) : Type 0 where
   pub station : other.station ≡ one.station
   pub lines : other.lines.items ≡ one.lines.items
@@ -136,11 +136,11 @@ pub record SameOpenly (one other : PageTexts) : Type 0 where
   pub book : other.book.items ≡ one.book.items
   pub number : other.number ≡ one.number
 
--- the number of a state that is shown, behind one with this number: that of the same one stays
+-- the number of a state that follows one with this number: it stays if the state is the same
 abbrev pub next_number : ℕ → List ℕ → List ℕ → ℕ
 next_number number before state = if bytes_eq before state then number else min (number + 1) (2 ^ 64 - 1)
 
--- of all that isn't hidden the state is this one from here on, and nothing else is another
+-- of the texts that aren't encrypted, the state is this one from now on, and nothing else changes
 pub record ShowsOpenly (state : List ℕ) (before after : PageTexts) : Type 0 where
   pub station : after.station ≡ before.station
   pub lines : after.lines.items ≡ before.lines.items
@@ -148,7 +148,7 @@ pub record ShowsOpenly (state : List ℕ) (before after : PageTexts) : Type 0 wh
   pub state_is : after.state.items ≡ state
   pub number : after.number ≡ next_number before.number before.state.items state
 
--- of all that isn't hidden the book is this one from here on, and nothing else is another
+-- of the texts that aren't encrypted, the book is this one from now on, and nothing else changes
 pub record ShowsBook (book : List ℕ) (before after : PageTexts) : Type 0 where
   pub station : after.station ≡ before.station
   pub lines : after.lines.items ≡ before.lines.items

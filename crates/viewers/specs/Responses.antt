@@ -1,4 +1,4 @@
--- Bytes that HTTP's grammar reads as one response.
+-- Bytes that the HTTP grammar reads as one response.
 use Rattle.std.specs.Prelude.{ℕ, ◌≤◌, List, [], ◌++◌, length}
 use Rattle.httparse.specs.Grammar.{print_response}
 use Rattle.http1.specs.declared.conn.Limits.{Limits}
@@ -9,8 +9,8 @@ use Rattle.http1.specs.Head.{response_head}
 use Rattle.http1.specs.Message.{ReadsResponseMessage}
 use Rattle.http1.specs.Server.{peer_method, peer_minor}
 
--- whoever takes heads and trailers that long reads these bytes as one response to the request, of this status, with these fields
--- and those that the connection adds, and with this text; nothing is left of them
+-- whoever accepts heads and trailers of this length reads these bytes as one response to the request, with this status, these
+-- fields and those that the connection adds, and this text; no byte is left
 pub record IsResponse (s : Server) (status : ℕ) (reason : List ℕ) (fields : List Header) (text bytes : List ℕ) : Type 0 where
   pub added : List Header
   pub reads : (limits : Limits)

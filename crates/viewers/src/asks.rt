@@ -1,4 +1,4 @@
-//! What a browser asks for.
+//! What a browser's request asks for.
 
 ghost use Rattle.std.specs.Prelude.{◌≡◌, false};
 
@@ -10,42 +10,42 @@ use posts::{Pass, Stamp, tag_in};
 use std::net::SocketAddr;
 use std::str;
 
-/// What is asked for, as far as its head tells, or why it isn't had.
+/// What a request asks for, by its head, or why it can't have it.
 #[derive(Clone, Copy)]
 pub enum Ask {
     /// The page itself.
     Page,
-    /// The six lines of a board.
+    /// A board's six lines.
     Lines,
-    /// The state as JSON: of a desk without what its scorer wrote.
+    /// The state as JSON; a desk's is without what its scorer wrote.
     State,
-    /// What stands in a desk's book, as JSON.
+    /// The items of a desk's book, as JSON.
     Book,
-    /// The state, now and whenever it is new.
+    /// The state now, and each new state as an event.
     Events,
-    /// This nonce was given.
+    /// A nonce, which was given.
     Given(u64),
     /// A line was typed.
     Typed,
-    /// A pass was good: the page is still signed.
+    /// Told that its pass is good: the page has the desk's secret.
     Signed,
-    /// The secret of the desk's page, hidden by the ticket of its square.
+    /// The secret of the desk's page, encrypted by the ticket of its square.
     Handed([u8; 16]),
-    /// Nothing was handed over yet.
+    /// Nothing can be shown yet.
     Unready,
     /// No place is free.
     Full,
-    /// Something that isn't here.
+    /// A path that isn't here.
     Missing,
-    /// Anything but to be given something.
+    /// A method that isn't allowed.
     Method,
-    /// Something of another host.
+    /// Another host.
     Foreign,
-    /// A head that isn't HTTP's, or too long: with this status.
+    /// Refused with this status, as for a head that isn't HTTP or is too long.
     Faulty(u16),
 }
 
-/// What is asked for, and whether the head of its answer alone is.
+/// What is asked for, and whether only the head of the answer is.
 #[derive(Clone, Copy)]
 pub struct Asked {
     pub ask: Ask,
@@ -53,7 +53,7 @@ pub struct Asked {
 }
 
 impl Asked {
-    /// The same, where it can be had: nothing may have been handed over to be shown yet, or no place be free.
+    /// Replaces the ask by `Full` if this viewer has no seat, and by `Unready` if no state was put yet.
     pub fn ready(self, shown: &PageTexts, is_behind: bool) -> Asked {
         let ask = match self.ask {
             Ask::Page | Ask::Lines | Ask::State | Ask::Book | Ask::Events if is_behind => Ask::Full,
@@ -67,25 +67,25 @@ impl Asked {
     }
 }
 
-/// What a head wishes.
+/// What the head of a request asks to have done.
 #[derive(Clone, Copy)]
 pub enum Wish {
     /// An answer.
     Answer(Asked),
     /// A nonce of the desk's.
     Nonce,
-    /// To be told each state, with a pass.
+    /// Events, with a pass.
     Watch(Pass),
-    /// To know whether a pass is good.
+    /// Whether a pass is good.
     Look(Pass),
     /// The secret of the desk's page.
     Claim(Claim),
-    /// To type the line that follows.
+    /// The line that follows is to be typed.
     Line(Heading),
 }
 
 impl Wish {
-    /// That a head is refused with this status.
+    /// Refuses a head with this status.
     pub fn refused(status: u16) -> Wish {
         Wish::Answer(Asked {
             ask: Ask::Faulty(status),
@@ -94,24 +94,24 @@ impl Wish {
     }
 }
 
-/// What the head of a post says of its line.
+/// What the head of a post says about its line.
 #[derive(Clone, Copy)]
 pub struct Heading {
-    /// Whether it comes from this page, or from none.
+    /// Whether it comes from a page of this host, or from no page.
     pub is_from_here: bool,
     pub stamp: Option<Stamp>,
 }
 
-/// What the head of a post says that asks for the secret of the desk's page.
+/// The head of a post that asks for the secret of the desk's page.
 #[derive(Clone, Copy)]
 pub struct Claim {
-    /// Whether it comes from this page, or from none.
+    /// Whether it comes from a page of this host, or from no page.
     pub is_from_here: bool,
-    /// By a square's ticket.
+    /// The tag made with a square's ticket.
     pub tag: Option<[u8; 32]>,
 }
 
-/// The bytes of a span, where they are there.
+/// Returns the bytes of a span, or none if it is out of range.
 pub fn bytes_at(input: &[u8], span: Span) -> &[u8] {
     match input.get(span.start..span.end) {
         Some(bytes) => bytes,
@@ -119,7 +119,7 @@ pub fn bytes_at(input: &[u8], span: Span) -> &[u8] {
     }
 }
 
-/// What stands before a question mark.
+/// Returns the part of a target before its question mark.
 fn path_of(target: &[u8]) -> &[u8] {
     match target.iter().position(|byte| *byte == b'?') {
         Some(end) => match target.get(..end) {
@@ -130,14 +130,14 @@ fn path_of(target: &[u8]) -> &[u8] {
     }
 }
 
-/// The pass in a target, as `/events?nonce=7&tag=9f43..`, where there is one.
+/// Returns the pass in a target, as `/events?nonce=7&tag=9f43..`, if it has one.
 fn pass_in(target: &[u8]) -> Option<Pass> {
     let (_, query) = str::from_utf8(target).ok()?.split_once('?')?;
     let (nonce, tag) = query.strip_prefix("nonce=")?.split_once("&tag=")?;
     Pass::read(nonce, tag)
 }
 
-/// The value of the first field of this name, if there is one.
+/// Returns the value of the first field of this name, if there is one.
 fn field_in<'i>(input: &'i [u8], fields: &[HeaderSpan], name: &[u8]) -> Option<&'i [u8]> {
     for field in fields {
         if bytes_at(input, field.name).eq_ignore_ascii_case(name) {
@@ -147,7 +147,7 @@ fn field_in<'i>(input: &'i [u8], fields: &[HeaderSpan], name: &[u8]) -> Option<&
     None
 }
 
-/// The same as a text, or an empty one.
+/// Returns the value of the first field of this name as a text; empty if there is none, or if it isn't UTF-8.
 fn text_in<'i>(input: &'i [u8], fields: &[HeaderSpan], name: &[u8]) -> &'i str {
     match field_in(input, fields, name) {
         Some(value) => str::from_utf8(value).unwrap_or(""),
@@ -155,7 +155,7 @@ fn text_in<'i>(input: &'i [u8], fields: &[HeaderSpan], name: &[u8]) -> &'i str {
     }
 }
 
-/// Whether each page that a request says it comes from is of the host that it names.
+/// Whether each `Origin` of a request is the host that the request names.
 fn is_own_page(input: &[u8], fields: &[HeaderSpan], host: &[u8]) -> bool {
     for field in fields {
         if bytes_at(input, field.name).eq_ignore_ascii_case(b"origin") {
@@ -168,7 +168,7 @@ fn is_own_page(input: &[u8], fields: &[HeaderSpan], host: &[u8]) -> bool {
     true
 }
 
-/// What stands at a path of a board's page.
+/// Returns what a path of a board's page asks for.
 fn board_ask(path: &[u8]) -> Ask {
     if path == b"/".as_slice() {
         Ask::Page
@@ -183,7 +183,7 @@ fn board_ask(path: &[u8]) -> Ask {
     }
 }
 
-/// What stands at a path of a desk's page.
+/// Returns what a path of a desk's page asks for.
 fn desk_ask(path: &[u8]) -> Ask {
     if path == b"/".as_slice() {
         Ask::Page
@@ -198,7 +198,7 @@ fn desk_ask(path: &[u8]) -> Ask {
     }
 }
 
-/// What stands at a path of a station's page.
+/// Returns what a path of a station's page asks for.
 fn ask_at(station: Station, path: &[u8]) -> Ask {
     match station {
         Station::Board => board_ask(path),
@@ -206,7 +206,7 @@ fn ask_at(station: Station, path: &[u8]) -> Ask {
     }
 }
 
-/// What a request of this method and for this target asks for, where it names this host or doesn't.
+/// Returns what a request with this method and target asks for; `is_here` says whether it names this host.
 pub fn asked_by(station: Station, method: &[u8], target: &[u8], is_here: bool) -> Asked
     ensures foreign { is_here ≡ false → result.ask ≡ Ask.Foreign }
 {
@@ -224,7 +224,7 @@ pub fn asked_by(station: Station, method: &[u8], target: &[u8], is_here: bool) -
     Asked { ask, is_head }
 }
 
-/// What a post to a desk wishes.
+/// Returns what a post to a desk asks to have done, by its path.
 fn posted_to_desk(target: &[u8], input: &[u8], fields: &[HeaderSpan], host: &[u8]) -> Option<Wish> {
     let path = path_of(target);
     if path == b"/line".as_slice() {
@@ -236,7 +236,7 @@ fn posted_to_desk(target: &[u8], input: &[u8], fields: &[HeaderSpan], host: &[u8
     }
 }
 
-/// What a page asks a desk for that is nobody else's: a number, or something by a pass.
+/// Returns what only a desk's own page asks for: a nonce, or something with a pass.
 fn got_of_desk(target: &[u8]) -> Option<Wish> {
     let path = path_of(target);
     if path == b"/nonce".as_slice() {
@@ -252,7 +252,7 @@ fn got_of_desk(target: &[u8]) -> Option<Wish> {
     }
 }
 
-/// What the head of a post says of its line.
+/// Reads what the head of a post says about its line.
 fn heading_in(input: &[u8], fields: &[HeaderSpan], host: &[u8]) -> Heading {
     let at = text_in(input, fields, b"x-at");
     let nonce = text_in(input, fields, b"x-nonce");
@@ -263,7 +263,7 @@ fn heading_in(input: &[u8], fields: &[HeaderSpan], host: &[u8]) -> Heading {
     }
 }
 
-/// What the head of a post says that asks for the secret.
+/// Reads the head of a post that asks for the secret.
 fn claim_in(input: &[u8], fields: &[HeaderSpan], host: &[u8]) -> Claim {
     Claim {
         is_from_here: is_own_page(input, fields, host),
@@ -271,7 +271,7 @@ fn claim_in(input: &[u8], fields: &[HeaderSpan], host: &[u8]) -> Claim {
     }
 }
 
-/// What a head wishes of a station's page at this address.
+/// Returns what a request to a station's page at this address asks to have done.
 pub fn wish_in(
     station: Station,
     input: &[u8],

@@ -1,4 +1,4 @@
-//! All who look at a page.
+//! All viewers of a page.
 
 ghost use Rattle.std.specs.Prelude.{◌≡◌, ◌⊎◌};
 ghost use Rattle.viewers.specs.Places.{HasNoSigned, KeepsSigned, KeepsUnsigned};
@@ -25,16 +25,16 @@ use std::net::{Net, SocketAddr};
 use std::os::fd::{AsRawFd, RawFd};
 use std::time::Duration;
 
-/// How many are let in at once at most.
+/// The largest number of viewers let in at once.
 const MOST_GUESTS: usize = 256;
 
-/// How many events are taken of the machine at once.
+/// The largest number of events taken from the operating system at once.
 const MOST_EVENTS: usize = 64;
 
-/// What names the listener among what is waited for.
+/// The listener's token among those of the poll.
 const LISTENER: Token = Token(usize::MAX);
 
-/// At which of the machine's addresses somebody came, where the page is at all of them.
+/// Returns the address that somebody connected to: the connection's own if the page listens at all addresses.
 fn came_at(stream: &TcpStream, at: SocketAddr) -> SocketAddr {
     if !at.ip().is_unspecified() {
         return at;
@@ -45,7 +45,7 @@ fn came_at(stream: &TcpStream, at: SocketAddr) -> SocketAddr {
     }
 }
 
-/// Who looks at a page, and where others come in.
+/// The viewers of a page, and its listener.
 #[derive(Drop)]
 struct Crowd {
     alloc: Global,
@@ -54,16 +54,16 @@ struct Crowd {
     events: Events<Global>,
     listener: TcpListener,
     places: Places<TcpStream>,
-    /// Whether somebody may wait to come in.
+    /// Whether somebody may be waiting to connect.
     has_guests: bool,
-    /// When they last heard that the board is there.
+    /// When the last beat was sent to them.
     beat: u64,
-    /// When they were told last what is shown.
+    /// When they were last told what is shown.
     told: u64,
 }
 
 impl Crowd {
-    /// At this address.
+    /// Listens at this address.
     fn new(net: &impl Net, alloc: Global, at: SocketAddr, station: Station) -> io::Result<Crowd> {
         let mut listener = listener_at(net, at)?;
         let poll = Poll::new(net)?;
@@ -82,7 +82,7 @@ impl Crowd {
         })
     }
 
-    /// Lets somebody in at this place.
+    /// Gives somebody this place.
     fn seat(&mut self, place: usize, stream: TcpStream, from: u64, now: u64) -> io::Result<()>
         ensures { KeepsSigned self.old.places.viewers.items self.new.places.viewers.items }
     {
@@ -102,7 +102,7 @@ impl Crowd {
         Ok(())
     }
 
-    /// Lets in the next who waits. Whoever that is, no signed viewer loses their place to them.
+    /// Lets in the next who waits. No signed viewer loses its place to that newcomer.
     fn admit(&mut self, now: u64) -> io::Result<()>
         ensures { KeepsSigned self.old.places.viewers.items self.new.places.viewers.items }
     {
@@ -114,7 +114,7 @@ impl Crowd {
         }
     }
 
-    /// Lets in those who wait, until none is left or a call fails: then it is tried again in the next turn.
+    /// Lets in those who wait, until nobody is left or a call fails; a failed call is repeated in the next turn.
     fn admit_all(&mut self, now: u64)
         ensures { KeepsSigned self.old.places.viewers.items self.new.places.viewers.items }
     {
@@ -129,7 +129,7 @@ impl Crowd {
         }
     }
 
-    /// Notes who may have something to read, or may take more.
+    /// Notes which viewers may have something to read, or may take more.
     fn note(&mut self) {
         for event in self.events.iter() {
             let Token(at) = event.token();
@@ -141,7 +141,7 @@ impl Crowd {
         }
     }
 
-    /// Takes what the machine tells, so that no wait ends for it again.
+    /// Takes the events of the operating system, so that no wait ends for them again.
     fn look(&mut self) {
         let wait = Some(Duration::from_millis(0));
         if self.poll.poll(&mut self.events, wait).is_ok() {
@@ -149,7 +149,7 @@ impl Crowd {
         }
     }
 
-    /// Does what can be done at once. Where nobody called, the machine isn't asked who did.
+    /// Does what can be done at once. Unless a wait ended for this page, the operating system isn't asked for events.
     fn pump(&mut self, shown: &PageTexts, inbox: &mut Option<Inbox>, is_called: bool, now: u64) {
         if is_called {
             self.look();
@@ -162,7 +162,7 @@ impl Crowd {
         }
     }
 
-    /// Whether it is time for a beat.
+    /// Whether a beat is due; if so, notes that it is sent now.
     fn take_beat(&mut self, now: u64) -> bool {
         let is_due = now.saturating_sub(self.beat) >= VIEWER_BEAT;
         if is_due {
@@ -171,14 +171,14 @@ impl Crowd {
         is_due
     }
 
-    /// Tells all what is shown, or that the board is there.
+    /// Tells all what is shown, or sends them a beat.
     fn tell(&mut self, shown: &PageTexts, now: u64) {
         let is_beat = self.take_beat(now);
         self.places.tell(self.alloc, shown, is_beat, now);
         self.told = now;
     }
 
-    /// For how many milliseconds they may be left alone since then.
+    /// Returns for how many milliseconds the viewers need nothing, since they were last told what is shown.
     fn longest_wait(&self) -> u64 {
         if self.places.has_more() {
             return 0;
@@ -190,20 +190,20 @@ impl Crowd {
     }
 }
 
-/// A page at an address, with all who look at it. What they send changes nothing of what is shown. Of a desk's page it may be
+/// A page at an address, with all its viewers. Nothing that they send changes what is shown; at a desk's page they may send
 /// lines for the desk.
 #[derive(Drop)]
 pub struct Viewers {
     alloc: Global,
     crowd: Crowd,
     shown: PageTexts,
-    /// Of a desk what it tells its scorer alone.
+    /// What a desk tells only its scorer.
     own: Own,
     inbox: Option<Inbox>,
 }
 
 impl Viewers {
-    /// A page at this address, of which nothing is shown yet.
+    /// Opens a page at this address, which shows nothing yet.
     pub fn new(
         net: &impl Net,
         alloc: Global,
@@ -220,7 +220,7 @@ impl Viewers {
         })
     }
 
-    /// These lines are shown from here on.
+    /// Shows these lines from now on.
     pub fn put_lines(&mut self, lines: Vec<u8>)
         ensures lines { self.new.shown.lines ≡ lines }
         ensures state { self.new.shown.state ≡ self.old.shown.state }
@@ -228,7 +228,7 @@ impl Viewers {
         self.shown.put_lines(lines);
     }
 
-    /// This state is shown from here on.
+    /// Shows this state from now on.
     pub fn put_state(&mut self, state: Vec<u8>)
         ensures state { self.new.shown.state ≡ state }
         ensures lines { self.new.shown.lines ≡ self.old.shown.lines }
@@ -237,7 +237,7 @@ impl Viewers {
         self.shown.put_state(state);
     }
 
-    /// This is what stands in a desk's book from here on, and its scorer alone is told the digest of that.
+    /// Shows these items of a desk's book from now on, and tells only its scorer their digest.
     pub fn put_book(&mut self, book: Vec<u8>)
         ensures shown { ShowsBook book.items self.old.shown self.new.shown }
         ensures digest { self.new.own.digest ≡ sha256 book.items }
@@ -246,7 +246,7 @@ impl Viewers {
         self.shown.put_book(book);
     }
 
-    /// This is the whole state of a desk from here on: its scorer alone reads it.
+    /// Sets the whole state of a desk from now on: only its scorer reads it.
     pub fn put_own_state(&mut self, state: Vec<u8>)
         ensures state { self.new.own.state ≡ state }
         ensures shown { self.new.shown ≡ self.old.shown }
@@ -254,7 +254,7 @@ impl Viewers {
         self.own.put_state(state);
     }
 
-    /// These are the newest rows of a desk: its scorer alone reads them.
+    /// Sets the newest rows of a desk: only its scorer reads them.
     pub fn put_own_rows(&mut self, rows: Vec<u8>)
         ensures rows { self.new.own.rows ≡ rows }
         ensures shown { self.new.shown ≡ self.old.shown }
@@ -262,7 +262,7 @@ impl Viewers {
         self.own.put_rows(rows);
     }
 
-    /// Hides what is new of a desk for its scorer alone, once for all who are signed. All others are served what they were.
+    /// Encrypts what is new at a desk for its scorer, once for all signed viewers. Nothing changes for the others.
     pub fn veil(&mut self)
         ensures openly { SameOpenly self.old.shown self.new.shown }
         ensures veiled { (self.new.shown.veiled ≡ self.old.shown.veiled)
@@ -279,13 +279,13 @@ impl Viewers {
         }
     }
 
-    /// What ends a wait where somebody comes, asks, or may take more.
+    /// Returns the descriptor that ends a wait when somebody connects, asks, or may take more.
     pub fn descriptor(&self) -> RawFd {
         self.crowd.poll.as_raw_fd()
     }
 
-    /// Lets in who waits, answers who asks, and lets go who has gone or had time enough, as far as that goes at once. Where a wait
-    /// for the descriptor didn't end for it, nobody has called.
+    /// Lets in those who wait, answers those who ask, and drops those who have left or whose time is over, as far as that goes
+    /// at once. Unless a wait ended for the descriptor, nobody has called.
     pub fn pump(&mut self, is_called: bool, now: u64)
         ensures { self.new.shown ≡ self.old.shown }
     {
@@ -293,20 +293,20 @@ impl Viewers {
             .pump(&self.shown, &mut self.inbox, is_called, now);
     }
 
-    /// For how many milliseconds they may be left alone since they were told what is shown: none where more can be done at once, and
-    /// otherwise until the next beat, where there is somebody who hears it.
+    /// Returns for how many milliseconds the viewers need nothing, since they were last told what is shown: 0 if more can be
+    /// done at once, and otherwise until the next beat, if anyone watches.
     pub fn longest_wait(&self) -> u64 {
         self.crowd.longest_wait()
     }
 
-    /// Tells all who asked for it what is shown, where they weren't told it, or each two seconds that the station is there.
+    /// Tells those who watch what is shown, if it is new to them, and every two seconds that the station is there.
     pub fn tell(&mut self, now: u64)
         ensures { self.new.shown ≡ self.old.shown }
     {
         self.crowd.tell(&self.shown, now);
     }
 
-    /// A square with this ticket in its link is shown now.
+    /// Shows a square with this ticket in its link from now on.
     pub fn show(&mut self, ticket: [u8; 16], now: u64)
         ensures { self.new.shown ≡ self.old.shown }
     {
@@ -315,7 +315,7 @@ impl Viewers {
         }
     }
 
-    /// The page has this secret from here on. Who is signed is let go.
+    /// Changes the page's secret. Signed viewers are dropped.
     pub fn renew(&mut self, secret: [u8; 16])
         ensures shown { self.new.shown ≡ self.old.shown }
         ensures gone { HasNoSigned self.new.crowd.places.viewers.items }
@@ -328,12 +328,12 @@ impl Viewers {
         self.crowd.places.let_signed_go();
     }
 
-    /// How many are told what is shown.
+    /// Returns how many viewers watch.
     pub fn watching(&self) -> usize {
         self.crowd.places.watching()
     }
 
-    /// The desk is at this position from here on. Lines that were posted for another one are dropped: it tells how many.
+    /// Sets the desk's position. Drops the lines posted for another one, and returns how many.
     pub fn stand(&mut self, at: Position) -> usize
         ensures { self.new.shown ≡ self.old.shown }
     {
@@ -343,7 +343,7 @@ impl Viewers {
         }
     }
 
-    /// Takes the oldest line that was posted, if there is one.
+    /// Takes the oldest posted line, if there is one.
     pub fn next_line(&mut self) -> Option<PostedLine>
         ensures { self.new.shown ≡ self.old.shown }
     {

@@ -1,8 +1,8 @@
-//! Who comes to a station's page, and what a viewer is at.
+//! Who connects to a station's page, and what a viewer is doing.
 
 use std::net::SocketAddr;
 
-/// What a viewer is at, as far as others who ask for a place are concerned.
+/// What a viewer is doing, as far as it matters to others who need a place.
 #[derive(Clone, Copy)]
 pub enum Stay {
     /// It hasn't asked for anything yet.
@@ -13,13 +13,13 @@ pub enum Stay {
     Watching,
 }
 
-/// Who comes.
+/// Somebody who connects.
 #[derive(Clone, Copy)]
 pub struct Guest {
-    /// At which address.
+    /// The address that was connected to.
     pub at: SocketAddr,
-    /// From which network.
+    /// The network that the connection comes from.
     pub from: u64,
-    /// Whether no place was free.
+    /// Whether no seat was free.
     pub is_behind: bool,
 }

@@ -1,12 +1,12 @@
-//! Which host a request has to name.
+//! Which host a request must name.
 
 use std::net::{IpAddr, SocketAddr};
 use std::str;
 
-/// The port that a link without one means.
+/// The port of a link that names none.
 const PORT: u16 = 80;
 
-/// Whether the port at the end of these letters has no needless zero.
+/// Whether the port at the end of a host has no leading zero.
 fn has_plain_port(text: &str) -> bool {
     match text.rsplit_once(':') {
         Some((_, port)) => !port.starts_with('0'),
@@ -14,7 +14,7 @@ fn has_plain_port(text: &str) -> bool {
     }
 }
 
-/// Whether these letters are this address, with its port, or without it where that is the one that a link means.
+/// Whether a host is this address with its port, or without it if it is the port of a link that names none.
 fn is_address(text: &str, at: SocketAddr) -> bool {
     if let Ok(found) = text.parse::<SocketAddr>() {
         return found == at && has_plain_port(text);
@@ -32,7 +32,7 @@ fn is_address(text: &str, at: SocketAddr) -> bool {
     }
 }
 
-/// Whether these letters are the name that every machine has for itself, with this port, or without it likewise.
+/// Whether a host is `localhost` with this port, or without it if it is the port of a link that names none.
 fn is_own_name(text: &str, at: SocketAddr) -> bool {
     let (name, port) = match text.split_once(':') {
         Some((name, port)) => (name, Some(port)),
@@ -47,8 +47,8 @@ fn is_own_name(text: &str, at: SocketAddr) -> bool {
     }
 }
 
-/// Whether a request that names this host is for the address at which it came. A page that was loaded elsewhere can't reach
-/// this one under a name of its own: the host is the address in numbers, or `localhost` where no other machine reaches it.
+/// Whether the host of a request is the address that it came to: the address in numbers, or `localhost` if no other machine can
+/// reach it. So a page loaded elsewhere can't reach this one under a host name of its own.
 pub fn is_named(host: &[u8], at: SocketAddr) -> bool {
     let Ok(text) = str::from_utf8(host) else {
         return false;

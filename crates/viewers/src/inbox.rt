@@ -1,4 +1,4 @@
-//! The lines that are posted to a desk.
+//! The lines posted to a desk.
 
 ghost use Rattle.std.specs.Prelude.{◌≡◌, ◌≢◌, ◌<◌, ◌∷◌, ◌+◌, [], IfSome, MatchResult, None, Some, if◌then◌else◌, length};
 ghost use Rattle.posts.specs.Posts as posts;
@@ -14,17 +14,17 @@ use arrayvec::ArrayVec;
 use posts::{Pass, Post, PostedLine, Posts, Refusal};
 use std::alloc::Global;
 
-/// The lines that were posted to a desk and that it hasn't taken yet, and who may post.
+/// The posted lines that a desk hasn't taken yet, and who may post.
 #[derive(Drop)]
 pub struct Inbox {
     posts: Posts,
     at: Position,
-    /// Each of these is some line.
+    /// Waiting lines: each is `Some`.
     lines: ArrayVec<Option<PostedLine>, 8>,
 }
 
 impl Inbox {
-    /// Of a desk whose page has this secret. Nothing is posted yet.
+    /// Begins for a desk whose page has this secret, with no line posted.
     pub fn new(secret: [u8; 16]) -> Inbox
         ensures { result.lines.items ≡ [] }
     {
@@ -35,7 +35,7 @@ impl Inbox {
         }
     }
 
-    /// The desk is at this position from here on. Lines that were meant for another one are dropped: it tells how many.
+    /// Sets the desk's position. Drops the lines meant for another one, and returns how many.
     pub fn stand(&mut self, at: Position) -> usize
         ensures at { self.new.at ≡ at }
         ensures posts { self.new.posts ≡ self.old.posts }
@@ -67,7 +67,7 @@ impl Inbox {
         self.lines.remove(0)
     }
 
-    /// Gives a nonce, if there is one.
+    /// Gives out a nonce, if there is one left.
     fn give(&mut self) -> Ask
         ensures lines { self.new.lines ≡ self.old.lines }
     {
@@ -77,7 +77,7 @@ impl Inbox {
         }
     }
 
-    /// Whether a pass is good. It types nothing.
+    /// Whether a pass is good. A pass types nothing.
     fn look_at(&mut self, pass: &Pass) -> bool
         ensures is_good { result ≡ posts.is_good_pass self.old.posts.secret self.old.posts.out pass.now }
         ensures out { self.new.posts.out ≡ posts.out_after_pass self.old.posts.secret self.old.posts.out pass.now }
@@ -86,7 +86,7 @@ impl Inbox {
         self.posts.look_at(pass)
     }
 
-    /// A square with this ticket in its link is shown now.
+    /// Shows a square with this ticket in its link from now on.
     pub fn show(&mut self, ticket: [u8; 16], now: u64)
         ensures ticket { self.new.posts.ticket ≡ Some (record { key = ticket; since = now }) }
         ensures secret { self.new.posts.secret ≡ self.old.posts.secret }
@@ -95,7 +95,7 @@ impl Inbox {
         self.posts.show(ticket, now);
     }
 
-    /// The page has this secret from here on.
+    /// Changes the page's secret.
     pub fn renew(&mut self, secret: [u8; 16])
         ensures secret { self.new.posts.secret ≡ secret }
         ensures ticket { self.new.posts.ticket ≡ None }
@@ -104,7 +104,7 @@ impl Inbox {
         self.posts.renew(secret);
     }
 
-    /// Hides what a desk tells its scorer alone, under the next number.
+    /// Encrypts what a desk tells only its scorer, under the next number.
     pub fn veil(&mut self, alloc: Global, own: &Own) -> Option<Veiled>
         ensures veiled { IfSome result (IsVeiled (Some self.old) own.now) }
         ensures secret { self.new.posts.secret ≡ self.old.posts.secret }
@@ -120,7 +120,7 @@ impl Inbox {
         })
     }
 
-    /// What is handed out for a tag.
+    /// Hands out the encrypted secret for a ticket's tag.
     fn hand_out(&mut self, tag: &[u8; 32], now: u64) -> Option<[u8; 16]>
         ensures handed { result ≡ tickets.handed self.old.posts.secret self.old.posts.ticket tag.now now }
         ensures ticket { self.new.posts.ticket ≡ tickets.ticket_after self.old.posts.ticket tag.now now }
@@ -129,7 +129,7 @@ impl Inbox {
         self.posts.hand_out(tag, now)
     }
 
-    /// What a post comes to: its line waits from here on, or why not.
+    /// Judges a post: its line waits from now on, or the refusal is returned.
     fn posted(&mut self, post: &Post<'_>) -> Option<Refusal>
         ensures comes_to { MatchResult (posts.verdict self.old.posts.secret self.old.posts.out post.now self.old.at (length self.old.lines.items))
             (λ line. (result ≡ None) × Adds self.old.posts.secret self.old.at line self.old.lines.items self.new.lines.items)
@@ -146,7 +146,7 @@ impl Inbox {
     }
 }
 
-/// Gives a nonce for a post at a desk.
+/// Gives out a nonce for a post to a desk.
 pub fn give(inbox: &mut Option<Inbox>) -> Ask {
     match inbox {
         Some(inbox) => inbox.give(),
@@ -154,7 +154,7 @@ pub fn give(inbox: &mut Option<Inbox>) -> Ask {
     }
 }
 
-/// Takes a post with this hidden line, and answers what it came to: it is typed where its line waits from here on.
+/// Takes a post with this encrypted line, and returns the answer: `Typed` if its line waits from now on.
 pub fn take(inbox: &mut Option<Inbox>, heading: Heading, hidden: &[u8]) -> Ask
     ensures typed { result ≡ Ask.Typed → TypesOne inbox.old inbox.new }
     ensures other { result ≢ Ask.Typed → TypesNone inbox.old inbox.new }
@@ -173,7 +173,7 @@ pub fn take(inbox: &mut Option<Inbox>, heading: Heading, hidden: &[u8]) -> Ask
     }
 }
 
-/// Whether a pass is good at a desk.
+/// Whether a pass to a desk's page is good.
 pub fn is_passed(inbox: &mut Option<Inbox>, pass: &Pass) -> bool {
     match inbox {
         Some(inbox) => inbox.look_at(pass),
@@ -181,7 +181,7 @@ pub fn is_passed(inbox: &mut Option<Inbox>, pass: &Pass) -> bool {
     }
 }
 
-/// Answers who asks for the secret: it is hidden by the ticket of the newest square, which is good once.
+/// Answers a request for the secret: encrypted by the ticket of the newest square, which is good once.
 pub fn hand_out(inbox: &mut Option<Inbox>, claim: &Claim, now: u64) -> Ask {
     let Some(inbox) = inbox else {
         return Ask::Missing;

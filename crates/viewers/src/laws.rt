@@ -1,4 +1,4 @@
-//! What who hasn't the secret of a desk's page is served. This function does nothing: it stands for the law that it ensures.
+//! What a viewer without the secret of a desk's page is served. This function does nothing: it stands for the law it ensures.
 
 ghost use Rattle.std.specs.Prelude.{◌≡◌, Bool, false};
 ghost use Rattle.http1.specs.declared.server.Server.{Server};
@@ -6,7 +6,7 @@ ghost use Rattle.viewers.specs.Replies.{SameOpenly, answer_text, number_for, tol
 ghost use Rattle.viewers.specs.declared.asks.Ask.{Ask};
 ghost use Rattle.viewers.specs.declared.page_texts.PageTexts.{PageTexts};
 
-/// Whatever is hidden, each answer is the same, and so is what is told to who isn't signed, and when it is news.
+/// Whatever is encrypted, every answer is the same, and so is what an unsigned viewer is told, and when.
 pub fn what_others_are_served()
     ensures answers { (s : Server) (ask : Ask) (head : Bool) (one other : PageTexts)
         → SameOpenly one other → answer_text s ask head other ≡ answer_text s ask head one }

@@ -1,4 +1,4 @@
-//! A page that browsers see: what they ask for, and what they are sent of the newest texts that were handed over.
+//! The page of a station: what browsers ask for, and what they are sent of the newest texts.
 #![tactic(auto)]
 
 mod asks;

@@ -1,4 +1,4 @@
-//! A listener whose viewers take little of the machine's memory.
+//! A listener whose viewers take little memory of the operating system.
 
 use libc::net::{SO_SNDBUF, SOL_SOCKET, setsockopt};
 use mio::net::{TcpListener, UdpSocket};
@@ -6,24 +6,24 @@ use std::io;
 use std::net::{IpAddr, Ipv4Addr, Net, SocketAddr};
 use std::os::fd::{AsRawFd, RawFd};
 
-/// How many bytes the machine is to hold at most for a viewer that takes none. It takes twice as many.
+/// How many bytes the operating system should buffer for a viewer that takes none; it allocates twice as many.
 const HELD: i32 = 65_536;
 
-/// Has the machine hold no more than that for each connection of a listener. Where it doesn't, that is no fault.
+/// Limits the send buffer of each connection of a listener to `HELD`. It is no fault if that fails.
 fn limit_held(listener: RawFd) {
     let mut value = [0u8; 16];
     value[..4].copy_from_slice(&HELD.to_ne_bytes());
     let _ = unsafe { setsockopt(listener, SOL_SOCKET, SO_SNDBUF, &value, 4) };
 }
 
-/// A listener at this address.
+/// Listens at this address.
 pub fn listener_at(net: &impl Net, at: SocketAddr) -> io::Result<TcpListener> {
     let listener = TcpListener::bind(net, at)?;
     limit_held(listener.as_raw_fd());
     Ok(listener)
 }
 
-/// The address by which the machine reaches others, if it has one. Nothing is sent for it.
+/// Returns the address by which the machine reaches others, if it has one. Nothing is sent to find it.
 fn own_address(net: &impl Net) -> Option<IpAddr> {
     let any = IpAddr::V4(Ipv4Addr::new(0, 0, 0, 0));
     let elsewhere = IpAddr::V4(Ipv4Addr::new(192, 0, 2, 1));
@@ -32,8 +32,8 @@ fn own_address(net: &impl Net) -> Option<IpAddr> {
     Some(socket.local_addr().ok()?.ip())
 }
 
-/// The address by which others reach a page: its own, or where it is at all of the machine's that by which the machine reaches
-/// others.
+/// Returns the address at which others reach a page: its own, or, if it listens at all addresses, the one by which the machine
+/// reaches others.
 pub fn reached_at(net: &impl Net, at: SocketAddr) -> SocketAddr {
     if !at.ip().is_unspecified() {
         return at;

@@ -1,5 +1,5 @@
-//! What was said to a viewer, and what a stream has taken. Clauses alone read both: they take no memory, and have no last
-//! value.
+//! What a viewer was told, and what a stream has taken. Only clauses read both: they take no memory at run time, and have no
+//! last value.
 
 ghost use Rattle.std.specs.Prelude.{◌≡◌, ◌++◌, drop, take};
 
@@ -8,7 +8,7 @@ use crate::page_texts::PageTexts;
 use http1::Server;
 use std::snapshot::Snapshot;
 
-/// All that was said to a viewer, in order: the answer to what it asked for, then states and beats.
+/// All that a viewer was told, in order: the answer to its request, then states and beats.
 #[derive(Drop)]
 pub enum SaidLog {
     Empty,
@@ -21,7 +21,7 @@ impl SaidLog {
     ghost use Rattle.viewers.specs.Replies.{reply_text, told_text, beat_text};
     ghost use Rattle.viewers.specs.Said.{said_in};
 
-    /// This, and then the answer to what was asked for.
+    /// Adds the answer to a request.
     pub fn answered(&self, server: &Server, asked: &Asked, shown: &PageTexts) -> SaidLog
         ensures { said_in result ≡ said_in self.now ++ reply_text server.now asked.now shown.now }
     {
@@ -33,7 +33,7 @@ impl SaidLog {
         )
     }
 
-    /// This, and then a state, to who is signed or isn't.
+    /// Adds a state, told to a signed or an unsigned viewer.
     pub fn told(&self, server: &Server, is_signed: bool, shown: &PageTexts) -> SaidLog
         ensures { said_in result ≡ said_in self.now ++ told_text server.now is_signed shown.now }
     {
@@ -45,7 +45,7 @@ impl SaidLog {
         )
     }
 
-    /// This, and then that the board is there.
+    /// Adds a beat.
     pub fn beat(&self, server: &Server) -> SaidLog
         ensures { said_in result ≡ said_in self.now ++ beat_text server.now }
     {
@@ -53,7 +53,7 @@ impl SaidLog {
     }
 }
 
-/// The bytes that a stream has taken, in order. Each time it is so many of these, from one on.
+/// The bytes that a stream has taken, in order: each time a number of bytes of a buffer, from an index on.
 #[derive(Drop)]
 pub enum TakenLog {
     Empty,
@@ -63,7 +63,7 @@ pub enum TakenLog {
 impl TakenLog {
     ghost use Rattle.viewers.specs.Said.{bytes_in};
 
-    /// These, and then so many more.
+    /// Adds this many bytes, from an index on.
     pub fn more(&self, bytes: &Vec<u8>, from: usize, count: usize) -> TakenLog
         ensures { bytes_in result ≡ bytes_in self.now ++ take count (drop from bytes.now.items) }
     {

@@ -1,4 +1,4 @@
-//! What a desk tells its scorer alone.
+//! What a desk tells only its scorer.
 
 ghost use Rattle.std.specs.Prelude.{◌≡◌, ◌++◌, IfOk, codes, true};
 ghost use Rattle.hex.specs.Hex.{encode_lower};
@@ -9,28 +9,28 @@ use hex::encode;
 use sha2::{Digest, Sha256};
 use std::alloc::{AllocError, Global};
 
-/// What a desk tells its scorer alone: its whole state, the SHA-256 of what all read of its book, by which a page sees that it read
-/// the desk's, and the newest rows.
+/// What a desk tells only its scorer: its whole state, the SHA-256 of the book's text that all may read, by which a page sees
+/// that it has the desk's book, and the newest rows.
 #[derive(Drop)]
 pub struct Own {
     pub state: Vec<u8>,
     pub digest: [u8; 32],
     pub rows: Vec<u8>,
-    /// Whether there is something new, or another secret.
+    /// Whether something is new, or the secret has changed.
     pub is_new: bool,
 }
 
-/// The same, hidden by the secret of the desk's page.
+/// The text of `Own`, encrypted by the secret of the desk's page.
 #[derive(Drop)]
 pub struct Veiled {
-    /// Under which number.
+    /// Its number.
     pub number: u64,
-    /// In hex digits, one line.
+    /// The encrypted bytes in hex digits, as one line.
     pub text: Vec<u8>,
 }
 
 impl Own {
-    /// Nothing yet.
+    /// Begins with nothing told.
     pub fn new(alloc: Global) -> Own {
         Own {
             state: Vec::new(alloc),
@@ -40,7 +40,7 @@ impl Own {
         }
     }
 
-    /// This state is told from here on.
+    /// Sets the state.
     pub fn put_state(&mut self, state: Vec<u8>)
         ensures state { self.new.state ≡ state }
         ensures digest { self.new.digest ≡ self.old.digest }
@@ -51,7 +51,7 @@ impl Own {
         self.is_new = true;
     }
 
-    /// This is what all read of the book from here on.
+    /// Sets the digest to that of the book's text.
     pub fn put_book(&mut self, book: &[u8])
         ensures state { self.new.state ≡ self.old.state }
         ensures digest { self.new.digest ≡ sha256 book.now }
@@ -62,7 +62,7 @@ impl Own {
         self.is_new = true;
     }
 
-    /// These rows are told from here on.
+    /// Sets the rows.
     pub fn put_rows(&mut self, rows: Vec<u8>)
         ensures rows { self.new.rows ≡ rows }
         ensures state { self.new.state ≡ self.old.state }
@@ -73,7 +73,7 @@ impl Own {
         self.is_new = true;
     }
 
-    /// All of it: a line of each.
+    /// Returns the whole text: one line each for the state, the digest and the rows.
     pub fn text(&self, alloc: Global) -> Result<Vec<u8>, AllocError>
         ensures { IfOk result (λ text. text.items ≡ told_alone self.now) }
     {
@@ -86,7 +86,7 @@ impl Own {
     }
 }
 
-/// Bytes in hex digits, as a text of one line.
+/// Returns bytes in hex digits, as one line.
 pub fn hex_line(alloc: Global, bytes: &[u8]) -> Result<Vec<u8>, AllocError>
     ensures { IfOk result (λ line. line.items ≡ encode_lower bytes.now ++ codes "\n") }
 {

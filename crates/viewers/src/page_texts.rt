@@ -7,24 +7,24 @@ use crate::own::Veiled;
 use crate::station::Station;
 use std::alloc::Global;
 
-/// The newest texts that were handed over, and the page of which they are.
+/// The newest texts of a station, and the kind of its page.
 #[derive(Drop)]
 pub struct PageTexts {
     pub station: Station,
     /// A board's six lines.
     pub lines: Vec<u8>,
-    /// The state as JSON, one line: of a desk without what its scorer wrote.
+    /// The state as JSON, one line; a desk's is without what its scorer wrote.
     pub state: Vec<u8>,
-    /// What stands in a desk's book as JSON, one line.
+    /// The items of a desk's book as JSON, one line.
     pub book: Vec<u8>,
-    /// How often the state was another one.
+    /// How often the state has changed.
     pub number: u64,
-    /// What only who has the secret of a desk's page reads.
+    /// What only the holder of a desk's page secret reads.
     pub veiled: Veiled,
 }
 
 impl PageTexts {
-    /// Nothing yet.
+    /// Begins with no texts.
     pub fn new(alloc: Global, station: Station) -> PageTexts
         ensures { result.station ≡ station }
     {
@@ -41,7 +41,7 @@ impl PageTexts {
         }
     }
 
-    /// These lines are shown from here on.
+    /// Shows these lines from now on.
     pub fn put_lines(&mut self, lines: Vec<u8>)
         ensures lines { self.new.lines ≡ lines }
         ensures state { self.new.state ≡ self.old.state }
@@ -52,7 +52,7 @@ impl PageTexts {
         self.lines = lines;
     }
 
-    /// This state is shown from here on. It is news where it is another one.
+    /// Shows this state from now on. Its number grows by one if the state has changed.
     pub fn put_state(&mut self, state: Vec<u8>)
         ensures state { self.new.state ≡ state }
         ensures lines { self.new.lines ≡ self.old.lines }
@@ -65,14 +65,14 @@ impl PageTexts {
         self.state = state;
     }
 
-    /// This is what stands in the book from here on.
+    /// Shows these items of the book from now on.
     pub fn put_book(&mut self, book: Vec<u8>)
         ensures { ShowsBook book.items self.old self.new }
     {
         self.book = book;
     }
 
-    /// This is what only who has the secret reads from here on.
+    /// Shows this to the holders of the secret from now on.
     pub fn put_veiled(&mut self, veiled: Veiled)
         ensures veiled { self.new.veiled ≡ veiled }
         ensures openly { SameOpenly self.old self.new }

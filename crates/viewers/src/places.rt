@@ -1,4 +1,4 @@
-//! The places at a page: who has one, and whose is given to whom.
+//! The places of a page: who has one, and who loses one to whom.
 
 ghost use Rattle.std.specs.Prelude.{◌≡◌, [], None, false, get_or};
 ghost use Rattle.viewers.specs.Places.{HasNoSigned, KeepsAll, KeepsOthers, KeepsSigned, KeepsUnsigned, is_signed};
@@ -12,32 +12,32 @@ use crate::viewer::Viewer;
 use std::alloc::{AllocError, Global};
 use std::net::IpAddr;
 
-/// How many seats there are.
+/// The number of seats.
 const SEATS: usize = 256;
 
-/// How many places there are in all. Who finds no seat has one of those behind the seats until they are told so.
+/// The number of all places. Whoever finds no seat has a place behind the seats until told so.
 const PLACES: usize = 272;
 
-/// How many of the seats one network has at most, where others ask for some.
+/// The largest number of seats that one network keeps while others need some.
 const QUARTER: usize = 64;
 
-/// How many places are safe at most: of who has the secret the one who came first loses theirs to the next.
+/// The largest number of signed viewers: of more, the one who came first loses its place.
 const MOST_SIGNED: usize = 8;
 
-/// How long who has asked for nothing yet, or was answered, keeps a seat for which others ask, in milliseconds.
+/// How long a viewer that hasn't asked yet, or was answered, keeps a seat which others need, in milliseconds.
 const GRACE: u64 = 2_000;
 
-/// Who asks for a place.
+/// Somebody who needs a place.
 #[derive(Clone, Copy)]
 struct Newcomer {
     from: u64,
-    /// Whether their network has a quarter of the seats.
+    /// Whether its network already has a quarter of the seats.
     is_many: bool,
     now: u64,
 }
 
-/// Who comes before whom in losing a place: first who hasn't asked for anything, then who was answered, then who watches; of
-/// these who came first.
+/// Decides who loses a place first: viewers that haven't asked yet, then those that were answered, then those that watch; among
+/// equals the one who came first.
 #[derive(Clone, Copy)]
 struct Turn {
     place: usize,
@@ -45,7 +45,7 @@ struct Turn {
     came: u64,
 }
 
-/// The network of an address: four bytes, or of longer ones the first eight.
+/// Returns the network of an address: all four bytes of IPv4, or the first eight of IPv6.
 pub fn network_of(address: IpAddr) -> u64 {
     match address.to_canonical() {
         IpAddr::V4(four) => u64::from(u32::from_be_bytes(four.octets())),
@@ -56,12 +56,12 @@ pub fn network_of(address: IpAddr) -> u64 {
     }
 }
 
-/// Whether a place is behind the seats: who has it is told that none is free.
+/// Whether a place is behind the seats: its viewer is told that none is free.
 pub fn is_behind(place: usize) -> bool {
     place >= SEATS
 }
 
-/// Where a stay stands in that order.
+/// Returns the rank of a stay in the order of losing a place.
 fn order_of(stay: Stay) -> u8 {
     match stay {
         Stay::Asking => 0,
@@ -70,7 +70,7 @@ fn order_of(stay: Stay) -> u8 {
     }
 }
 
-/// Whether one loses their place before another one, if there is one.
+/// Whether one viewer loses its place before the other, if there is another.
 fn is_before(one: Turn, other: Option<Turn>) -> bool {
     match other {
         None => true,
@@ -81,7 +81,7 @@ fn is_before(one: Turn, other: Option<Turn>) -> bool {
     }
 }
 
-/// All who are at a page, each at a place.
+/// All viewers of a page, each at a place.
 #[derive(Drop)]
 pub struct Places<S: Stream> {
     station: Station,
@@ -89,7 +89,7 @@ pub struct Places<S: Stream> {
 }
 
 impl<S: Stream + Drop> Places<S> {
-    /// Nobody yet.
+    /// Begins with nobody.
     pub fn new(alloc: Global, station: Station) -> Places<S>
         ensures { result.viewers.items ≡ [] }
     {
@@ -99,12 +99,12 @@ impl<S: Stream + Drop> Places<S> {
         }
     }
 
-    /// How many places were ever taken at once.
+    /// Returns how many places were ever taken at once.
     pub fn len(&self) -> usize {
         self.viewers.len()
     }
 
-    /// How many have come from a network.
+    /// Counts the viewers from a network.
     fn count_from(&self, from: u64) -> usize {
         let mut count: usize = 0;
         for slot in &self.viewers {
@@ -115,7 +115,7 @@ impl<S: Stream + Drop> Places<S> {
         count
     }
 
-    /// Whether who is there has had time enough, where others ask for a place. At a board who watches may stay.
+    /// Whether a viewer has had enough time when others need a place. Watching viewers of a board may stay.
     fn has_had_time(&self, viewer: &Viewer<S>, now: u64) -> bool {
         match viewer.stay() {
             Stay::Watching => matches!(self.station, Station::Desk),
@@ -123,7 +123,7 @@ impl<S: Stream + Drop> Places<S> {
         }
     }
 
-    /// Whether who is there gives way to a newcomer. Who is signed doesn't.
+    /// Whether a viewer gives way to a newcomer. A signed viewer doesn't.
     fn gives_way(&self, viewer: &Viewer<S>, newcomer: Newcomer) -> bool {
         if viewer.is_signed() {
             return false;
@@ -134,7 +134,7 @@ impl<S: Stream + Drop> Places<S> {
         self.has_had_time(viewer, newcomer.now) || self.count_from(viewer.from()) > QUARTER
     }
 
-    /// Who is at a place, and when their turn to lose it comes.
+    /// Returns the viewer at a place, and its turn to lose the place.
     fn turn_at(&self, place: usize) -> Option<(&Viewer<S>, Turn)> {
         match self.viewers.get(place) {
             Some(Some(viewer)) => {
@@ -149,7 +149,7 @@ impl<S: Stream + Drop> Places<S> {
         }
     }
 
-    /// The seat that is given to a newcomer where none is free.
+    /// Returns the seat that a newcomer gets when none is free.
     fn given_up(&self, newcomer: Newcomer) -> Option<usize> {
         let mut next: Option<Turn> = None;
         for place in 0..SEATS {
@@ -163,7 +163,7 @@ impl<S: Stream + Drop> Places<S> {
         next.map(|turn| turn.place)
     }
 
-    /// Of the places from one on, that of who came first and isn't signed.
+    /// Returns the place of the unsigned viewer who came first, among the places from `from` on.
     fn first_unsigned(&self, from: usize) -> Option<usize> {
         let mut next: Option<Turn> = None;
         for place in from..PLACES {
@@ -177,7 +177,7 @@ impl<S: Stream + Drop> Places<S> {
         next.map(|turn| turn.place)
     }
 
-    /// A place from one on and before an end that somebody had, and nobody has.
+    /// Returns a place from `from` to before `end` that is empty again.
     fn emptied(&self, from: usize, end: usize) -> Option<usize> {
         for place in from..end.min(self.viewers.len()) {
             if self.turn_at(place).is_none() {
@@ -187,7 +187,7 @@ impl<S: Stream + Drop> Places<S> {
         None
     }
 
-    /// A free place from one on and before an end, if there is one. It may be a new one.
+    /// Returns a free place from `from` to before `end`, if there is one; it may be a new one.
     fn free_place(&mut self, from: usize, end: usize) -> Result<Option<usize>, AllocError>
         ensures { KeepsAll self.old.viewers.items self.new.viewers.items }
     {
@@ -202,7 +202,7 @@ impl<S: Stream + Drop> Places<S> {
         Ok(Some(place))
     }
 
-    /// A place for who comes from a network now: a seat, or where none is free and nobody gives way one behind them.
+    /// Returns a place for somebody from a network: a seat, or if none is free and nobody gives way, a place behind the seats.
     pub fn place_for(&mut self, from: u64, now: u64) -> Result<Option<usize>, AllocError>
         ensures { KeepsAll self.old.viewers.items self.new.viewers.items }
     {
@@ -223,7 +223,7 @@ impl<S: Stream + Drop> Places<S> {
         }
     }
 
-    /// Gives a place to somebody, unless one who is signed has it.
+    /// Gives a place to a viewer, unless a signed viewer has it.
     pub fn give(&mut self, place: usize, viewer: Viewer<S>)
         ensures { KeepsSigned self.old.viewers.items self.new.viewers.items }
     {
@@ -235,7 +235,7 @@ impl<S: Stream + Drop> Places<S> {
         }
     }
 
-    /// Who is at a place may have something to read, or may take more.
+    /// Notes that the viewer at a place may have something to read, or may take more.
     pub fn wake(&mut self, place: usize)
         ensures { KeepsOthers place self.old.viewers.items self.new.viewers.items }
     {
@@ -244,7 +244,7 @@ impl<S: Stream + Drop> Places<S> {
         }
     }
 
-    /// Whether who is at a place is signed.
+    /// Whether the viewer at a place is signed.
     fn is_signed_at(&self, place: usize) -> bool
         ensures { result ≡ is_signed (get_or self.now.viewers.items place None) }
     {
@@ -254,7 +254,7 @@ impl<S: Stream + Drop> Places<S> {
         }
     }
 
-    /// Lets go who is at a place.
+    /// Drops the viewer at a place.
     fn let_go(&mut self, place: usize)
         ensures here { get_or self.new.viewers.items place None ≡ None }
         ensures others { KeepsOthers place self.old.viewers.items self.new.viewers.items }
@@ -264,7 +264,7 @@ impl<S: Stream + Drop> Places<S> {
         }
     }
 
-    /// Lets go who is at a place, where they are signed.
+    /// Drops the viewer at a place if it is signed.
     fn let_signed_go_at(&mut self, place: usize)
         ensures here { is_signed (get_or self.new.viewers.items place None) ≡ false }
         ensures others { KeepsOthers place self.old.viewers.items self.new.viewers.items }
@@ -275,7 +275,7 @@ impl<S: Stream + Drop> Places<S> {
         }
     }
 
-    /// Lets go all who are signed.
+    /// Drops all signed viewers.
     pub fn let_signed_go(&mut self)
         ensures gone { HasNoSigned self.new.viewers.items }
         ensures others { KeepsUnsigned self.old.viewers.items self.new.viewers.items }
@@ -285,7 +285,7 @@ impl<S: Stream + Drop> Places<S> {
         }
     }
 
-    /// Serves who is at a place, and lets them go if they have had time enough.
+    /// Serves the viewer at a place, and drops it if it has left or its time is over.
     fn serve_at(
         &mut self,
         place: usize,
@@ -307,7 +307,7 @@ impl<S: Stream + Drop> Places<S> {
         }
     }
 
-    /// Of those who are signed, but for one, who came first; and how many there are.
+    /// Returns the signed viewer who came first, other than the one at place `but`, and how many others are signed.
     fn first_signed(&self, but: usize) -> (Option<usize>, usize) {
         let mut next: Option<Turn> = None;
         let mut count: usize = 0;
@@ -325,7 +325,7 @@ impl<S: Stream + Drop> Places<S> {
         (next.map(|turn| turn.place), count)
     }
 
-    /// Has not too many places be safe, where who is at one place was signed just now: they stay.
+    /// Drops the signed viewer who came first if there are too many; the one at place `but`, which was just signed, stays.
     fn limit_signed(&mut self, but: usize)
         ensures { get_or self.new.viewers.items but None ≡ get_or self.old.viewers.items but None }
     {
@@ -338,7 +338,7 @@ impl<S: Stream + Drop> Places<S> {
         }
     }
 
-    /// Serves who is at a place. Unless they had a pass, nobody else is touched.
+    /// Serves the viewer at a place. Unless that viewer is signed, nobody else is touched.
     pub fn serve(
         &mut self,
         place: usize,
@@ -357,12 +357,12 @@ impl<S: Stream + Drop> Places<S> {
         }
     }
 
-    /// Whether more can be done at once for somebody.
+    /// Whether more can be done at once for any viewer.
     pub fn has_more(&self) -> bool {
         self.viewers.iter().any(|slot| slot.as_ref().is_some_and(|viewer| viewer.has_more()))
     }
 
-    /// How many are told each new state.
+    /// Returns how many viewers watch.
     pub fn watching(&self) -> usize {
         let mut count: usize = 0;
         for slot in &self.viewers {
@@ -373,7 +373,7 @@ impl<S: Stream + Drop> Places<S> {
         count
     }
 
-    /// Tells all what is shown, or that the station is there.
+    /// Tells each viewer what is shown, or that the station is there.
     pub fn tell(&mut self, alloc: Global, shown: &PageTexts, is_beat: bool, now: u64) {
         for slot in self.viewers.iter_mut() {
             if let Some(viewer) = slot {

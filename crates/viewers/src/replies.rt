@@ -1,4 +1,4 @@
-//! What a viewer is sent.
+//! The responses that a viewer is sent.
 
 ghost use Rattle.std.specs.Prelude.{◌≡◌, ◌<◌, ◌^◌, ◌++◌, [], IfOk, None, OnOk, codes, decimal, length};
 ghost use Rattle.hex.specs.Hex.{encode_lower};
@@ -24,10 +24,10 @@ const TEXT: &[u8] = b"text/plain; charset=utf-8";
 
 const STREAM: &[u8] = b"text/event-stream";
 
-/// What says that the board is there, where there is nothing new.
+/// The event which says that the board is there when nothing is new.
 const BEAT: &[u8] = b"event: beat\ndata: -\n\n";
 
-/// What may be done at a station's page.
+/// Returns the methods allowed at a station's page.
 fn allowed_at(station: Station) -> &'static [u8]
     ensures { result.now ≡ texts.allowed_at station }
 {
@@ -37,7 +37,7 @@ fn allowed_at(station: Station) -> &'static [u8]
     }
 }
 
-/// Behind an answer that nothing can be had for the present: in how many seconds to ask again. Else what may be done.
+/// Returns the field `Retry-After` in seconds for status 503, and otherwise the methods allowed.
 fn hint_of(station: Station, status: u16) -> Header<'static>
     ensures { (result.name.now, result.value.now) ≡ texts.hint_of station status }
 {
@@ -54,7 +54,7 @@ fn hint_of(station: Station, status: u16) -> Header<'static>
     }
 }
 
-/// The fields of a head of this status, with what kind of text follows it.
+/// Returns the header fields of a response with this status and content type.
 fn fields_of(station: Station, status: u16, kind: &[u8]) -> [Header<'_>; 7]
     ensures { pairs result ≡ texts.fields_of station status kind.now }
 {
@@ -87,7 +87,7 @@ fn fields_of(station: Station, status: u16, kind: &[u8]) -> [Header<'_>; 7]
     ]
 }
 
-/// What a head says: its status, what that means, and what kind of text follows it.
+/// The head of a response: its status and reason, and the type of the text that follows.
 #[derive(Clone, Copy)]
 struct Head<'a> {
     status: u16,
@@ -95,7 +95,7 @@ struct Head<'a> {
     kind: &'a [u8],
 }
 
-/// A head, in front of a text of this size.
+/// Returns a head, for a text of this size.
 fn front(
     alloc: Global,
     server: &mut Server,
@@ -115,7 +115,7 @@ fn front(
     Ok(out)
 }
 
-/// Adds a whole text to its head.
+/// Appends a whole text to its head.
 fn put_text(server: &mut Server, out: &mut Vec<u8>, text: &[u8]) -> Result<(), WriteError>
     ensures text { OnOk result (out.new.items ≡ out.old.items ++ data_text (writing server.old) text.now
         ++ finish_text (after_data (writing server.old) (length text.now)) []) }
@@ -128,14 +128,14 @@ fn put_text(server: &mut Server, out: &mut Vec<u8>, text: &[u8]) -> Result<(), W
     server.write_end(out, &[])
 }
 
-/// What is sent of a text: nothing of it, where the head alone is asked for.
+/// Returns the text that is sent: none if only the head is asked for.
 fn sent_of(text: &[u8], is_head: bool) -> &[u8]
     ensures { result.now ≡ texts.sent_of text.now is_head }
 {
     if is_head { &text[..0] } else { text }
 }
 
-/// A head, and a whole text behind it, or the head alone.
+/// Returns a head followed by a whole text, or only the head.
 fn whole(
     alloc: Global,
     server: &mut Server,
@@ -155,7 +155,7 @@ fn whole(
     Ok(out)
 }
 
-/// An answer of one line: its status, what that means, and the line.
+/// An answer of one line: its status and reason, and the line.
 #[derive(Clone, Copy)]
 struct ShortAnswer {
     status: u16,
@@ -170,7 +170,7 @@ const TYPED: ShortAnswer = ShortAnswer {
     line: b"typed\n",
 };
 
-/// The page has the secret that the desk has.
+/// The page still has the desk's secret.
 const SIGNED: ShortAnswer = ShortAnswer {
     status: 200,
     reason: b"OK",
@@ -184,7 +184,7 @@ const UNREADY: ShortAnswer = ShortAnswer {
     line: b"no score yet\n",
 };
 
-/// Others have all places.
+/// All seats are taken.
 const FULL: ShortAnswer = ShortAnswer {
     status: 503,
     reason: b"Full",
@@ -209,7 +209,7 @@ const FOREIGN: ShortAnswer = ShortAnswer {
     line: b"another host\n",
 };
 
-/// A short answer, as a whole text.
+/// Returns a short answer as a whole response.
 fn short_answer(
     alloc: Global,
     server: &mut Server,
@@ -228,7 +228,7 @@ fn short_answer(
     whole(alloc, server, station, head, short.line, is_head)
 }
 
-/// What can't be read is refused with this status.
+/// Refuses a request with this status.
 fn refused(
     alloc: Global,
     server: &mut Server,
@@ -247,7 +247,7 @@ fn refused(
     short_answer(alloc, server, station, refused, is_head)
 }
 
-/// The page.
+/// Returns the page.
 fn page(
     alloc: Global,
     server: &mut Server,
@@ -264,7 +264,7 @@ fn page(
     whole(alloc, server, station, head, page_of(station), is_head)
 }
 
-/// One of the texts that are shown.
+/// Returns one of the texts that are shown.
 fn shown_text(
     alloc: Global,
     server: &mut Server,
@@ -284,7 +284,7 @@ fn shown_text(
     whole(alloc, server, station, head, text, is_head)
 }
 
-/// A head alone, behind which states follow for as long as the viewer stays.
+/// Returns the head of a stream: states follow for as long as the viewer stays.
 fn stream(alloc: Global, server: &mut Server, station: Station) -> Result<Vec<u8>, WriteError>
     ensures { IfOk result (λ bytes. bytes.items ≡ texts.stream_text server.old station) }
 {
@@ -306,7 +306,7 @@ fn nonce_line(alloc: Global, nonce: u64) -> Result<Vec<u8>, AllocError>
     Ok(line)
 }
 
-/// A nonce, as a text of one line.
+/// Returns a nonce, as a text of one line.
 fn nonce_text(
     alloc: Global,
     server: &mut Server,
@@ -326,7 +326,7 @@ fn nonce_text(
     }
 }
 
-/// The text of a hidden secret: hex digits, and the end of a line.
+/// Returns an encrypted secret in hex digits, as one line.
 fn handed_line(hidden: &[u8; 16]) -> [u8; 33]
     ensures { result ≡ encode_lower hidden.now ++ codes "\n" }
 {
@@ -335,7 +335,7 @@ fn handed_line(hidden: &[u8; 16]) -> [u8; 33]
     text
 }
 
-/// A hidden secret, as a text of one line.
+/// Returns an encrypted secret, as a text of one line.
 fn handed_text(
     alloc: Global,
     server: &mut Server,
@@ -353,7 +353,7 @@ fn handed_text(
     whole(alloc, server, station, head, &line[..], false)
 }
 
-/// The answer to what was asked for, while this is shown.
+/// Returns the answer to a request while these texts are shown.
 pub fn reply(
     alloc: Global,
     server: &mut Server,
@@ -383,7 +383,7 @@ pub fn reply(
     }
 }
 
-/// A text that ends its own line, as an event with its number.
+/// Returns a text that ends with a line feed as an event with its number.
 fn event_of(alloc: Global, number: u64, text: &[u8]) -> Result<Vec<u8>, AllocError>
     ensures { IfOk result (λ bytes. bytes.items ≡ texts.event_of number text.now) }
 {
@@ -397,7 +397,7 @@ fn event_of(alloc: Global, number: u64, text: &[u8]) -> Result<Vec<u8>, AllocErr
     Ok(out)
 }
 
-/// What is shown, as an event: to who is signed what is hidden by the secret of the desk's page, and to all others the state.
+/// Returns what is shown as an event: the encrypted text for a signed viewer, the state for any other.
 fn event(alloc: Global, is_signed: bool, shown: &PageTexts) -> Result<Vec<u8>, AllocError>
     ensures { IfOk result (λ bytes. bytes.items ≡ texts.event is_signed shown.now) }
 {
@@ -408,7 +408,7 @@ fn event(alloc: Global, is_signed: bool, shown: &PageTexts) -> Result<Vec<u8>, A
     }
 }
 
-/// A piece of what follows the head of a stream.
+/// Returns a piece of a stream.
 fn piece(alloc: Global, server: &mut Server, text: &[u8]) -> Result<Vec<u8>, WriteError>
     ensures { IfOk result (λ bytes. bytes.items ≡ data_text (writing server.old) text.now) }
 {
@@ -417,7 +417,7 @@ fn piece(alloc: Global, server: &mut Server, text: &[u8]) -> Result<Vec<u8>, Wri
     Ok(out)
 }
 
-/// What is shown, to who has asked for it whenever it is new, and is signed or isn't.
+/// Returns what is shown, for a viewer who watches and is signed or isn't.
 pub fn told(
     alloc: Global,
     server: &mut Server,
@@ -432,7 +432,7 @@ pub fn told(
     }
 }
 
-/// That the board is there, likewise.
+/// Returns a beat, for a viewer who watches.
 pub fn beat(alloc: Global, server: &mut Server) -> Result<Vec<u8>, WriteError>
     ensures { IfOk result (λ bytes. bytes.items ≡ texts.beat_text server.old) }
 {

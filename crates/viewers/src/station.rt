@@ -1,18 +1,18 @@
-//! Whose page it is.
+//! The kinds of stations that have a page.
 
 ghost use Rattle.std.specs.Prelude.{◌≡◌};
 ghost use Rattle.viewers.specs.Replies as texts;
 
 use served_pages::{desk, scoreboard};
 
-/// Whose page it is: a board's, at which anybody looks, or a desk's, in which its scorer types.
+/// The kind of a page: a board's, which anyone may look at, or a desk's, in which its scorer types.
 #[derive(Clone, Copy)]
 pub enum Station {
     Board,
     Desk,
 }
 
-/// The page of a station.
+/// Returns the page of a station.
 pub fn page_of(station: Station) -> &'static [u8]
     ensures { result.now ≡ texts.page_of station }
 {
@@ -22,7 +22,7 @@ pub fn page_of(station: Station) -> &'static [u8]
     }
 }
 
-/// What may be run and loaded in it.
+/// Returns the content security policy of a station's page.
 pub fn policy_of(station: Station) -> &'static [u8]
     ensures { result.now ≡ texts.policy_of station }
 {

@@ -1,4 +1,4 @@
-//! The stream to a browser.
+//! The connection to a browser.
 
 ghost use Rattle.std.specs.Prelude.{◌≡◌, ◌++◌, ◌+◌, ◌≤◌, [], IfOk, MatchResult, drop, take, vec_len};
 
@@ -7,9 +7,9 @@ use mio::net::TcpStream;
 use std::io::{self, ErrorKind, Read, Write};
 use std::net::Shutdown;
 
-/// A stream that keeps nobody waiting.
+/// A stream that never blocks.
 pub trait Stream: Read + Write {
-    /// Nothing more is written to it.
+    /// Shuts down its write side.
     fn end(&mut self);
 }
 
@@ -19,14 +19,14 @@ impl Stream for TcpStream {
     }
 }
 
-/// A stream, and what it has taken.
+/// A stream, and the bytes that it has taken.
 #[derive(Drop)]
 pub struct Wire<S> {
     stream: S,
     taken: TakenLog,
 }
 
-/// Whether a call failed only for the present.
+/// Whether a call failed only for now.
 fn is_passing(error: &io::Error) -> bool {
     matches!(error.kind(), ErrorKind::WouldBlock | ErrorKind::Interrupted)
 }
@@ -34,7 +34,7 @@ fn is_passing(error: &io::Error) -> bool {
 impl<S: Stream> Wire<S> {
     ghost use Rattle.viewers.specs.Said.{taken_by};
 
-    /// This stream, which has taken nothing yet.
+    /// Begins with this stream, which has taken nothing yet.
     pub fn of(stream: S) -> Wire<S>
         ensures { taken_by result ≡ [] }
     {
@@ -44,7 +44,7 @@ impl<S: Stream> Wire<S> {
         }
     }
 
-    /// What came, as far as there is room: `None` where there is nothing for the present.
+    /// Reads what has come, as much as the buffer holds: `None` if nothing is there now.
     pub fn read(&mut self, buffer: &mut [u8; 2048]) -> io::Result<Option<usize>>
         ensures { taken_by self.new ≡ taken_by self.old }
     {
@@ -55,7 +55,7 @@ impl<S: Stream> Wire<S> {
         }
     }
 
-    /// Hands it these bytes from one on, and tells how many it took: none where it takes none for the present.
+    /// Hands it these bytes from an index on, and returns how many it took: 0 if it takes none now.
     pub fn hand(&mut self, bytes: &Vec<u8>, from: usize) -> io::Result<usize>
         requires { from ≤ vec_len bytes.now }
         ensures bound { IfOk result (λ count. from + count ≤ vec_len bytes.now) }
@@ -72,7 +72,7 @@ impl<S: Stream> Wire<S> {
         Ok(count)
     }
 
-    /// Nothing more is handed to it.
+    /// Hands it nothing more.
     pub fn end(&mut self)
         ensures { taken_by self.new ≡ taken_by self.old }
     {

@@ -1,9 +1,9 @@
-//! How long viewers hear nothing, and are waited for.
+//! How often viewers get a beat, and how long they are waited for.
 
-/// After how many milliseconds a viewer hears again that the station is there.
-/// A page that has missed three, by hearing nothing for seven seconds, says so.
+/// How long it takes until viewers are told again that the station is there, in milliseconds. A page that hears nothing for
+/// seven seconds, and so has missed three beats, says so.
 pub const VIEWER_BEAT: u64 = 2_000;
 
-/// How many milliseconds a request and its answer may take, and a viewer may take nothing.
-/// A slow telephone has the page by then, and who takes nothing frees a place.
+/// How long a request and its answer may take, and a viewer may take nothing, in milliseconds. A slow telephone has the page by
+/// then, and a viewer that takes nothing frees its place.
 pub const VIEWER_PATIENCE: u64 = 10_000;

@@ -21,59 +21,59 @@ use httparse::spans::{EMPTY_HEADER_SPAN, HeaderSpan, Span};
 use std::alloc::Global;
 use std::io;
 
-/// How many pieces are read or written at once.
+/// The largest number of pieces read or written at once.
 const MOST_PIECES: u32 = 8;
 
-/// How many fields a head may have.
+/// The largest number of header fields.
 const MOST_FIELDS: usize = 32;
 
-/// Which heads are taken.
+/// The limits of a head.
 const LIMITS: Limits = Limits {
     max_head_len: 4096,
     max_extensions_len: 64,
     max_trailers_len: 64,
 };
 
-/// What a connection is about.
+/// The stage of a connection.
 #[derive(Clone, Copy)]
 enum Stage {
-    /// A head is read.
+    /// A head is being read.
     Head,
-    /// A line that is to be typed is read.
+    /// A line that is to be typed is being read.
     Line(Heading),
-    /// It is told each new state, and was told those up to this number.
+    /// The viewer watches, and was told the states up to this number.
     Watching(u64),
-    /// It was answered. What comes is passed over.
+    /// The viewer was answered. Further input is ignored.
     Answered,
-    /// All was sent, and it was told that nothing follows.
+    /// The answer was sent, and the connection's write side is shut down.
     Ended,
 }
 
-/// A browser's connection, which asks for one thing. What it was sent and is still to be sent is just what was said to it:
-/// one answer, and where it asked for events, states and beats.
+/// A browser's connection, which makes one request. The bytes that it took and those still to be sent are exactly what it was
+/// told: one answer, and if it asked for events, states and beats.
 #[derive(Drop)]
 pub struct Viewer<S: Stream> {
     wire: Wire<S>,
     server: Server,
     input: BytesMut,
-    /// What came of a line that is to be typed: one byte more than any line has, where it is too long.
+    /// The line to be typed, as far as it has come: 129 bytes if it is too long.
     line: ArrayVec<u8, 129>,
-    /// What was said last.
+    /// The text that it was last told.
     out: Vec<u8>,
-    /// How many bytes of it are taken.
+    /// How many bytes of that text are taken.
     done: usize,
     said: SaidLog,
     stage: Stage,
     guest: Guest,
-    /// When it came.
+    /// When it connected.
     came: u64,
-    /// Whether it had a pass by the secret of the desk's page.
+    /// Whether it had a good pass, made with the secret of the desk's page.
     is_signed: bool,
     since: u64,
     may_read: bool,
-    /// Whether it took all pieces that it was handed last, so that it may take more.
+    /// Whether it took all pieces that it was last handed, so that it may take more.
     takes_more: bool,
-    /// Whether nothing more comes from it.
+    /// Whether no more input comes.
     is_left: bool,
     is_gone: bool,
     ghost within: { done ≤ vec_len out },
@@ -81,7 +81,7 @@ pub struct Viewer<S: Stream> {
 }
 
 impl<S: Stream> Viewer<S> {
-    /// One that came now.
+    /// Begins a connection that came now.
     pub fn new(alloc: Global, stream: S, guest: Guest, now: u64) -> Viewer<S>
         ensures { result.is_signed ≡ false }
     {
@@ -105,34 +105,34 @@ impl<S: Stream> Viewer<S> {
         }
     }
 
-    /// From here on there may be something to read.
+    /// Notes that there may be something to read.
     pub fn wake(&mut self) {
         self.may_read = true;
     }
 
-    /// Of which network it is.
+    /// Returns the network that it comes from.
     pub fn from(&self) -> u64 {
         self.guest.from
     }
 
-    /// When it came.
+    /// Returns when it connected.
     pub fn came(&self) -> u64 {
         self.came
     }
 
-    /// Whether it had a pass by the secret of the desk's page.
+    /// Whether it had a good pass, made with the secret of the desk's page.
     pub fn is_signed(&self) -> bool
         ensures { result ≡ self.now.is_signed }
     {
         self.is_signed
     }
 
-    /// Whether more can be read of it, or taken by it, at once.
+    /// Whether it can be read or written at once.
     pub fn has_more(&self) -> bool {
         !self.is_gone && (self.may_read || self.takes_more)
     }
 
-    /// What it is at.
+    /// Returns what it is doing.
     pub fn stay(&self) -> Stay {
         match self.stage {
             Stage::Head | Stage::Line(_) => Stay::Asking,
@@ -141,25 +141,25 @@ impl<S: Stream> Viewer<S> {
         }
     }
 
-    /// Whether something that was said isn't taken yet.
+    /// Whether some of what it was told isn't taken yet.
     fn is_sending(&self) -> bool
         ensures { result ≡ nat_lt self.now.done (vec_len self.now.out) }
     {
         self.done < self.out.len()
     }
 
-    /// Whether it is to be let go: it has gone, or had time enough.
+    /// Whether it is to be dropped: it has left, or its time is over.
     pub fn is_over(&self, now: u64) -> bool {
         let is_idle = matches!(self.stage, Stage::Watching(_)) && !self.is_sending();
         self.is_gone || (!is_idle && now.saturating_sub(self.since) > VIEWER_PATIENCE)
     }
 
-    /// Whether it is told each new state.
+    /// Whether it watches.
     pub fn is_watching(&self) -> bool {
         matches!(self.stage, Stage::Watching(_)) && !self.is_gone
     }
 
-    /// Says this next, of which this is known. Where it couldn't be made, the viewer is let go.
+    /// Tells it this text next, which `said` describes. If the text couldn't be made, the viewer is dropped.
     fn say(&mut self, text: Result<Vec<u8>, WriteError>, said: SaidLog)
         requires all { self.old.done ≡ vec_len self.old.out }
         requires text { ForOk text (λ bytes. said_in said ≡ said_in self.old.said ++ bytes.items) }
@@ -176,7 +176,7 @@ impl<S: Stream> Viewer<S> {
         }
     }
 
-    /// Answers what was asked for, while this is shown.
+    /// Answers a request while these texts are shown.
     fn answer(&mut self, alloc: Global, asked: Asked, shown: &PageTexts) {
         if self.is_sending() {
             return;
@@ -191,7 +191,7 @@ impl<S: Stream> Viewer<S> {
         self.say(text, said);
     }
 
-    /// What the head wishes that came, once it is whole.
+    /// Returns what the head asks to have done, once it is complete.
     fn wish(&mut self, station: Station) -> Option<Wish> {
         let mut fields: [HeaderSpan; 32] = [EMPTY_HEADER_SPAN; MOST_FIELDS];
         let read = match self.server.read(self.input.as_slice(), &mut fields) {
@@ -210,7 +210,7 @@ impl<S: Stream> Viewer<S> {
         wish
     }
 
-    /// Keeps a piece of a line, as far as it may be one.
+    /// Keeps a piece of a line, up to 129 bytes.
     fn keep(&mut self, piece: Span)
         ensures { self.new.input ≡ self.old.input }
     {
@@ -219,7 +219,7 @@ impl<S: Stream> Viewer<S> {
         }
     }
 
-    /// Reads on in a line that is to be typed, and answers once it is whole.
+    /// Reads more of a line that is to be typed, and answers once it is complete.
     fn read_line(
         &mut self,
         alloc: Global,
@@ -247,7 +247,7 @@ impl<S: Stream> Viewer<S> {
         self.input.advance(read.consumed);
     }
 
-    /// Answers, not as to a request for a head alone.
+    /// Answers a request that isn't for the head alone.
     fn reply_to(&mut self, alloc: Global, ask: Ask, shown: &PageTexts) {
         self.answer(
             alloc,
@@ -259,7 +259,7 @@ impl<S: Stream> Viewer<S> {
         );
     }
 
-    /// Is told each new state, by a good pass, or by none as others are.
+    /// Makes it a watching viewer, signed if its pass is good. Without a good pass it is refused if it has no seat.
     fn watch(&mut self, alloc: Global, is_good: bool, shown: &PageTexts) {
         self.is_signed = is_good;
         let ask = if self.guest.is_behind && !is_good {
@@ -270,7 +270,7 @@ impl<S: Stream> Viewer<S> {
         self.reply_to(alloc, ask, shown);
     }
 
-    /// Learns whether a pass is good.
+    /// Answers whether a pass is good.
     fn look(&mut self, alloc: Global, is_good: bool, shown: &PageTexts) {
         let ask = if is_good {
             Ask::Signed
@@ -280,7 +280,7 @@ impl<S: Stream> Viewer<S> {
         self.reply_to(alloc, ask, shown);
     }
 
-    /// Reads the head that came, once it is whole, and does what it wishes.
+    /// Reads the head, once it is complete, and does what it asks for.
     fn read_head(&mut self, alloc: Global, shown: &PageTexts, inbox: &mut Option<Inbox>, now: u64) {
         match self.wish(shown.station) {
             Some(Wish::Answer(asked)) => {
@@ -302,7 +302,7 @@ impl<S: Stream> Viewer<S> {
         }
     }
 
-    /// Does what follows of what came, in so many steps: a head, a line's pieces, its end. What stands behind is passed over.
+    /// Handles the input, in a limited number of steps: a head, the pieces of a line, its end. Anything after that is ignored.
     fn go_on(&mut self, alloc: Global, shown: &PageTexts, inbox: &mut Option<Inbox>, now: u64) {
         for _ in 0..MOST_PIECES {
             match self.stage {
@@ -313,7 +313,7 @@ impl<S: Stream> Viewer<S> {
         }
     }
 
-    /// Takes bytes that came. Those behind the first request are passed over.
+    /// Takes input. Whatever follows the first request is ignored.
     fn take(
         &mut self,
         alloc: Global,
@@ -332,7 +332,7 @@ impl<S: Stream> Viewer<S> {
         self.go_on(alloc, shown, inbox, now);
     }
 
-    /// Nothing more comes. Who was answered still gets the rest of it.
+    /// Notes that no more input comes. A viewer being answered still gets the rest.
     fn leave(&mut self) {
         self.may_read = false;
         self.is_left = true;
@@ -341,7 +341,7 @@ impl<S: Stream> Viewer<S> {
         }
     }
 
-    /// Reads once, and answers what was asked for.
+    /// Reads once, and answers the request.
     fn read(&mut self, alloc: Global, shown: &PageTexts, inbox: &mut Option<Inbox>, now: u64) {
         let mut buffer = [0u8; 2048];
         match self.wire.read(&mut buffer) {
@@ -355,7 +355,7 @@ impl<S: Stream> Viewer<S> {
         }
     }
 
-    /// Has a piece of what was said be taken, and tells how many bytes of it were.
+    /// Hands over a piece of what it is told, and returns how many bytes were taken.
     fn hand_piece(&mut self) -> io::Result<usize>
         ensures { self.new.said ≡ self.old.said }
     {
@@ -373,7 +373,7 @@ impl<S: Stream> Viewer<S> {
         }
     }
 
-    /// Has some of what was said be taken, and tells whether to go on.
+    /// Hands over some of what it is told, and returns whether to go on.
     fn hand_on(&mut self, now: u64) -> bool
         ensures { self.new.said ≡ self.old.said }
     {
@@ -393,7 +393,7 @@ impl<S: Stream> Viewer<S> {
         }
     }
 
-    /// Tells who was answered that nothing follows, once all is sent.
+    /// Shuts down the write side once the answer is sent.
     fn end(&mut self)
         ensures { self.new.said ≡ self.old.said }
     {
@@ -408,7 +408,7 @@ impl<S: Stream> Viewer<S> {
         }
     }
 
-    /// Has what was said be taken, as far as that goes at once.
+    /// Hands over what it is told, as far as that goes at once.
     fn send(&mut self, now: u64)
         ensures { self.new.said ≡ self.old.said }
     {
@@ -422,7 +422,7 @@ impl<S: Stream> Viewer<S> {
         self.end();
     }
 
-    /// Reads what came, as far as that goes at once, and answers it.
+    /// Reads input and answers it, as far as that goes at once.
     pub fn serve(&mut self, alloc: Global, shown: &PageTexts, inbox: &mut Option<Inbox>, now: u64) {
         for _ in 0..MOST_PIECES {
             if !self.may_read || self.is_gone {
@@ -433,7 +433,7 @@ impl<S: Stream> Viewer<S> {
         self.send(now);
     }
 
-    /// The number of what is shown, as it may read it.
+    /// Returns the number of the text that it may read.
     fn number_of(&self, shown: &PageTexts) -> u64
         ensures { result ≡ number_for self.now.is_signed shown.now }
     {
@@ -444,7 +444,7 @@ impl<S: Stream> Viewer<S> {
         }
     }
 
-    /// Tells it what is shown, as it may read it.
+    /// Tells it what is shown, in the text that it may read.
     fn tell_state(&mut self, alloc: Global, shown: &PageTexts)
         ensures { Tells self.old.server self.old.is_signed shown.now (said_in self.old.said) (said_in self.new.said) }
     {
@@ -470,9 +470,9 @@ impl<S: Stream> Viewer<S> {
         self.say(text, said);
     }
 
-    /// Tells it what is shown, where it has asked for that and wasn't told it, and where there is nothing new, at a beat, that
-    /// the station is there. What it hasn't taken yet comes first: so of several states it gets the newest alone. Who isn't signed is
-    /// told of a desk nothing that its scorer wrote.
+    /// Tells a watching viewer what is shown if that is new to it, or else, at a beat, that the station is there. Text that it
+    /// hasn't taken yet comes first, so of several states it gets only the newest. An unsigned viewer is told nothing that a
+    /// desk's scorer wrote.
     pub fn tell(&mut self, alloc: Global, shown: &PageTexts, is_beat: bool, now: u64)
         ensures { Tells self.old.server self.old.is_signed shown.now (said_in self.old.said) (said_in self.new.said) }
     {

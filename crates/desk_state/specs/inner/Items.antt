@@ -8,16 +8,16 @@ use Rattle.desk_state.specs.declared.deliveries.Delivery.{Delivery}
 use Rattle.desk_state.specs.Players.{is_playable}
 use Rattle.desk_state.specs.Over.{last_over, last_with, over_with, this_over}
 
--- a delivery is refused only since a place at the wicket is empty
+-- a delivery is refused only because a batter has to come in first
 abbrev pub is_vacancy : Refusal → Bool
 is_vacancy (Law why) = is_playable (Some why)
 is_vacancy why = false
 
--- a number, where it is wanted
+-- a number if it is wanted, and otherwise nothing
 abbrev pub number_if : Bool → ℕ → List Json
 number_if holds n = if holds then number_value n ∷ [] else []
 
--- the over that is on, and the one called last
+-- the current over and the over called last
 pub record Noted : Type 0 where
   pub this : List Delivery
   pub last : List Delivery
@@ -25,15 +25,15 @@ pub record Noted : Type 0 where
 abbrev pub none_noted : Noted
 none_noted = record { this = []; last = [] }
 
--- behind an item more
+-- after one more item
 abbrev pub noted_after : Placed → Noted → Noted
 noted_after x s = record { this = over_with x.place x.item s.this; last = last_with x.item s.this s.last }
 
--- behind all of these, the oldest first
+-- after all of these items, the oldest first
 abbrev pub noted_behind : Noted → List Placed → Noted
 noted_behind s [] = s
 noted_behind s (x ∷ xs) = noted_behind (noted_after x s) xs
 
--- by what stands, the newest first
+-- both overs of a list with the newest item first
 abbrev pub noted_of : List Placed → Noted
 noted_of xs = record { this = this_over xs; last = last_over xs }

@@ -1,4 +1,4 @@
--- The overs of what stands, counted item by item.
+-- The overs of a clean list, counted item by item.
 use Rattle.std.specs.Prelude.{ℕ, ◌+◌, List, [], ◌∷◌, ◌++◌}
 use Rattle.notation.specs.declared.entry.Plain.{Plain}
 use Rattle.ball_laws.specs.History.{History, open_over}
@@ -8,7 +8,7 @@ use Rattle.match_laws.specs.Figures.{runs_of}
 use Rattle.scoreboard.specs.declared.value.OverRuns.{OverRuns}
 use Rattle.scoreboard.specs.OverRuns.{over_runs}
 
--- how many innings have begun, the runs of the open over, and the overs called
+-- the number of innings begun, the runs of the open over, and the overs called
 pub record Counted : Type 0 where
   pub begun : ℕ
   pub this : ℕ

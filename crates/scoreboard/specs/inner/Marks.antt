@@ -1,10 +1,10 @@
--- The marks of what stands in a book.
+-- The marks of the items of a clean list.
 use Rattle.std.specs.Prelude.{List, [], ◌∷◌}
 use Rattle.notation.specs.declared.entry.Plain.{Plain}
 use Rattle.json.specs.Json.{Json, string}
 use Rattle.cards.specs.Marks.{mark_of}
 
--- nothing, but for a delivery
+-- the mark of a delivery; no value for any other item
 abbrev pub item_values : Plain → List Json
 item_values (Plain.Ball b) = string (mark_of b) ∷ []
 item_values _ = []

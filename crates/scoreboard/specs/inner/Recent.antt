@@ -1,4 +1,4 @@
--- The last five overs of what stands, counted item by item.
+-- The last five overs of a clean list, counted item by item.
 use Rattle.std.specs.Prelude.{ℕ, ◌+◌, min, List, [], length, get_or}
 use Rattle.notation.specs.declared.entry.Plain.{Plain}
 use Rattle.ball_laws.specs.History.{History, open_over}
@@ -7,11 +7,11 @@ use Rattle.match_laws.specs.Figures.{runs_of}
 use Rattle.limits.specs.Figures.{overs_runs}
 use Rattle.scoreboard.specs.declared.recent.{Five.Five, Recent.Recent}
 
--- the runs off all five
+-- the runs off all five overs
 abbrev pub sum_of : Five → ℕ
 sum_of f = f.first + f.second + f.third + f.fourth + f.fifth
 
--- of overs with these runs, the newest first
+-- the last five of the overs with these runs, the newest first
 abbrev pub five_of : List ℕ → Five
 five_of rs = record {
   first = get_or rs 0 0;
@@ -22,7 +22,7 @@ five_of rs = record {
   overs = min (length rs) 5;
 }
 
--- with an over more
+-- one more over
 abbrev pub five_with : ℕ → Five → Five
 five_with runs f = record {
   first = runs;

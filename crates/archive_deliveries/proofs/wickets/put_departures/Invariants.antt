@@ -4,6 +4,6 @@ use Rattle.json_fields.specs.Values.{values_tokens}
 use Rattle.archive_deliveries.specs.Wickets.{gone_of}
 use Rattle.archive_deliveries.proofs.wickets.put_departures.Given as goal
 
--- what is put so far is that of the items so far
+-- the values put so far are those of the items so far
 abbrev pub invariant-loop-index : goal.invariant-loop-index
 invariant-loop-index l = l.out ≡ l.initial.out ++ values_tokens (flat_map (λ x. gone_of l.sheet l.side x.item) (take l.index l.notes))

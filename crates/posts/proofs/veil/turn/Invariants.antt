@@ -2,7 +2,7 @@ use Rattle.std.proofs.Common.{◌≡◌, ◌≢◌, ◌/◌, ◌%◌, length, ta
 use Rattle.posts.specs.Veils.{block, turned_from}
 use Rattle.posts.proofs.veil.turn.Given as goal
 
--- the bytes so far are turned, the others as they were, and the pad is the block of the byte before
+-- the bytes so far are XORed, the others are as they were, and the pad is the block of the byte before
 abbrev pub invariant-loop-i : goal.invariant-loop-i
 invariant-loop-i l =
     (length l.text ≡ length l.initial.text)

@@ -3,7 +3,7 @@ use Rattle.limits.specs.inner.Walks.{walk}
 use Rattle.scoreboard.specs.inner.Counting.{counted_after, nothing}
 use Rattle.scoreboard.proofs.value.counted.Given as goal
 
--- the walk over all goes on from here with what is left; each item has 260 runs at most
+-- walking on from here over the items left gives the walk over all; each item has at most 260 runs
 abbrev pub invariant-loop-placed : goal.invariant-loop-placed
 invariant-loop-placed l =
     (walk counted_after nothing l.items

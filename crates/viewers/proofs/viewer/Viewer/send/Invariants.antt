@@ -1,6 +1,6 @@
 use Rattle.std.proofs.Common.{◌≡◌}
 use Rattle.viewers.proofs.viewer.Viewer.send.Given as goal
 
--- nothing is said
+-- nothing more is said
 abbrev pub invariant-loop : goal.invariant-loop
 invariant-loop g l = l.self.said ≡ l.initial.self.said
