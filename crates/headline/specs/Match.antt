@@ -26,7 +26,7 @@ abbrev pub most_bytes : FileVersion → ℕ
 most_bytes version = room (format_of version) most_votes
 
 -- The match of this number, with this many innings a side: what a file of each version shows of its bytes, and the bytes that a
--- disk has and may have after a power loss. The score of a book is the standing of its history.
+-- disk has and may have after a power loss. The standing of a book's history is shown as its score.
 abbrev pub setting_of :
     {Disk : Type 0} → (FileVersion → FileContents) → (Disk → List ℕ) → (Disk → Images) → ℕ → ℕ → Setting Disk Refusal
 setting_of file seen images game innings =
