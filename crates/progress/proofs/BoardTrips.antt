@@ -1,4 +1,4 @@
--- How a board goes on in calm moments, and hears what a desk says.
+-- How a board goes on in calm moments, and hears the votes of a desk.
 use Rattle.std.proofs.Common.{◌≡◌, ◌≢◌, ◌⊎◌, ℕ, Some, List, [], ◌∷◌, ◌++◌, refl, ap, ◌∙◌, subst, inl, inr, arith}
 use Rattle.agree_core.specs.declared.{messages.Asker.Asker, messages.DeskId.DeskId, messages.Message.Message, messages.Vote.Vote}
 use Rattle.agree_core.specs.Ballots.{AllVotes, Justified, votes_by}

@@ -101,13 +101,13 @@ module _ {Disk Why : Type 0} (s : Setting Disk Why) where
       pub ear : State → Ear
       pub Ok : Moment Disk Why → Type 0
       pub Is : Configuration Disk → State → Type 0
-      -- it goes on
+      -- the station goes on
       pub stays : (w : Configuration Disk) (ms : List (Moment Disk Why)) → CalmRun s v w ms → (k : State) → Is w k → (l : State) × Is (last_of w ms) l
       pub goes : (w : Configuration Disk) (ms : List (Moment Disk Why)) → CalmRun s v w ms → (k l : State) → Is w k → Is (last_of w ms) l → On (ear k) (ear l)
-      -- it hears the desk's vote for its position
+      -- the station hears the desk's vote for its position
       pub hears : (w : Configuration Disk) (m : Moment Disk Why) → Steady s v w → Ok m → Step s w m.event m.answer m.after → (k l : State) → Is w k → Is m.after l
           → (x : Vote) → ComesTo w m t (Message.Vote x) → x.desk ≡ d → position_of x ≡ (ear k).position → Before (ear k).position (ear l).position ⊎ Knows (ear l)
-      -- at a tick it asks for that vote, if it lacks it
+      -- at a tick the station asks for that vote, if it lacks it
       pub ticks : (w : Configuration Disk) (m : Moment Disk Why) → Steady s v w → Step s w m.event m.answer m.after → m.event ≡ Event.Tick t → (k : State) → Is w k
           → Is m.after k × (Knows (ear k) ⊎ (NoVote (votes_by v d) (ear k).position ⊎ ((from : Asker) × HandsOut w m (ask_for from (ear k).position))))
 
@@ -153,7 +153,7 @@ module _ {Disk Why : Type 0} (s : Setting Disk Why) where
             rest = record { run = runs.1; ok = ok.0; from = y.1; to = subst (λ (z : Configuration Disk). h.Is z l) last p.to };
           }
 
-      -- it hears the answer for the position at which it was before
+      -- the station hears the answer for the position that it asked for
       returned : (w : Configuration Disk) (ms : List (Moment Disk Why)) (j k l : h.State) → On (h.ear j) (h.ear k) → Span w ms k l → (x : Vote) → x.desk ≡ d
           → position_of x ≡ (h.ear j).position → Reaches w t (Message.Vote x) ms → Done votes (h.ear j) (h.ear l)
       returned w ms j k l g p x desk at given =
@@ -191,7 +191,7 @@ module _ {Disk Why : Type 0} (s : Setting Disk Why) where
                 (x.heard (Message.Vote vote) out)
           ]
 
-      -- an exchange brings the station further on, or all that the desk has cast at its position
+      -- an exchange brings the station to a later position, or every vote that the desk has cast at its position
       pub exchange_brings : (w : Configuration Disk) (ms : List (Moment Disk Why)) (k l : h.State) → Span w ms k l → Exchange w t d ms → Done votes (h.ear k) (h.ear l)
       exchange_brings w ms k l p x =
           let a = halves w ms k l p x.at in
