@@ -22,8 +22,7 @@ module _ {Disk : Type 0} where
   next_board o _ = o
 
 module _ (Disk : Type 0) (game innings : ℕ) where
-  -- whether it may happen at this board, apart from the datagram that it is given; and the messages handed out are messages of
-  -- a match
+  -- it may happen at this board, whether or not its datagram was sent; and only messages are handed out
   abbrev pub MayBoard : Option BoardState → Happening Disk → Type 0
   MayBoard o (BoardGreeted n sheet text seen) = (k : BoardState) × (o ≡ Some k) × Greets sheet innings k text seen
   MayBoard o (BoardCalled n sheet call out l text seen) =

@@ -34,8 +34,7 @@ module _ {Disk : Type 0} where
   next_desk x _ = x
 
 module _ {Disk : Type 0} (view : FileVersion → FileView Disk) (seen : Disk → List ℕ) (d : DeskId) (game innings : ℕ) where
-  -- whether it may happen at this desk, apart from the datagram that it is given; and the messages handed out are messages of a
-  -- match
+  -- it may happen at this desk, whether or not its datagram was sent; and only messages are handed out
   abbrev pub MayDesk : Node Disk → Happening Disk → Type 0
   MayDesk x (DeskGreeted c s text) =
       (k : DeskState Disk) × (x.process ≡ Running k) × (text ≡ greeting_of s innings k)

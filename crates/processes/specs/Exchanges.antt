@@ -1,5 +1,5 @@
--- An exchange of processes, by what happens to them: the messages of a station's process at a tick come to a desk's process,
--- and its replies come to the station's.
+-- An exchange of processes, by what happens to them: the messages that a station's process sends at a tick come to a desk's
+-- process, and its replies come to the station's.
 use Rattle.std.specs.Prelude.{◌≡◌, ◌⊎◌, ℕ, zero, suc, Ok, Some, List, [], ◌∷◌, ◌++◌, slice_get}
 use Rattle.agree_core.specs.declared.messages.{DeskId.DeskId, Message.Message}
 use Rattle.wire.specs.declared.what.What.{What}

@@ -65,8 +65,8 @@ pub record ProcessHeadline {Disk : Type 0} (game innings : ℕ) (w : Configurati
   -- for each entry of a book that a process shows, both desks have voted for it in one round
   pub by_both : AtEachTime w hs ByBoth
   -- Each vote of a desk is for a line that its scorer typed there, and that the desk was given at the vote's position. Put in
-  -- full, the line is the entry's, behind `again ` in every round but the first, or it is `again` alone, for the entry of the
-  -- round before.
+  -- full, the line is the entry's; in every round but the first it stands behind `again `, or is `again` alone, for the entry
+  -- of the round before.
   pub typed : (d : DeskId) (b : Ballot) → In b (votes_by (all_votes (after w hs)) d) → WasTyped w hs d b
   -- Each score is the Laws' score of its book: in a match of one or two innings a side each book that a process shows has one,
   -- and books of equal length have equal scores, at whatever processes and times.
@@ -76,8 +76,8 @@ pub record ProcessHeadline {Disk : Type 0} (game innings : ℕ) (w : Configurati
       → AtSomeTime w hs (λ v. ShowsScore innings v u n other) → score ≡ other
   -- what a process prints belongs to the book that it shows then
   pub prints : AtEachHappening w hs (PrintsItsBook innings)
-  -- What a board prints and hands over to be shown, as its text and as its state, is a book for each entry of which both desks
-  -- have voted in one round, with its score by the Laws.
+  -- What a board prints, and hands over to be shown as its text and as its state, is of a book for each entry of which both
+  -- desks have voted in one round, with its score by the Laws.
   pub shows_agreed : AtEachHappening w hs (ShowsAgreed innings)
   -- a call that brings the second of two equal votes to a process that keeps the first adds their entry to its book
   pub takes_second : AtEachHappening w hs (TakesSecond game)

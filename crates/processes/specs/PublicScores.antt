@@ -12,7 +12,7 @@ use Rattle.live.specs.Sights.{Sight}
 use Rattle.processes.specs.Happenings.{BoardCalled, BoardGreeted, Happening, after_one}
 
 -- Both scorers wrote this book: for each of its entries both desks have voted in one round; and in a match of one or two
--- innings a side it has a score by the Laws.
+-- innings a side the book has a score by the Laws.
 pub record IsOfBoth {Disk : Type 0} (innings : ℕ) (v : Configuration Disk) (book : List Entry) : Type 0 where
   pub by_both : (place : ℕ) (e : Entry) → slice_get book place ≡ Some e → (round : ℕ) × EqualVotes (all_votes v) place round e
   pub scored : 1 ≤ innings → innings ≤ 2 → (score : Standing) × IsScoreOf score innings book

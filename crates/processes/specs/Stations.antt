@@ -99,9 +99,9 @@ module _ {Disk : Type 0} (seen : Disk → List ℕ) (images : Disk → Images) (
       (record { faults = faults; FitsLongest = FitsLongest room cap }) sheet innings opening calls before after result
 
 module _ {B : Type 0} {g : _} (content : B → List Entry) (innings_of : B → ℕ) where
-  -- By what `keep_board` ensures of a new board, it is a process of a board's life, with this sheet: its datagrams are exactly
+  -- By what `keep_board` ensures, a new board's run is a process of a board's life, with this sheet: its datagrams are exactly
   -- those that passed, its times those that its clock showed, its texts those that were written, the empty book's first, and
-  -- what it handed over to be shown is what was handed over.
+  -- its sights those that were handed over to be shown.
   abbrev pub BoardLifeIsProcess : (old new : Board B g) → Type 0
   BoardLifeIsProcess old new =
       (sheet : Sheet) (before after : Logs) (turns : ℕ) (noted notes : List Notice) (seen sees : List Sight)
