@@ -72,7 +72,7 @@ cut_desk : (d : DeskId) (rest : List ℕ) → Unit {0} → cut (desk_word d ++ (
 unfolding cut
 cut_desk d rest h = grind arith
 
--- a digit is no desk
+-- a digit names no desk
 no_desk : (n : ℕ) → n ≤ 4 → desk_at (decimal n) ≡ None
 unfolding desk_at
 no_desk n h = rw (decimal_digit n (omega arith), ne_eqb (48 + n) 97 (omega arith), ne_eqb (48 + n) 98 (omega arith)) refl
