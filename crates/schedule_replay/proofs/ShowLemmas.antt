@@ -114,7 +114,7 @@ added_more : {Old Mid New Shows Below Here Next : Type 0} → Mid ↔ (Old ⊎ (
     → (Below → Next) → (Shows → Next → Below ⊎ Here) → New ↔ (Old ⊎ (Shows × Next))
 added_more h a here below either = grind (arith, h, a, here, below, either)
 
--- the next station's score is noted too, under this station
+-- the next station's scores are noted too, under its name
 pub noted_next : {code : World} {k l : ℕ} {u v : Station} {old mid new : List Shown} → FromOne u → station_number u ≡ k → l ≡ k + 1 → v ≡ u
     → NotedBelow code k old mid → Adds v (CodeShows code u) mid new → NotedBelow code l old new
 noted_next {code = code} {k = k} {u = u} f number next is h a = record {

@@ -20,7 +20,7 @@ abbrev pub is_desk : Station → Bool
 is_desk (Station.Desk d) = true
 is_desk (Station.Board n) = false
 
--- no board has this number, of boards that are numbered from 1
+-- none of the boards, numbered from 1, has this number
 abbrev pub no_board : ℕ → ℕ → Bool
 no_board boards zero = true
 no_board boards (suc n) = nat_le boards n

@@ -16,7 +16,7 @@ use corrections::CheckedBook;
 use std::alloc::{AllocError, Global};
 use wire::{Datagram, What};
 
-/// Whether no board has this number, of `boards` boards that are numbered from 1.
+/// Whether none of `boards` boards, numbered from 1, has this number.
 pub fn no_board(boards: usize, number: u8) -> bool
     ensures { result ≡ no_board boards number }
 {

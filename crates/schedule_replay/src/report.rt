@@ -131,8 +131,8 @@ pub fn replay_in(
 /// Memory ran out, and no event was refused.
 const NO_MEMORY: (u64, WorldRefusal) = (0, WorldRefusal::NoMemory);
 
-/// Returns why there is no report, after memory for it ran out behind this many events: the world takes all later events too,
-/// or refuses one of them.
+/// Returns why there is no report, when memory for it ran out after this many events: the world takes all later events too, or
+/// refuses one of them.
 fn end_unreported(mut world: World, events: &[Event], after: usize) -> (u64, WorldRefusal)
     requires after { after ≤ length events.now }
     requires events { All IsEvent events.now }

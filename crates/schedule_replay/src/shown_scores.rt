@@ -40,7 +40,7 @@ pub struct ShownScores {
 }
 
 impl ShownScores {
-    /// Returns no scores yet. The room for all marks is taken at once.
+    /// Makes a list without scores. The room for all marks is taken at once.
     pub fn new(alloc: Global) -> Result<ShownScores, AllocError>
         ensures empty { IfOk result (λ shown. shown.seen.items ≡ []) }
         ensures kept { IfOk result IsKept }

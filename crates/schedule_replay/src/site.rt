@@ -412,8 +412,8 @@ impl Site {
         }
     }
 
-    /// Answers that the votes of the desk, which is down, aren't found: by `NoMemory` if memory ran out, otherwise by this cause,
-    /// for which a failed device call spends the fault that was due.
+    /// Answers that the votes of the desk, which is down, aren't found: by `NoMemory` if memory ran out, otherwise by this
+    /// cause; a failed device call spends the fault that was due.
     fn not_found(&mut self, why: vote_store::Refusal, cause: Cause) -> Result<Seen, WorldRefusal>
         requires whole { IsWhole self.old }
         ensures refused { NotFoundBy (wants_memory why) (is_failing why) cause self.old result self.new }

@@ -94,7 +94,7 @@ impl World {
     }
 
     /// Takes one event. The world refuses it by `NoStation`, `Down`, `Up`, `NoMessage`, `WorldFull` and `NoMemory`, in this
-    /// order, and stays as it was; a station's own refusal is an outcome.
+    /// order, and then stays as `WorldRefusal` says; a station's own refusal is an outcome.
     pub fn step(&mut self, event: &Event) -> Result<Seen, WorldRefusal>
         requires event { IsEvent event.now }
         ensures step { IfOk result (λ seen. StepsTo event.now self.old seen self.new) }
