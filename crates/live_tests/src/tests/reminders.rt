@@ -33,7 +33,7 @@ const ALL_OF_THESE: &str = "No play\n0 next\n0 the other has written\nthe other 
 
 const DIFFERS: &str = "0 differs: you innings home,\n  the other void\n";
 
-// It is told 5 seconds after the other desk's vote came, unless the scorer's own vote is cast, and once for a position.
+// The other desk's vote is told 5 seconds after it came, once for a position, unless the scorer's own vote is cast.
 #[test]
 fn the_other_has_written(rt: HostRuntime) {
     let brings = [
@@ -83,8 +83,8 @@ fn in_each_round(rt: HostRuntime) {
     is_told(&rt, rt.alloc(), &keys, &brings, &texts);
 }
 
-// Nothing of these is heard of the other desk: a board's asks, those of a laptop that was started as the same desk, and bytes
-// that are no message.
+// None of these counts as hearing the other desk: a board's asks, those of a laptop that was started as the same desk, and
+// bytes that are no message.
 #[test]
 fn the_other_desk_is_missed(rt: HostRuntime) {
     let texts = [(4900, GREETING), (5500, MISSED), (60_000, "")];
@@ -108,8 +108,8 @@ fn the_other_desk_is_missed(rt: HostRuntime) {
     is_told(&rt, rt.alloc(), &[], &brings, &texts);
 }
 
-// An ask or a vote of the other desk for the position ends its silence, and both are told in turns. One for another position
-// may be a repeat.
+// An ask or a vote of the other desk for the position ends its silence; silence and end are told in turns. An ask or a vote for
+// another position may be a repeat.
 #[test]
 fn the_other_desk_is_heard_again(rt: HostRuntime) {
     let brings = [
