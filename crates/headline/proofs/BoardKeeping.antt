@@ -1,4 +1,4 @@
--- What is so of each item of a list, and of each board.
+-- What holds of each item of a list, and of each board.
 use Rattle.std.proofs.Common.{arith, ◌≡◌, ℕ, zero, suc, Some, List, [], ◌∷◌, ◌++◌}
 use Rattle.std.specs.Prelude.{slice_get, slice_set}
 use Rattle.agree_core.specs.Ballots.{AllVotes}

@@ -1,4 +1,4 @@
--- What holds in a run: the headline, and the rest.
+-- What holds in a run: the headline, and the other claims.
 use Rattle.std.proofs.Common.{ℕ, List}
 use Rattle.agree_core.proofs.FileBooks.{agreed_by_files}
 use Rattle.agree_core.specs.Ballots.{AllJustified}

@@ -1,4 +1,4 @@
--- What a seat and a reader make of a vote; which board or station another one is.
+-- What a seat and a reader make of a vote; what another board or desk is.
 use Rattle.std.proofs.Common.{◌≡◌, ◌≢◌, ◌⊎◌, ◌+◌, ℕ, suc, Option, Some, None, List, ◌∷◌, ap, ◌∙◌, arith}
 use Rattle.std.specs.Prelude.{slice_get, slice_set}
 use Rattle.notation.specs.declared.entry.Entry.{Entry}
@@ -33,8 +33,8 @@ other_not d = grind arith
 pub some_none : {X : Type 0} (o : Option X) (x : X) → o ≡ None → o ≡ Some x → ⊥
 some_none o x p q = cc
 
--- a vote that is heard changes nothing, where it isn't the first of the other desk for this position; else the seat
--- keeps it, or is at another position without a vote
+-- A heard vote changes nothing unless it is the other desk's first for the seat's position; then the seat keeps it, or moves to
+-- another position without any vote.
 abbrev pub Heeds : SeatState → Vote → SeatState → Type 0
 Heeds k v l =
     ((l ≡ k) × (v.desk ≢ k.desk → position_of v ≡ k.position → k.theirs ≡ None → ⊥))
@@ -44,7 +44,7 @@ Heeds k v l =
 pub heeds : (k l : SeatState) (v : Vote) (h : Heard) → Hears k v h l → Heeds k v l
 heeds k l v h3 r = grind (arith, not_before, some_none)
 
--- the same of a board
+-- likewise for a board's reader
 abbrev pub Reads : ReaderState → Vote → ReaderState → Type 0
 Reads k v l =
     ((l ≡ k) × (position_of v ≡ k.position → noted_of k v.desk ≡ None → ⊥))

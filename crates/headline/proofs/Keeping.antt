@@ -58,7 +58,7 @@ module _ {Disk Why : Type 0} (s : Setting Disk Why) where
     abbrev KeptAt : Node Disk → List Message → Type 0
     KeptAt y out = NodeKept y.version d theirs x.process y.process out
 
-    -- a desk has gone on so
+    -- a running desk has gone on like this
     module _ (k l : DeskState Disk) (out : List Message) (e : x.process ≡ Running k) (h : DeskKept (s.view d x.version) d theirs k l out) where
       grown : Within (process_votes x.process) l.votes
       grown = rw e h.grows
@@ -80,7 +80,7 @@ module _ {Disk Why : Type 0} (s : Setting Disk Why) where
       after_receive ReceiveAnswer.DeviceFailed answer y p = broken answer y p
       after_receive _ answer y p = runs_on y x.due p.1
 
-    -- the same, of a desk that is told to be down
+    -- likewise for a desk that is down
     module _ (votes : List Ballot) (old : Disk) (e : x.process ≡ Down votes old) (f : ProcessFine x.version d theirs x.process) where
       after_open : (opening : Opening Disk) (answer : Answer Why) (y : Node Disk) → Opens (s.view d x.version) s.rules d old opening
           → AfterOpen (s.view d x.version) x votes opening answer y → KeptAt y []

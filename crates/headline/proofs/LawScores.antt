@@ -1,4 +1,4 @@
--- Each book that is shown is legal and has a score by the Laws, and what is shown as its score is that.
+-- Each shown book is legal and has a score by the Laws, and that score is what is shown.
 use Rattle.std.proofs.Common.{◌≡◌, ℕ, ◌+◌, ◌≤◌, Bool, cond, Some, None, List, [], ◌∷◌, ◌++◌, length, refl, sym, subst, inl, inr, arith}
 use Rattle.std.specs.Prelude.{All, not, slice_get}
 use Rattle.std.proofs.lemmas.List.{append-nil, append_assoc}
@@ -72,10 +72,10 @@ range_after [] all h r = r
 range_after (x ∷ xs) all h r =
     range_more (is_void x.item) h x xs (range_after xs (All-tail (λ (s : Placed). IsPlain s.item) x xs all)) r (All-head (λ (s : Placed). IsPlain s.item) x xs all)
 
--- ---- books of entries that are taken one after the other
+-- ---- books whose entries are taken one after the other
 
 module _ (n : ℕ) (one : 1 ≤ n) (two : n ≤ 2) where
-  -- this book has a score
+  -- the book has a score
   abbrev HasScore : List Entry → Type 0
   HasScore book = (score : Standing) × IsKept n book (clean_items_of book) score
 
@@ -98,7 +98,7 @@ module _ (n : ℕ) (one : 1 ≤ n) (two : n ≤ 2) where
       let next = kept-push n book (clean_items_of book) k.0 m e kept r (none, stands n (history_of new) one two (legal_now n new legal) range) in
       (m, subst (λ (items : List Placed). IsKept n new items m) (sym is) next)
 
--- ---- books of entries that both voted for
+-- ---- books of entries that both desks voted for
 
 get_middle : (xs : List Entry) (e : Entry) (es : List Entry) → slice_get (xs ++ e ∷ es) (length xs) ≡ Some e
 get_middle [] e es = refl
@@ -112,7 +112,7 @@ both_front own theirs place (x ∷ xs) ys h = (h.0, both_front own theirs (place
 abbrev pub RulesAreLaws : {Disk Why : Type 0} → Setting Disk Why → ℕ → Type 0
 RulesAreLaws s innings = (book : List Entry) (e : Entry) → s.rules book e ≡ None → book_refusal innings book e ≡ None
 
--- what is shown as the score of a book is the standing of its history
+-- what is shown as a book's score is the standing of its history
 abbrev pub ShowsStandings : {Disk Why : Type 0} → Setting Disk Why → ℕ → Type 0
 ShowsStandings s innings = (book : List Entry) (score : Standing) → s.shows book score → StandsFor score innings (history_of book)
 
@@ -153,7 +153,7 @@ module _ {Disk Why : Type 0} (s : Setting Disk Why) (innings : ℕ) (laws : Rule
     penned_entry w (m ∷ ms) b all (inl p) = subst IsEvent p.0 (All-pop IsEvent (events_of (m ∷ ms)) (events_of ms) (Some m.event) refl all).1
     penned_entry w (m ∷ ms) b all (inr h) = penned_entry w ms b (All-pop IsEvent (events_of (m ∷ ms)) (events_of ms) (Some m.event) refl all).0 h
 
-    -- where what was penned has its numbers in their ranges
+    -- if the numbers of every penned entry are in range
     pub shown_scored : (version : FileVersion) (n : ℕ) (w : Configuration Disk) (ms : List (Moment Disk Why)) → Begins s version n w → Run s w ms
         → ((b : Ballot) → WasPenned w ms A b → IsEntry b.entry) → AllHaveScores innings (last_of w ms)
     shown_scored version n w ms e r entries t book shows =

@@ -1,4 +1,4 @@
--- In each run seats and readers keep just what is noted.
+-- In each run seats and readers keep exactly the noted votes.
 use Rattle.std.proofs.Common.{inl, inr, arith, ◌≡◌, ℕ, suc, None, option_and_then, List, [], ◌∷◌, refl, ap, ◌∙◌}
 use Rattle.agree_core.specs.declared.messages.{DeskId.DeskId}
 use Rattle.agree_core.specs.Boards.{BoardState}

@@ -1,4 +1,4 @@
--- How an event leaves what a station keeps, and that this is what is noted.
+-- What an event leaves of the votes that a station keeps, and that these are the noted votes.
 use Rattle.std.proofs.Common.{arith, ◌≡◌, ◌≢◌, ◌↔◌, Option, Some, None, List, ◌∷◌, refl, sym, ap, ◌∙◌, inl, inr}
 use Rattle.notation.specs.declared.entry.Entry.{Entry}
 use Rattle.agree_core.specs.declared.{messages.DeskId.DeskId, position.Position.Position}
@@ -12,18 +12,18 @@ use Rattle.headline.specs.Noted.{Brings, HasNoted, IsBrought, IsFound, beginning
 use Rattle.headline.specs.KeptVotes.{kept_at}
 
 module _ {Disk Why : Type 0} (s : Setting Disk Why) where
-  -- the station at its position keeps this vote
+  -- the station keeps this vote, for its position
   abbrev pub KeepsVote : Configuration Disk → Station → DeskId → Ballot → Type 0
   KeepsVote w t c b = (position_at w t ≡ Some b.at) × (kept_at w t c ≡ Some b.entry)
 
-  -- it goes on at its position, with what it kept, and nothing was brought that it lacked
+  -- the station stays at its position with the votes that it kept, and none was brought that it lacked
   pub record Stays (w : Configuration Disk) (m : Moment Disk Why) (t : Station) : Type 0 where
     pub on : m.event ≢ beginning_of t
     pub at : position_at m.after t ≡ position_at w t
     pub keeps : (c : DeskId) → kept_at m.after t c ≡ kept_at w t c
     pub none : (c : DeskId) (b : Ballot) → IsBrought w m t c b → kept_at w t c ≡ None → ⊥
 
-  -- it goes on at its position, with a vote more, that was brought
+  -- the station stays at its position and keeps one more vote, which was brought
   pub record Adds (w : Configuration Disk) (m : Moment Disk Why) (t : Station) (c : DeskId) (b : Ballot) : Type 0 where
     pub on : m.event ≢ beginning_of t
     pub at : position_at m.after t ≡ Some b.at
@@ -32,7 +32,7 @@ module _ {Disk Why : Type 0} (s : Setting Disk Why) where
     pub has : kept_at m.after t c ≡ Some b.entry
     pub rest : kept_at m.after t (other c) ≡ kept_at w t (other c)
 
-  -- it is at another position, or begins there with the vote that was found
+  -- the station is at another position, or begins there with the vote found in its file
   abbrev pub Moves : Configuration Disk → Moment Disk Why → Station → Type 0
   Moves w m t = ((at : Position) → position_at w t ≡ Some at → position_at m.after t ≡ Some at → ⊥) × ((c : DeskId) → kept_at m.after t c ≡ None) × (m.event ≢ beginning_of t)
 
@@ -50,7 +50,7 @@ module _ {Disk Why : Type 0} (s : Setting Disk Why) where
   found_begins : (w : Configuration Disk) (m : Moment Disk Why) (t : Station) (c : DeskId) (b : Ballot) → t ≡ Station.Desk c → IsFound s w m c b → m.event ≡ beginning_of t
   found_begins w m t c b e f = f.0 ∙ sym (ap beginning_of e)
 
-  -- what is noted is kept, at this station
+  -- this station keeps exactly the noted votes
   abbrev pub KeepsAt : Configuration Disk → List (Moment Disk Why) → Station → Type 0
   KeepsAt w ms t = (c : DeskId) (b : Ballot) → HasNoted s w ms t c b ↔ KeepsVote (last_of w ms) t c b
 

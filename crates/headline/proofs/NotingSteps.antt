@@ -1,4 +1,4 @@
--- How each event leaves what a station keeps.
+-- What each event leaves of the votes that a station keeps.
 use Rattle.std.proofs.Common.{arith, ◌≡◌, ◌≢◌, ℕ, Option, Some, None, option_map, option_and_then, List, [], ◌∷◌, refl, sym, ap, ◌∙◌, subst, inl, inr}
 use Rattle.std.specs.Prelude.{slice_get}
 use Rattle.notation.specs.declared.entry.Entry.{Entry}
@@ -30,7 +30,7 @@ use Rattle.headline.proofs.Keeping.{Fine, running, node_fine}
 use Rattle.headline.proofs.Noting.{Begun, Leaves, More, Same}
 
 module _ {Disk Why : Type 0} (s : Setting Disk Why) where
-  -- the station is at this position, and keeps these
+  -- the station is at this position and keeps these votes
   abbrev SeenAt : Configuration Disk → Station → Position → (DeskId → Option Entry) → Type 0
   SeenAt w t at kept = (position_at w t ≡ Some at) × ((c : DeskId) → kept_at w t c ≡ kept c)
 
@@ -49,7 +49,7 @@ module _ {Disk Why : Type 0} (s : Setting Disk Why) where
   at_board : (w : Configuration Disk) (n : ℕ) (k : BoardState) → board_at w.boards n ≡ Some k → SeenAt w (Station.Board n) k.reader.position (λ c. noted_of k.reader c)
   at_board w n k e = (ap (option_map (λ (k : BoardState). k.reader.position)) e, λ c. ap (option_and_then (λ (k : BoardState). noted_of k.reader c)) e)
 
-  -- a desk that was put there
+  -- the desk's node is the one that was put there
   pub there : (w new : Configuration Disk) (d : DeskId) (y : Node Disk) (out : List Message) → new ≡ with_node w d y out → node new d ≡ y
   there w new d y out e = grind arith
 
@@ -57,7 +57,7 @@ module _ {Disk Why : Type 0} (s : Setting Disk Why) where
     pub elsewhere : (t : Station) → station_of m.event ≢ t → SameAt w m.after t → Leaves s w m t
     elsewhere t n h = Same (grind arith)
 
-    -- a desk that runs on from one seat to another
+    -- a desk runs on, from one seat to another
     record Runs (d : DeskId) (k l : SeatState) : Type 0 where
       pub on : m.event ≢ Event.Open d
       pub from : SeenAt w (Station.Desk d) k.position (λ c. kept_by_seat k d c)
@@ -81,7 +81,7 @@ module _ {Disk Why : Type 0} (s : Setting Disk Why) where
     heeded n d k l v given desk r sent told (inr (inl p)) = More v.desk (record { at = k.position; entry = v.entry }) (grind (arith, other_not))
     heeded n d k l v given desk r sent told (inr (inr p)) = runs_far d k l r p.0 p.1 p.2
 
-    -- what runs at a desk that was put there, or that it is down
+    -- the node put at desk d runs with this seat, or is down
     module _ (d : DeskId) (y : Node Disk) (is : node m.after d ≡ y) where
       runs_from : (k l : DeskState Disk) → m.event ≢ Event.Open d → (node w d).process ≡ Running k → y.process ≡ Running l → Runs d k.seat l.seat
       runs_from k l n p q = record { on = n; from = at_desk w d k p; to = at_desk m.after d l (ap (λ (z : Node Disk). z.process) is ∙ q) }
@@ -99,7 +99,7 @@ module _ {Disk Why : Type 0} (s : Setting Disk Why) where
           heeded n d k.seat l.seat v p desk (runs_from k l (λ x. cc) q (ap (λ (z : Node Disk). z.process) a.1)) (given_vote w.sent n v sent) (subst IsVoteAnswer (sym a.0) tt) (heeds k.seat l.seat v h r.1)
       given n k l v h4 out p desk q sent r a = grind arith
 
-      -- a desk that begins keeps its last vote alone
+      -- a desk that is opened keeps its last vote alone
       opens : (k : DeskState Disk) (votes : List Ballot) (n : ℕ) → m.event ≡ Event.Open d → y.process ≡ Running k → k.seat ≡ seat_of d votes → m.answer ≡ Answer.Opened n
           → (s.view d (node w d).version).reads (process_disk (node w d).process) ≡ Some votes → Leaves s w m (Station.Desk d)
       opens k [] n opened p seat told found = Begun (opened, λ c b at. (λ q. grind (arith, none), λ q. grind arith))
@@ -119,7 +119,7 @@ module _ {Disk Why : Type 0} (s : Setting Disk Why) where
           → Opens (s.view d (node w d).version) s.rules d disk opening → AfterOpen (s.view d (node w d).version) (node w d) votes opening m.answer y → Leaves s w m (Station.Desk d)
       opened votes disk opening h0 h1 h2 h3 = grind (arith, opens)
 
-    -- what a step at a desk leaves there
+    -- what a step leaves at a desk
     pub desk_leaves : (d : DeskId) (event : Event) (y : Node Disk) (out : List Message) → Fine s w → m.event ≡ event → station_of event ≡ Station.Desk d → node m.after d ≡ y
         → AtDesk s w.sent d event (node w d) m.answer y out → Leaves s w m (Station.Desk d)
     desk_leaves d (Event.Pen c e) y out f q h t p = let same : c ≡ d = cc in pens d y t p.0 p.1 e p.2 out (q ∙ ap (λ (x : DeskId). Event.Pen x e) same) p.3 p.4 p.5
@@ -129,7 +129,7 @@ module _ {Disk Why : Type 0} (s : Setting Disk Why) where
         given d y t n p.0 p.1 p.2 p.3 out (q ∙ ap (Event.Give n) h) seat.desk p.4 p.5 p.6 p.7
     desk_leaves d h1 y out f q h t p = grind (arith, opened)
 
-    -- what a step at a board leaves there
+    -- what a step leaves at a board
     module _ (n : ℕ) (k l : BoardState) (here : board_at w.boards n ≡ Some k) (is : board_at m.after.boards n ≡ Some l) where
       board_stays : m.event ≢ Event.Wipe n → l.reader ≡ k.reader → ((c : DeskId) (b : Ballot) → IsBrought w m (Station.Board n) c b → noted_of k.reader c ≡ None → ⊥)
           → Leaves s w m (Station.Board n)

@@ -1,4 +1,4 @@
--- What each pen keeps of a desk's votes holds of its votes, of what is read and of every image.
+-- A property that every pen preserves holds of a desk's votes, of the votes read from its disk, and of every image.
 use Rattle.std.proofs.Common.{arith, ◌≡◌, ℕ, Some, List, [], ◌∷◌, sym, ap, ◌∙◌, subst, inl, inr}
 use Rattle.notation.specs.declared.entry.Entry.{Entry}
 use Rattle.agree_core.specs.declared.messages.{DeskId.DeskId, Message.Message}
@@ -23,7 +23,7 @@ use Rattle.headline.proofs.AtStations.{at_desk}
 use Rattle.headline.proofs.Keeping.{votes_at}
 
 module _ {Disk Why : Type 0} (s : Setting Disk Why) where
-  -- of these votes, of those that a read gives, and of those of each image
+  -- it holds of these votes, of the votes that a read gives, and of those of each image
   pub record HeldBy (Q : List Ballot → Type 0) (view : FileView Disk) (votes : List Ballot) (disk : Disk) : Type 0 where
     pub of_votes : Q votes
     pub of_reads : (vs : List Ballot) → view.reads disk ≡ Some vs → Q vs
@@ -32,7 +32,7 @@ module _ {Disk Why : Type 0} (s : Setting Disk Why) where
   abbrev pub ProcessHolds : (List Ballot → Type 0) → FileView Disk → Process Disk → Type 0
   ProcessHolds Q view x = HeldBy Q view (process_votes x) (process_disk x)
 
-  -- a pen that was told so may have stored its vote
+  -- a pen with this answer may have stored its vote
   abbrev Stores : PenAnswer Why → Type 0
   Stores (PenAnswer.Refused why) = ⊥
   Stores _ = Unit {0}
@@ -77,7 +77,7 @@ module _ {Disk Why : Type 0} (s : Setting Disk Why) where
   abbrev pub BothHold : (DeskId → List Ballot → Type 0) → Configuration Disk → Type 0
   BothHold Q w = (d : DeskId) → NodeHolds (Q d) (s.view d) (node w d)
 
-  -- each pen of this event keeps it
+  -- each pen of this event preserves the property
   abbrev pub PensKeep : (DeskId → List Ballot → Type 0) → Configuration Disk → Event → Answer Why → Type 0
   PensKeep Q w event answer =
       (d : DeskId) (k : DeskState Disk) (e : Entry) → event ≡ Event.Pen d e → MayStore answer

@@ -1,4 +1,4 @@
--- Books of one length have one score.
+-- Books of equal length have one score.
 use Rattle.std.proofs.Common.{arith}
 use Rattle.std.proofs.Common.{◌≡◌, ℕ, List, sym, ◌∙◌}
 use Rattle.ball_laws.specs.History.{History}

@@ -1,4 +1,4 @@
--- The call that brings the second of two equal votes takes their entry.
+-- The call that brings the second of two equal votes takes their entry into the book.
 use Rattle.std.proofs.Common.{arith, ◌≡◌, ◌≢◌, ◌⊎◌, ℕ, Option, Some, None, List, [], ◌∷◌, ◌++◌, sym, ap, inl, inr}
 use Rattle.std.specs.Prelude.{slice_get}
 use Rattle.notation.specs.declared.entry.Entry.{Entry}
@@ -28,7 +28,7 @@ use Rattle.headline.proofs.NotedRuns.{keeps_noted}
 use Rattle.headline.proofs.ShownBooks.{none_keeps_both}
 
 module _ {Disk Why : Type 0} (s : Setting Disk Why) where
-  -- a station shows this book, and keeps this vote for its position
+  -- the station shows this book, and keeps this vote for its position
   abbrev Keeps : Configuration Disk → Station → List Entry → DeskId → Ballot → Type 0
   Keeps w t book c b = Shows w t book × (position_at w t ≡ Some b.at) × (kept_at w t c ≡ Some b.entry)
 
@@ -63,7 +63,7 @@ module _ {Disk Why : Type 0} (s : Setting Disk Why) where
   second_taken w event answer new (Station.Board number) book b c f h (inl (apart, (n, e, sent))) p i = board_given w number c n book b answer new f h sent (rw e at p) i
   second_taken w event answer new t book b c f h (inr (here, e)) p i = rw here (desk_penned w c book b answer new (rw here at h) (rw e at p) i)
 
-  -- of what is noted, since that is kept
+  -- it holds for noted votes, since these are the kept ones
   pub takes_second : (version : FileVersion) (n : ℕ) (w : Configuration Disk) → Begins s version n w → (ms : List (Moment Disk Why)) → Run s w ms → TakesSecond s w ms
   takes_second version n w e [] r = tt
   takes_second version n w e (m ∷ ms) r = λ t book b c shown noted brought.

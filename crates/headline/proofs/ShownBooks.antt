@@ -1,4 +1,4 @@
--- What stations show in a run is one book, of entries that both desks voted for.
+-- All stations of a run show one book, of entries that both desks voted for.
 use Rattle.std.proofs.Common.{◌≡◌, ℕ, Option, Some, None, option_and_then, List, [], ◌∷◌, subst, inl, inr, arith}
 use Rattle.notation.specs.declared.entry.Entry.{Entry}
 use Rattle.agree_core.specs.declared.messages.{DeskId.DeskId}
@@ -23,7 +23,7 @@ use Rattle.headline.proofs.BoardKeeping.{board_fine_at, item_at}
 use Rattle.headline.proofs.Keeping.{Fine, Grows, ProcessFine, all_justified, fine_disk, run_keeps, node_fine, step_keeps, votes_at}
 
 module _ {Disk Why : Type 0} (s : Setting Disk Why) where
-  -- for each entry of a book that is shown both have a vote
+  -- both desks have a vote for each entry of a shown book
   pub shown_both : (w : Configuration Disk) (t : Station) (book : List Entry) → Fine s w → Shows w t book → AllBoth (all_votes w).a (all_votes w).b 0 book
   shown_both w (Station.Board n) book f h =
       let k = board_fine_at (all_votes w) w.boards n h.0 h.1 f.on_boards in
@@ -42,7 +42,7 @@ module _ {Disk Why : Type 0} (s : Setting Disk Why) where
   same_votes : (w : Configuration Disk) → Grows s w w
   same_votes w = (same (all_votes w).a, same (all_votes w).b)
 
-  -- what is so at some moment is so of a configuration that is fine, and whose votes are among the last ones
+  -- what holds at some moment holds of a fine configuration whose votes are among the last ones
   pub moment : (w : Configuration Disk) (ms : List (Moment Disk Why)) (P : Configuration Disk → Type 0) → Fine s w → Run s w ms → AtSomeMoment w ms P
       → (v : Configuration Disk) × Fine s v × Grows s v (last_of w ms) × P v
   moment w [] P f r h = (w, f, same_votes w, h)

@@ -1,4 +1,4 @@
--- No event of a run meets two votes of one desk, votes that are no book or a file that isn't sound.
+-- No event of a run meets two votes of one desk for a position, votes that make no book, or an unsound file.
 use Rattle.std.proofs.Common.{◌≡◌, ◌≢◌, ℕ, Bool, Option, Some, None, List, [], ◌∷◌, ◌++◌, length, sym, ap, ◌∙◌, subst, inl, inr, arith, ⊎_elim}
 use Rattle.std.proofs.Common.{append-nil, append_assoc, length-append}
 use Rattle.notation.specs.declared.entry.Entry.{Entry}
@@ -35,7 +35,7 @@ use Rattle.headline.proofs.Given.{given_fine}
 use Rattle.headline.proofs.Keeping.{Fine, ProcessFine, all_justified, begins_fine, run_keeps, running, node_fine, votes_at}
 use Rattle.headline.proofs.PennedVotes.{BothHold, HeldBy, PensKeep, begins_hold, step_holds}
 
--- the list after each vote was one that the rules take
+-- the rules took the voted list after each vote
 abbrev pub Lawful : {Why : Type 0} → Rules Why → List Ballot → Type 0
 Lawful rules [] = Unit {0}
 Lawful rules (b ∷ bs) = AllTaken rules [] (voted_list (b ∷ bs)) × Lawful rules bs
@@ -43,17 +43,17 @@ Lawful rules (b ∷ bs) = AllTaken rules [] (voted_list (b ∷ bs)) × Lawful ru
 lawful_list : {Why : Type 0} (rules : Rules Why) (bs : List Ballot) → Lawful rules bs → AllTaken rules [] (voted_list bs)
 lawful_list rules bs h0 = grind arith
 
--- the book that a file shows is one that the rules take
+-- the rules take the book that a file shows
 taken_book : {Why : Type 0} (rules : Rules Why) (b : Ballot) (bs : List Ballot) → Lawful rules bs → AllTaken rules [] (book_of (b ∷ bs))
 taken_book rules b [] h = tt
 taken_book rules b (c ∷ rest) h = grind (arith, taken_book rules c rest h.1)
 
--- the last of entries that are all taken
+-- if all entries are taken, the last one is
 taken_last : {Why : Type 0} (rules : Rules Why) (book xs : List Entry) (e : Entry) → AllTaken rules book (xs ++ e ∷ []) → rules (book ++ xs) e ≡ None
 taken_last rules book [] e h = rw append-nil h.0
 taken_last rules book (x ∷ xs) e h = rw (sym (append_assoc book (x ∷ []) xs)) (taken_last rules (book ++ x ∷ []) xs e h.1)
 
--- when each vote of a file was cast, its entry was taken after a book as long as its place, of entries that both voted for
+-- when a vote of a file was cast, its entry was taken after a book as long as its place, whose entries both desks voted for
 pub taken_at : {Why : Type 0} (rules : Rules Why) (theirs bs : List Ballot) → Justified theirs bs → Lawful rules bs → (b : Ballot) → In b bs
     → (book : List Entry) × AllBoth bs theirs 0 book × (length book ≡ b.at.place) × (rules book b.entry ≡ None)
 taken_at rules theirs [] j l b i = absurd i
@@ -64,7 +64,7 @@ pub same_length : (xs ys : List Entry) → BeginsWith ys xs → length xs ≡ le
 same_length xs ys ([], e) size = sym (append-nil xs) ∙ e
 same_length xs ys (r ∷ rs, e) size = let long = ap length e in absurd (omega (arith, length-append xs (r ∷ rs)))
 
--- books of one length, whose entries were settled by some of these votes, are one book
+-- two books of equal length, whose entries are settled by some of these votes, are equal
 pub one_of_length : (v a b : AllVotes) → AllJustified v → (xs ys : List Entry) → ballots.VotesGrow a v → ballots.VotesGrow b v
     → AllSettled a 0 xs → AllSettled b 0 ys → length xs ≡ length ys → xs ≡ ys
 one_of_length v a b j xs ys g h p q size =
@@ -73,7 +73,7 @@ one_of_length v a b j xs ys g h p q size =
 one_both : (v : AllVotes) (xs ys : List Entry) → AllJustified v → AllBoth v.a v.b 0 xs → AllBoth v.a v.b 0 ys → length xs ≡ length ys → xs ≡ ys
 one_both v xs ys j p q size = one_of_length v v v j xs ys (same v.a, same v.b) (same v.a, same v.b) (both_settled v j 0 xs p) (both_settled v j 0 ys q) size
 
--- a desk has one vote at a position
+-- a desk has one vote for a position
 two_entries : (theirs votes : List Ballot) (x : Option Entry) (v : Vote) (e : Entry) (at : _) → Justified theirs votes → NotedFine votes at x → x ≡ Some e → In (ballot_of v) votes
     → position_of v ≡ at → v.entry ≢ e → ⊥
 two_entries theirs votes x v e at h0 h1 h2 h3 h4 h5 = grind (arith, one_vote)
@@ -105,7 +105,7 @@ module _ {Disk Why : Type 0} (s : Setting Disk Why) where
   turned : (w : Configuration Disk) (d : DeskId) (book : List Entry) → AllBoth (votes_by (all_votes w) d) (votes_by (all_votes w) (other d)) 0 book → AllBoth (all_votes w).a (all_votes w).b 0 book
   turned w d book h = grind (arith, both_turned)
 
-  -- the entry of a vote is taken after the book of its place, of entries that both voted for
+  -- the rules take a vote's entry after the book of its place, whose entries both desks voted for
   pub voted_taken : (w : Configuration Disk) (d : DeskId) (b : Ballot) (book : List Entry) → Fine s w → BothHold s (λ d. Lawful s.rules) w → In b (votes_by (all_votes w) d)
       → AllBoth (all_votes w).a (all_votes w).b 0 book → length book ≡ b.at.place → s.rules book b.entry ≡ None
   voted_taken w d b book f l i both size =
@@ -122,7 +122,7 @@ module _ {Disk Why : Type 0} (s : Setting Disk Why) where
       → AfterOpen (s.view d x.version) x votes opening answer y → IsSoundAnswer event answer
   open_sound event d theirs x votes old opening answer y h0 h1 h2 h3 = grind (arith, lawful_list, not_both)
 
-  -- what an event at a desk is answered
+  -- the answer to an event at a desk is sound
   desk_sound : (w : Configuration Disk) (d : DeskId) (event : Event) (answer : Answer Why) (y : Node Disk) (out : List Message) → Fine s w → BothHold s (λ d. Lawful s.rules) w
       → AtDesk s w.sent d event (node w d) answer y out → IsSoundAnswer event answer
   desk_sound w d (Event.Give n t) answer y out f l p =

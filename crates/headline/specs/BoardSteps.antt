@@ -7,18 +7,18 @@ use Rattle.headline.specs.Setting.{Setting}
 use Rattle.headline.specs.Answers.{Answer, Ticked, Done, board_told}
 use Rattle.headline.specs.Given.{IsGiven}
 
--- what an event does at the board that it names, what that hands out and answers
+-- what an event does at the board that it names: the messages handed out, and the answer
 abbrev pub AtBoard :
     {Disk Why : Type 0} → Setting Disk Why → List Message → Event
     → BoardState → Answer Why → BoardState → List Message → Type 0
--- it is given the message of this number, or an ask
+-- the board is given the message of this number, or an ask
 AtBoard s sent (Event.Give n t) k answer l out =
     (m : Message) × (received : BoardAnswer) × IsGiven sent n m
     × BoardReceives s.rules k m received l × (answer ≡ board_told received) × (out ≡ [])
--- it asks for what it lacks, and is as it was
+-- the board asks for what it lacks, and stays as it was
 AtBoard s sent (Event.Tick t) k answer l out =
     BoardTicks k out × (answer ≡ Ticked (length out)) × (l ≡ k)
--- it begins empty
+-- the board begins empty
 AtBoard s sent (Event.Wipe n) k answer l out = (l ≡ fresh_board) × (answer ≡ Done) × (out ≡ [])
--- all else is for desks
+-- no other event is for a board
 AtBoard s sent _ k answer l out = ⊥

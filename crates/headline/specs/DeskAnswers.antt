@@ -1,4 +1,4 @@
--- How a desk's node stands after a call, and what is answered.
+-- A desk's node after a call, and the call's answer.
 use Rattle.std.specs.Prelude.{◌≡◌, Bool, true, false, List, [], ◌∷◌, length}
 use Rattle.agree_core.specs.declared.messages.Message.{Message}
 use Rattle.agree_core.specs.Ballots.{Ballot}
@@ -9,11 +9,11 @@ use Rattle.headline.specs.Configurations.{Running, Down, Node}
 use Rattle.headline.specs.Answers.{Answer, Penned, NotPenned, Told, Asked, HasFailed, Opened, Unsound, NoBook}
 use Rattle.headline.specs.DeskFaults.{Breaks, StaysDown}
 
--- a call of a desk has ended without a fault: the desk runs on, and what is due stays so
+-- a desk's call ended without a fault: the desk runs on, and a due fault stays due
 abbrev pub RunsOn : {Disk : Type 0} → Node Disk → DeskState Disk → Node Disk → Type 0
 RunsOn x l y = y ≡ record x { process = Running l }
 
--- the desk has gone on so and answered so to a pen
+-- the node and the answer after a pen
 abbrev pub AfterPen :
     {Disk Why : Type 0} → FileView Disk → Node Disk → PenAnswer Why → DeskState Disk
     → Answer Why → Node Disk → Type 0
@@ -21,12 +21,12 @@ AfterPen view x (PenAnswer.Penned settled) l answer y = (answer ≡ Penned settl
 AfterPen view x (PenAnswer.Refused why) l answer y = (answer ≡ NotPenned why) × RunsOn x l y
 AfterPen view x PenAnswer.DeviceFailed l answer y = Breaks view x l answer y
 
--- whether anything was handed out
+-- whether any message was handed out
 abbrev pub has_any : List Message → Bool
 has_any [] = false
 has_any (m ∷ ms) = true
 
--- the desk has gone on so, handed out these messages and answered so to what it was given
+-- the node and the answer after the desk was given a message and handed out these
 abbrev pub AfterReceive :
     {Disk Why : Type 0} → FileView Disk → Node Disk → ReceiveAnswer → DeskState Disk → List Message
     → Answer Why → Node Disk → Type 0
@@ -35,8 +35,8 @@ AfterReceive view x (ReceiveAnswer.Told h) l out answer y = (answer ≡ Told h) 
 AfterReceive view x ReceiveAnswer.Asked l out answer y = (answer ≡ Asked (has_any out)) × RunsOn x l y
 AfterReceive view x ReceiveAnswer.DeviceFailed l out answer y = Breaks view x l answer y
 
--- what has come of opening the file of a desk that is down, whose votes were these; an opening that is out of memory is
--- no step
+-- The node and the answer after the file of a desk that was down, with these votes, was opened. An opening that ran out of
+-- memory is no step.
 abbrev pub AfterOpen :
     {Disk Why : Type 0} → FileView Disk → Node Disk → List Ballot → Opening Disk
     → Answer Why → Node Disk → Type 0

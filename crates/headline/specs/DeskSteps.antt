@@ -12,25 +12,25 @@ use Rattle.headline.specs.Given.{IsGiven}
 use Rattle.headline.specs.DeskAnswers.{AfterOpen, AfterPen, AfterReceive}
 use Rattle.headline.specs.Mishaps.{Befalls}
 
--- what an event does at the desk that it names, what that hands out and answers
+-- what an event does at the desk that it names: the messages handed out, and the answer
 abbrev pub AtDesk :
     {Disk Why : Type 0} → Setting Disk Why → List Message → DeskId → Event
     → Node Disk → Answer Why → Node Disk → List Message → Type 0
--- its scorer pens an entry, while it runs
+-- its scorer pens an entry, while the desk runs
 AtDesk s sent d (Event.Pen _ e) x answer y out =
     (k : DeskState _) × (l : DeskState _) × (penned : PenAnswer _) × (x.process ≡ Running k)
     × Pens (s.view d x.version) s.rules k e penned l out × AfterPen (s.view d x.version) x penned l answer y
--- while it runs it is given the message of this number, or an ask
+-- the running desk is given the message of this number, or an ask
 AtDesk s sent d (Event.Give n _) x answer y out =
     (k : DeskState _) × (l : DeskState _) × (m : Message) × (received : ReceiveAnswer)
     × (x.process ≡ Running k) × IsGiven sent n m
     × Receives (s.view d x.version) k m received l out × AfterReceive (s.view d x.version) x received l out answer y
--- while it runs it says what it has to say, and is as it was
+-- the running desk sends what it has to send, and stays as it was
 AtDesk s sent d (Event.Tick _) x answer y out =
     (k : DeskState _) × (x.process ≡ Running k) × Ticks k out × (answer ≡ Ticked (length out)) × (y ≡ x)
--- while it is down it is opened from its file
+-- a desk that is down is opened from its file
 AtDesk s sent d (Event.Open _) x answer y out =
     (votes : List Ballot) × (disk : _) × (opening : Opening _) × (x.process ≡ Down votes disk)
     × Opens (s.view d x.version) s.rules d disk opening × AfterOpen (s.view d x.version) x votes opening answer y × (out ≡ [])
--- its process ends, it loses power, its disk is to fail, or its file is migrated
+-- its process ends, it loses power, its disk is set to fail, or its file is migrated
 AtDesk s sent d event x answer y out = Befalls s d event x answer y out

@@ -1,4 +1,4 @@
--- Events: which are such as a run takes, and which station each is for.
+-- Events: which of them a run takes, and which station each is for.
 use Rattle.std.specs.Prelude.{◌≤◌}
 use Rattle.notation.specs.Written.{IsEntry}
 use Rattle.headline.specs.declared.event.{Event.Event, Station.Station}
@@ -10,7 +10,7 @@ IsEvent (Event.FailAt d n) = 1 ≤ n
 IsEvent (Event.StopAt d n) = 1 ≤ n
 IsEvent _ = Unit {0}
 
--- which station an event is for
+-- the station that an event is for
 abbrev pub station_of : Event → Station
 station_of (Event.Pen d e) = Station.Desk d
 station_of (Event.Tick s) = s

@@ -1,4 +1,4 @@
--- What stations keep of the votes for their positions.
+-- The votes that stations keep for their positions.
 use Rattle.std.specs.Prelude.{◌≡◌, ◌↔◌, Option, Some, None, option_and_then, List}
 use Rattle.notation.specs.declared.entry.Entry.{Entry}
 use Rattle.agree_core.specs.declared.messages.DeskId.{DeskId}
@@ -13,7 +13,7 @@ use Rattle.headline.specs.Configurations.{Process, Running, Down, Configuration,
 use Rattle.headline.specs.Runs.{Moment, last_of}
 use Rattle.headline.specs.Noted.{HasNoted, position_at}
 
--- what a desk's seat, or a board's reader, keeps as a desk's vote for its position
+-- the vote of a desk that a desk's seat, or a board's reader, keeps for its position
 abbrev pub kept_by_seat : SeatState → DeskId → DeskId → Option Entry
 kept_by_seat seat A A = seat.mine
 kept_by_seat seat A B = seat.theirs
@@ -28,7 +28,7 @@ abbrev pub kept_at : {Disk : Type 0} → Configuration Disk → Station → Desk
 kept_at w (Station.Desk d) c = kept_by_process (node w d).process d c
 kept_at w (Station.Board n) c = option_and_then (λ (k : BoardState). noted_of k.reader c) (board_at w.boards n)
 
--- seats and readers keep just the votes that are noted
+-- seats and readers keep exactly the noted votes
 abbrev pub KeepsNoted : {Disk Why : Type 0} → Setting Disk Why → Configuration Disk → List (Moment Disk Why) → Type 0
 KeepsNoted s w ms =
     (t : Station) (c : DeskId) (b : Ballot) → HasNoted s w ms t c b

@@ -1,4 +1,4 @@
--- What holds in every run of a match, by whatever code, on whatever disks, in files of whatever form.
+-- What holds in every run of a match, with any code, any disks and any form of file.
 use Rattle.std.specs.Prelude.{ℕ, List}
 use Rattle.notation.specs.declared.entry.Entry.{Entry}
 use Rattle.corrections.specs.declared.refusal.Refusal.{Refusal}
@@ -27,21 +27,21 @@ pub record HoldsInRun
     {Disk Why : Type 0} (s : Setting Disk Why) (innings : ℕ) (w : Configuration Disk) (ms : List (Moment Disk Why))
     : Type 0 where
   pub headline : Headline s innings w ms
-  -- besides, all books are prefixes of the agreed list of the last votes, and both files show that list
+  -- besides, each book is a prefix of the agreed list of the last votes, and both files show that list
   pub within_agreed : WithinAgreed w ms
   pub by_files : FilesShowAgreed w ms
-  -- at each moment each vote of a desk follows the one before it, by what the other desk voted there
+  -- at each moment each vote of a desk follows from the one before it and the other desk's votes there
   pub justified : AtEachMoment w ms (λ v. AllJustified (all_votes v))
-  -- seats and readers keep just the votes that are noted
+  -- seats and readers keep exactly the noted votes
   pub noted : AfterEach ms (KeepsNoted s w)
-  -- no vote is lost; how the votes stand and are kept at each moment; and which answers never come
+  -- no vote is lost; how votes stand and are kept at each moment; and which answers never come
   pub votes_kept : AtEachEvent w ms KeepsVotes
   pub stands_fast : AtEachMoment w ms (StandsFast s)
   pub sound : AtEachEvent w ms (λ v m. IsSoundAnswer m.event m.answer)
 
--- on disks of this kind, of which `seen` is what is read, and `images` what a power loss may leave
+-- for disks of this kind, with `seen` as what is read, and `images` as what a power loss may leave
 module _ {Disk : Type 0} (seen : Disk → List ℕ) (images : Disk → Images) where
-  -- it holds in each run of a match of this number, whatever a file of either version shows of its bytes (`contents`)
+  -- it holds in each run of the match of this number, whatever a file of either version shows of its bytes (`contents`)
   abbrev pub HoldsInEachRun : Type 0
   HoldsInEachRun =
       (contents : FileVersion → FileContents) (game innings : ℕ) (version : FileVersion) (boards : ℕ) (w : Configuration Disk)

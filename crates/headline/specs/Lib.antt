@@ -1,6 +1,6 @@
--- What is claimed: Laws and Headline, with Besides and KeptVotes, over Runs, by what was Penned and Noted in them; Match is the Setting of
--- a match. A step of a run is Steps, by what desks (DeskSteps, DeskAnswers, Mishaps, DeskFaults, Migrations) and boards (BoardSteps) do and answer
--- (Answers), are given (Given), in Configurations at Events.
+-- Laws, Headline, Besides and KeptVotes are the claims, over Runs and the votes Penned and Noted in them; Match is the Setting
+-- of a match. Steps has a run's step: what desks (DeskSteps, DeskAnswers, Mishaps, DeskFaults, Migrations) and boards
+-- (BoardSteps) do, answer (Answers) and are given (Given), in Configurations at Events.
 pub mod Setting
 pub mod Match
 pub mod Events

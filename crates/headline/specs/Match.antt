@@ -1,4 +1,4 @@
--- The setting of a match: what files and books it goes by.
+-- The setting of a match: its files, rules and scores.
 use Rattle.std.specs.Prelude.{ℕ, List}
 use Rattle.match_laws.specs.Stands.{StandsFor}
 use Rattle.corrections.specs.CleanList.{history_of}
@@ -21,12 +21,12 @@ abbrev pub format_of : FileVersion → Format
 format_of Old = version_1
 format_of New = version_2
 
--- how long the largest file of this version is
+-- the length in bytes of the largest file of this version
 abbrev pub most_bytes : FileVersion → ℕ
 most_bytes version = room (format_of version) most_votes
 
--- the match of this number, with so many innings a side: what a file of each version shows of its bytes, and the
--- bytes that a disk has and may have after a power loss; as the score of a book the standing of its history is shown
+-- The match of this number, with this many innings a side: what a file of each version shows of its bytes, and the bytes that a
+-- disk has and may have after a power loss. The standing of a book's history is shown as its score.
 abbrev pub setting_of :
     {Disk : Type 0} → (FileVersion → FileContents) → (Disk → List ℕ) → (Disk → Images) → ℕ → ℕ → Setting Disk Refusal
 setting_of file seen images game innings =

@@ -1,4 +1,4 @@
--- What comes of migrating the file of a desk that is down.
+-- Migration of the file of a desk that is down.
 use Rattle.std.specs.Prelude.{◌≡◌, ◌⊎◌, Some, None, List, length}
 use Rattle.agree_core.specs.Ballots.{Ballot}
 use Rattle.agree_core.specs.FileView.{FileView, Holds, MaySync}
@@ -8,20 +8,20 @@ use Rattle.headline.specs.Configurations.{Down, Node}
 use Rattle.headline.specs.Answers.{Answer, Unsound, Migrated, OtherVersion}
 use Rattle.headline.specs.DeskFaults.{StaysDown}
 
--- what comes of migrating the old file of a desk that is down: a new file on another disk, or the old disk
+-- the result of migrating the old file of a desk that is down: a new file on another disk, or the old disk
 pub data Migration (Disk : Type 0) : Type 0 where
   ToNew : List Ballot → Disk → Migration Disk
   NotSound : Disk → Migration Disk
   Failed : Disk → Migration Disk
 
--- the new file has just the votes that the old one shows; else the old one may be synced, and that is all
+-- the new file has exactly the votes that the old one shows; otherwise the old one may be synced, and nothing more
 abbrev pub Migrates :
     {Disk : Type 0} → (FileVersion → FileView Disk) → Disk → Migration Disk → Type 0
 Migrates view old (ToNew votes new) = ((view Old).reads old ≡ Some votes) × Holds (view New) new votes
 Migrates view old (NotSound left) = ((view Old).reads old ≡ None) × MaySync (view Old) old left
 Migrates view old (Failed left) = MaySync (view Old) old left
 
--- the desk stays down: with the new file, and what is due on it; or with the old one
+-- the desk stays down: with the new file and its due fault, or with the old file
 abbrev pub AfterMigration :
     {Disk Why : Type 0} → (FileVersion → FileView Disk) → Node Disk → List Ballot → Migration Disk
     → Answer Why → Node Disk → Type 0
@@ -31,7 +31,7 @@ AfterMigration view x votes (NotSound left) answer y =
     ((answer ≡ Unsound) ⊎ (answer ≡ OtherVersion)) × (y ≡ record x { process = Down votes left })
 AfterMigration view x votes (Failed left) answer y = StaysDown (view Old) x votes left answer y
 
--- a file of the old version is migrated; one of the new version is of another one, and stays
+-- a file of the old version is migrated; a file of the new version is refused and stays
 abbrev pub MigratesAt :
     {Disk Why : Type 0} → (FileVersion → FileView Disk) → Node Disk → FileVersion → List Ballot → Disk
     → Answer Why → Node Disk → Type 0

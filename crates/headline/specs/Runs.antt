@@ -18,7 +18,7 @@ BeginsAt s version d x =
     (k : DeskState _) × (x ≡ record { version = version; process = Running k; due = None })
     × Creates (s.view d version) d k
 
--- two desks that were just created, so many empty boards, and nothing sent
+-- two desks that were just created, this many empty boards, and no message sent
 pub record Begins
     {Disk Why : Type 0} (s : Setting Disk Why) (version : FileVersion) (boards : ℕ) (w : Configuration Disk)
     : Type 0 where
@@ -27,7 +27,7 @@ pub record Begins
   pub boards_are_fresh : w.boards ≡ fresh_boards boards
   pub nothing_sent : w.sent ≡ []
 
--- an event, what it was answered, and the configuration after it
+-- an event, its answer, and the configuration after it
 pub record Moment (Disk Why : Type 0) : Type 0 where
   pub event : Event
   pub answer : Answer Why
@@ -38,29 +38,29 @@ abbrev pub last_of : {Disk Why : Type 0} → Configuration Disk → List (Moment
 last_of w [] = w
 last_of w (m ∷ ms) = m.after
 
--- from this configuration on, each moment is a step from the one before; that a match begins so is said apart (`Begins`)
+-- each moment is a step from the one before, the first from this configuration; how a match begins is said in `Begins`
 abbrev pub Run : {Disk Why : Type 0} → Setting Disk Why → Configuration Disk → List (Moment Disk Why) → Type 0
 Run s w [] = Unit {0}
 Run s w (m ∷ ms) = Run s w ms × Step s (last_of w ms) m.event m.answer m.after
 
--- at the start of a run, or after one of its events, the configuration was so
+-- the property holds at the start of a run, or after one of its events
 abbrev pub AtSomeMoment :
     {Disk Why : Type 0} → Configuration Disk → List (Moment Disk Why) → (Configuration Disk → Type 0) → Type 0
 AtSomeMoment w [] P = P w
 AtSomeMoment w (m ∷ ms) P = P m.after ⊎ AtSomeMoment w ms P
 
--- at the start of a run and after each of its events the configuration is so
+-- the property holds at the start of a run and after each of its events
 abbrev pub AtEachMoment :
     {Disk Why : Type 0} → Configuration Disk → List (Moment Disk Why) → (Configuration Disk → Type 0) → Type 0
 AtEachMoment w [] P = P w
 AtEachMoment w (m ∷ ms) P = P m.after × AtEachMoment w ms P
 
--- at the start of a run and after each of its events, it is so of the moments up to then
+-- at the start of a run and after each of its events, the property holds of the moments so far
 abbrev pub AfterEach : {Disk Why : Type 0} → List (Moment Disk Why) → (List (Moment Disk Why) → Type 0) → Type 0
 AfterEach [] P = P []
 AfterEach (m ∷ ms) P = P (m ∷ ms) × AfterEach ms P
 
--- its events and its answers, the oldest first
+-- the events, or the answers, of these moments, the oldest first
 abbrev pub events_of : {Disk Why : Type 0} → List (Moment Disk Why) → List Event
 events_of [] = []
 events_of (m ∷ ms) = events_of ms ++ m.event ∷ []

@@ -1,4 +1,4 @@
--- What a match is recorded by.
+-- The setting of a match: its files, rules and scores.
 use Rattle.std.specs.Prelude.{List}
 use Rattle.notation.specs.declared.entry.Entry.{Entry}
 use Rattle.match_laws.specs.declared.standing.Standing.{Standing}

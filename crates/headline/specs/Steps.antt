@@ -1,4 +1,4 @@
--- What an event makes of a configuration: a step at the station that it is for.
+-- A step of a configuration, at the station that an event is for.
 use Rattle.std.specs.Prelude.{◌≡◌, Some, List, ◌++◌}
 use Rattle.agree_core.specs.declared.messages.Message.{Message}
 use Rattle.agree_core.specs.Boards.{BoardState}
@@ -10,7 +10,7 @@ use Rattle.headline.specs.Answers.{Answer}
 use Rattle.headline.specs.DeskSteps.{AtDesk}
 use Rattle.headline.specs.BoardSteps.{AtBoard}
 
--- an event changes the station that it is for, and adds to the messages what that hands out
+-- an event changes the station that it is for, and adds the messages that this hands out
 abbrev pub StepAt :
     {Disk Why : Type 0} → Setting Disk Why → Configuration Disk → Event → Station → Answer Why → Configuration Disk → Type 0
 StepAt s w event (Station.Desk d) answer new =
@@ -21,7 +21,7 @@ StepAt s w event (Station.Board n) answer new =
     × AtBoard s w.sent event k answer l out
     × (new ≡ record w { boards = with_board w.boards n l; sent = w.sent ++ out })
 
--- so at the station that the event names
+-- the step at the station that the event names
 abbrev pub Step :
     {Disk Why : Type 0} → Setting Disk Why → Configuration Disk → Event → Answer Why → Configuration Disk → Type 0
 Step s w event answer new = StepAt s w event (station_of event) answer new

@@ -1,4 +1,4 @@
-//! What happens to the stations, one at a time.
+//! What happens to the stations, one event at a time.
 
 use agree_core::DeskId;
 use entry_log::Choice;
@@ -22,17 +22,17 @@ pub enum Event {
     Give(u32, Station),
     /// The desk's process ends.
     Kill(DeskId),
-    /// The desk and its disk lose power; which image is found then is a choice.
+    /// The desk and its disk lose power; the choice says which image is found then.
     Power(DeskId, Choice),
     /// The desk's n-th call of its disk from now on (a read, a write, a sync) fails.
     FailAt(DeskId, u32),
-    /// The desk's process stops in the n-th of these: that one fails, and all later ones until it is down.
+    /// The desk's process stops in its n-th disk call from now on: that call and all later ones fail until the desk is down.
     StopAt(DeskId, u32),
     /// The desk is opened from its file.
     Open(DeskId),
-    /// The board begins empty, as one does that was stopped.
+    /// The board begins empty, like a board that was stopped.
     Wipe(u8),
-    /// The desk's file of version 1 is written anew as version 2.
+    /// The desk's file of version 1 is rewritten as version 2.
     Migrate(DeskId),
 }
 
@@ -40,7 +40,7 @@ impl Event {
     ghost use Rattle.std.specs.Prelude.{◌≡◌};
     ghost use Rattle.headline.specs.Events.{station_of};
 
-    /// The station that it is for.
+    /// Returns the station that the event is for.
     pub fn station(&self) -> Station
         ensures { result ≡ station_of self.now }
     {

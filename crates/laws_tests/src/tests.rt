@@ -1,4 +1,5 @@
-//! What no program calls or no contract says: copies and steps of books, the size of a match, the whole text of a desk's state.
+//! What no program calls and no contract says: copies and steps of books, the size of a match, the whole text of a desk's
+//! state.
 
 use corrections::BookOf;
 use notation::read_line;

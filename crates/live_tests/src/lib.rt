@@ -1,4 +1,4 @@
-//! Tests of stations as processes, by the clock: over links, keyboards, screens and disks in memory.
+//! Tests of stations as processes, by the clock, with links, keyboards, screens and disks in memory.
 #![tactic(auto)]
 
 #[cfg(test)]

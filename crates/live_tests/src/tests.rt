@@ -1,4 +1,4 @@
-//! Desks and boards as processes, in memory, by a clock that goes on while a datagram is waited for.
+//! Desks and boards as processes, in memory, by a clock that goes on while a station waits for a datagram.
 ghost use Rattle.std.specs.Prelude.{◌≡◌, ◌<◌, []};
 
 use agree_core::{Ask, Asker, DeskId, Message, PLACES, ROUNDS};
@@ -32,7 +32,7 @@ fn sheet(rt: &impl Abort, alloc: Global) -> MatchSheet {
     }
 }
 
-/// Desk A of match 7, on a new file.
+/// Creates desk A of match 7, on a new file.
 fn new_desk(rt: &impl Abort, alloc: Global) -> Desk<Slots<MemDisk>, Book> {
     let disk = MemDisk::new(alloc, 20_000).expect(rt, "room for a disk");
     match Desk::create(alloc, disk, DeskId::A, 7, empty_book(rt, alloc)) {
@@ -41,7 +41,7 @@ fn new_desk(rt: &impl Abort, alloc: Global) -> Desk<Slots<MemDisk>, Book> {
     }
 }
 
-/// A desk's vote for a line, in match 7.
+/// Returns a desk's vote for a line, in match 7.
 fn vote(rt: &impl Abort, desk: DeskId, place: u32, round: u32, line: &str) -> MessageBytes
     requires place { place < PLACES }
     requires round { round < ROUNDS }
@@ -52,7 +52,7 @@ fn vote(rt: &impl Abort, desk: DeskId, place: u32, round: u32, line: &str) -> Me
     }
 }
 
-/// Desk B's vote for `void`.
+/// Returns desk B's vote for `void`.
 fn void(rt: &impl Abort, place: u32, round: u32) -> MessageBytes
     requires place { place < PLACES }
     requires round { round < ROUNDS }
@@ -60,7 +60,7 @@ fn void(rt: &impl Abort, place: u32, round: u32) -> MessageBytes
     vote(rt, DeskId::B, place, round, "void")
 }
 
-/// An ask for the votes of a position.
+/// Returns an ask for the votes of a position.
 fn ask(from: Asker, place: u32, round: u32) -> MessageBytes
     requires place { place < PLACES }
     requires round { round < ROUNDS }
@@ -68,7 +68,7 @@ fn ask(from: Asker, place: u32, round: u32) -> MessageBytes
     bytes_of(7, &Message::Ask(Ask { from, place, round }))
 }
 
-/// Turns of a new desk A, whose scorer types these lines, and what it tells.
+/// Runs a new desk A for some turns, while its scorer types these lines, and returns what it tells.
 fn run<'a>(
     rt: &impl Abort,
     alloc: Global,

@@ -15,14 +15,14 @@ use Rattle.processes.specs.Lives.{BoardProcess, BoardRuns, IsBoardLife, board_ca
 use Rattle.processes.proofs.Local.{Goes, Local, goes-append}
 
 module _ {Disk : Type 0} where
-  -- a board, where it is there, after something that happens there
+  -- the board, if there is one, after something that happens there
   abbrev pub next_board : Option BoardState → Happening Disk → Option BoardState
   next_board o (BoardCalled n sheet call out l text seen) = option_map (λ (k : BoardState). l) o
   next_board o (BoardBegun n) = option_map (λ (k : BoardState). fresh_board) o
   next_board o _ = o
 
 module _ (Disk : Type 0) (game innings : ℕ) where
-  -- it may happen at this board, but for what came, and what it hands out are messages
+  -- it may happen at this board, whether or not its datagram was sent; and only messages are handed out
   abbrev pub MayBoard : Option BoardState → Happening Disk → Type 0
   MayBoard o (BoardGreeted n sheet text seen) = (k : BoardState) × (o ≡ Some k) × Greets sheet innings k text seen
   MayBoard o (BoardCalled n sheet call out l text seen) =
@@ -33,7 +33,7 @@ module _ (Disk : Type 0) (game innings : ℕ) where
   abbrev pub BoardLocal : Option BoardState → List (Happening Disk) → Type 0
   BoardLocal = Local next_board MayBoard
 
-  -- what a board prints is the six lines of its book, or nothing; and what it hands over is that book
+  -- a board prints the six lines of its book, or nothing, and hands over that book
   prints : (sheet : Sheet) (k l : BoardTurn) (call : BoardCall) (out : List Message) → BoardStep game innings k.board call out l.board
       → Prints sheet innings call l.board (shown sheet innings k call l)
   prints sheet k l call out h = grind arith
@@ -66,7 +66,7 @@ module _ (Disk : Type 0) (game innings : ℕ) where
             (calls n p.sheet (first_turn p) p.first p.calls h.1.0 h.1.1),
       )
 
-  -- what happens by a board's number, where it is there, and where it isn't
+  -- what happens at a board's number, whether or not a board has it
   pub board_life : (n : ℕ) (o : Option BoardState) (hs : List (Happening Disk))
       → (ps : List BoardProcess) × IsBoardLife game innings ps × (hs ≡ board_happens innings n ps) → (o ≡ None → hs ≡ []) → BoardLocal o hs
   board_life n None hs life none = rw (none refl) tt

@@ -28,7 +28,7 @@ same_item xs n x e = grind arith
 pub same_board : (xs : List BoardState) (n : ℕ) (x : BoardState) → board_at xs n ≡ Some x → with_board xs n x ≡ xs
 same_board xs n x h0 = grind (arith, same_item)
 
--- the configuration with this board so, once these messages were handed out
+-- the configuration with this board at that number, and these messages added to those sent
 abbrev pub with_it : {Disk : Type 0} → Configuration Disk → ℕ → BoardState → List Message → Configuration Disk
 with_it v n l out = record v { boards = with_board v.boards n l; sent = v.sent ++ out }
 

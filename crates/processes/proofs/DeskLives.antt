@@ -24,7 +24,7 @@ use Rattle.processes.specs.Lives.{IsNextStage, CutOff, IsLife, CallsMade, RunsFr
 use Rattle.processes.proofs.Local.{Goes, Local, goes-append}
 
 module _ {Disk : Type 0} where
-  -- a desk after something that happens there
+  -- a desk's node after something that happens there
   abbrev pub next_desk : Node Disk → Happening Disk → Node Disk
   next_desk x (DeskCalled c s call out l text) = record x { process = Running l }
   next_desk x (DeskEnded c disk) = record x { process = Down (process_votes x.process) disk }
@@ -34,7 +34,7 @@ module _ {Disk : Type 0} where
   next_desk x _ = x
 
 module _ {Disk : Type 0} (view : FileVersion → FileView Disk) (seen : Disk → List ℕ) (d : DeskId) (game innings : ℕ) where
-  -- it may happen at this desk, but for what came, and what it hands out are messages
+  -- it may happen at this desk, whether or not its datagram was sent; and only messages are handed out
   abbrev pub MayDesk : Node Disk → Happening Disk → Type 0
   MayDesk x (DeskGreeted c s text) =
       (k : DeskState Disk) × (x.process ≡ Running k) × (text ≡ greeting_of s innings k)

@@ -1,4 +1,4 @@
--- A moment of a desk's process is no event, one, or a fault that falls due and one.
+-- A moment of a desk's process is no event, one event, or a fault that falls due and one event.
 use Rattle.std.proofs.Common.{arith, Err, ◌≡◌, ℕ, Option, Some, None, List, [], length, refl, sym, ap, ◌∙◌, subst, append-nil}
 use Rattle.corrections.specs.Refusal.{book_refusal}
 use Rattle.cards.specs.Sheet.{Sheet}
@@ -66,7 +66,7 @@ module _ {Disk : Type 0} (s : Setting Disk Refusal) (game : ℕ) (v : Configurat
       (grind (arith, itself, unmoved)) plays
 
   module _ (loud : IsQuiet what → ⊥) where
-    -- a fault falls due, and then this happens
+    -- a fault falls due, and then this event happens
     pub after_fault : (x : Node Disk) (event : Event) (answer : Answer Refusal) (y : Node Disk) (out : List Message)
         → AtDesk s v.sent d (Event.FailAt d 1) (node v d) answers.Done x [] → station_of event ≡ Station.Desk d → Fits what v (with_node v d x []) event
         → AtDesk s v.sent d event x answer y out → Reaches y out
@@ -77,7 +77,7 @@ module _ {Disk : Type 0} (s : Setting Disk Refusal) (game : ℕ) (v : Configurat
         subst (Leads s game what v v) (put_again v d x y out)
         (two s game what v (with_node u d y out) (Event.FailAt d 1) event answers.Done answer u loud tt f (x, [], fall, refl) (rw st (y, out, moved, refl)))
 
-    -- a fault falls due at a desk, and this event meets it; then none is due, as before
+    -- a fault falls due at a desk, and this event meets it; then no fault is due, as before
     fails : (node v d).due ≡ None → (k l : DeskState Disk) (event : Event) (out : List Message) → (node v d).process ≡ Running k → station_of event ≡ Station.Desk d
         → Fits what v (with_node v d (runs_on (node v d) k (Some Fail)) []) event
         → AtDesk s v.sent d event (runs_on (node v d) k (Some Fail)) answers.DeviceFailed (runs_on (node v d) l None) out
@@ -99,7 +99,7 @@ module _
     abbrev Moves : DeskCall → Type 0
     Moves call = Leads s game (called call) v v (with_process v d (Running l) out)
 
-    -- the desk's scorer types a line that says an entry, and it is penned with this answer
+    -- the desk's scorer types a line that says an entry, and the pen of that entry gets this answer
     pens : (line : List ℕ) (said : Said) (e : Entry) (told : PenAnswer Refusal) → SaysEntry sheet k.book k.votes k.seat.position.round line e
         → Pens (s.view d (node v d).version) (book_refusal innings) k e told l out → Moves (desks.Typed line said)
     pens line said e (PenAnswer.Penned settled) says h =

@@ -1,4 +1,4 @@
--- Where processes have an exchange, so have the stations in a run that plays what happens to them.
+-- If processes have an exchange, so have the stations in a run that plays what happens to the processes.
 use Rattle.std.proofs.Common.{arith, ◌≡◌, ◌≤◌, ℕ, zero, suc, Some, List, [], ◌∷◌, ◌++◌, length, refl, sym, ap, ◌∙◌, subst, inl, inr, append-nil, append_assoc}
 use Rattle.std.specs.Prelude.{slice_get}
 use Rattle.corrections.specs.declared.refusal.Refusal.{Refusal}
@@ -29,7 +29,7 @@ module _ {Disk : Type 0} where
   after_both w earlier [] = refl
   after_both w earlier (h ∷ hs) = ap (λ (z : Configuration Disk). after_one z h) (after_both w earlier hs)
 
-  -- what was sent stays sent
+  -- sent messages stay sent
   pub said : (w : Configuration Disk) (what : Happening Disk) → (after_one w what).sent ≡ w.sent ++ handed_out what
   said w what = grind (arith, append-nil)
 
@@ -40,7 +40,7 @@ module _ {Disk : Type 0} where
   still_sent w [] message h = h
   still_sent w (x ∷ xs) message h = let k = still_sent w xs message h in (k.0, grind (arith, said (after w xs) x, get_append, k.1))
 
-  -- what a moment hands out is what was said there
+  -- a moment hands out the messages of the happening that it plays
   handed : (v w : Configuration Disk) (what : Happening Disk) (m : Moment Disk Refusal) (message : Message) → w ≡ v → m.after ≡ after_one v what → HandsOut w m message
       → IsSaid message what × WasSent (after_one v what) message
   handed v w what m message start end (n, low, get) =
@@ -48,7 +48,7 @@ module _ {Disk : Type 0} where
       (get_beyond v.sent (handed_out what) n message (rw start at low) (rw (said v what) at there), (n, there))
 
 module _ {Disk : Type 0} (game : ℕ) where
-  -- a process that ticks or takes a message, in a run
+  -- a process ticks or takes a message, in a run
   ticked : (v : Configuration Disk) (t : Station) (what : Happening Disk) (ms : List (Moment Disk Refusal)) → Ticks t what → Plays game v what ms → IsOne (TicksAt t) ms
   ticked v t what ms e p = grind arith
 
@@ -65,7 +65,7 @@ module _ {Disk : Type 0} (game : ℕ) where
       let same : it ≡ message = says_once game bytes it message also says in
       (n, event, rw same at (own.1 i (rw same get)))
 
-  -- it is one moment, in which the message comes
+  -- the happening is played by one moment, in which the station is given the message
   comes : (v : Configuration Disk) (t : Station) (message : Message) (what : Happening Disk) (ms : List (Moment Disk Refusal)) → WasSent v message → Takes game t message what
       → Plays game v what ms → (m : Moment Disk Refusal) × (ms ≡ m ∷ []) × ComesTo v m t message
   comes v t message what ms sent k p =
@@ -103,7 +103,8 @@ module _ {Disk : Type 0} (game : ℕ) where
         on = (p.0, q.late, refl, q.on, subst (λ (z : Configuration Disk). Plays game z h p.0) at p.4, last);
       }
 
-  -- what happened at some time, in moments that play it: one moment, of which this is so, with those after it and before it
+  -- In moments that play happenings, one of which is `at`, there is a moment with this property, with the later and the earlier
+  -- ones.
   module _ (P : Moment Disk Refusal → Type 0) (v : Configuration Disk) (later earlier : List (Happening Disk)) (at : Happening Disk) where
     record Found (ms : List (Moment Disk Refusal)) : Type 0 where
       amid : Amid ms
@@ -127,7 +128,7 @@ module _ {Disk : Type 0} (game : ℕ) where
           on = s.on;
         }
 
-  -- what processes take reaches the stations
+  -- messages that processes take reach the stations
   reached : (v : Configuration Disk) (hs : List (Happening Disk)) (ms : List (Moment Disk Refusal)) → ArePlayed game v hs ms → (t : Station) (message : Message) → WasSent v message
       → IsTaken game t message hs → Reaches v t message ms
   reached v [] ms p t message sent k = absurd k

@@ -36,7 +36,7 @@ use Rattle.processes.proofs.Parting.{no_vote_parts}
 use Rattle.processes.proofs.PublicScores.{prints, shows}
 use Rattle.processes.proofs.SecondVotes.{takes_second}
 
--- a ballot that was typed has its numbers in their ranges
+-- an entry that was typed has its numbers in their ranges
 said_entry : (x : Sheet) (book : List Entry) (votes : List Ballot) (round : ℕ) (line : List ℕ) (e : Entry) → SaysEntry x book votes round line e → IsEntry e
 said_entry x book votes round line e h = grind arith
 
@@ -65,7 +65,7 @@ module _ {Disk : Type 0} (seen : Disk → List ℕ) (images : Disk → Images) (
     holds : (hs : List (Happening Disk)) (f : Happened hs) → HoldsInRun s innings w ((run_of hs f).moments)
     holds hs f = holds_in_run s innings (λ book e none. none) (λ book score stands. stands) version boards w ((run_of hs f).moments) begins (run_of hs f).run
 
-    -- each vote was typed, and so it is for an entry that can be written
+    -- each vote was typed, and so is for an entry that can be written
     typed : (hs : List (Happening Disk)) → Happened hs → (d : DeskId) (b : Ballot) → In b (votes_by (all_votes (after w hs)) d) → WasTyped w hs d b
     typed hs f d b i =
         let p = run_of hs f in
@@ -83,7 +83,8 @@ module _ {Disk : Type 0} (seen : Disk → List ℕ) (images : Disk → Images) (
         subst (AllHaveScores innings) p.ends
         (shown_scored s innings (λ book e none. none) one two version boards w p.moments begins p.run (λ b h. typed_entry w hs A b (p.typed A b h)))
 
-    -- what is so after each flow is so at each time of one, and what is so of what may happen then, of all that happens
+    -- what holds after each flow holds at each time of one, and what holds of all that may happen then holds of all that
+    -- happens
     each_time : (P : Configuration Disk → Type 0) → ((hs : List (Happening Disk)) → Happened hs → P (after w hs)) → (hs : List (Happening Disk)) → Happened hs → AtEachTime w hs P
     each_time P so [] f = so [] f
     each_time P so (h ∷ hs) f = (so (h ∷ hs) f, each_time P so hs f.0)

@@ -51,7 +51,7 @@ module _ {Disk : Type 0} (s : Setting Disk Refusal) (game : ℕ) (v : Configurat
       power_lost disk h =
           rw calm (by_event (Event.Power d Choice.Kept) answers.Done (placed (Down (process_votes (node v d).process) disk) None) refl tt (disk, h, refl, refl, refl))
 
-      -- the desk was down, with these votes
+      -- the desk is down, with these votes
       module _ (votes : List Ballot) (disk : Disk) (at : (node v d).process ≡ Down votes disk) where
         not_opened : (left : Disk) → MaySync (s.view d (node v d).version) disk left → Reaches (with_process v d (Down votes left) [])
         not_opened left h =
@@ -89,7 +89,7 @@ module _ {Disk : Type 0} where
   abbrev pub IsCalm : Configuration Disk → Type 0
   IsCalm v = (d : DeskId) → (node v d).due ≡ None
 
-  -- so it stays
+  -- no fault is due after a happening either
   pub calm_after : (v : Configuration Disk) → IsCalm v → (what : Happening Disk) → IsCalm (after_one v what)
   calm_after v c what d = grind (arith, c A, c B)
 

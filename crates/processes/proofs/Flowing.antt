@@ -1,4 +1,4 @@
--- A flow of processes is a run, and what is so after some change is so at some moment.
+-- A flow of processes is a run, and what holds after some happening holds at some moment.
 use Rattle.std.proofs.Common.{arith, ◌≡◌, ◌⊎◌, ℕ, List, [], ◌∷◌, ◌++◌, refl, sym, ◌∙◌, subst, inl, inr}
 use Rattle.corrections.specs.Refusal.{book_refusal}
 use Rattle.corrections.specs.declared.refusal.Refusal.{Refusal}
@@ -25,7 +25,7 @@ use Rattle.processes.proofs.Going.{Fits, Leads, TypedAs, last_on, run_on}
 use Rattle.processes.proofs.FlowSteps.{IsCalm, calm_after, happening}
 
 module _ {Disk : Type 0} where
-  -- an event that pens a ballot, in what happened
+  -- an event that pens a ballot was typed in this happening
   types : (what : Happening Disk) (v u : Configuration Disk) (c : DeskId) (b : Ballot) (k : DeskState Disk) → TypedAs what v u c b.entry
       → (node u c).process ≡ Running k → k.seat.position ≡ b.at → TypesBallot v what c b
   types (DeskCalled d s (desks.Typed line said) out l text) v u c b k h at pos =
@@ -35,7 +35,7 @@ module _ {Disk : Type 0} where
       (h.0, h.1, h.2, there, rw there at h.4)
   types _ v u c b k h at pos = absurd h
 
-  -- a ballot that was penned in the later events, or before
+  -- a ballot was penned in the later events, or before them
   penned_in : (what : Happening Disk) (w : Configuration Disk) (more rest : List (Moment Disk Refusal)) (v : Configuration Disk)
       → AtEachEvent (last_of w rest) more (λ u m. Fits what v u m.event) → (d : DeskId) (b : Ballot) → WasPenned w (more ++ rest) d b
       → TypesBallot v what d b ⊎ WasPenned w rest d b
@@ -48,7 +48,7 @@ module _ {Disk : Type 0} where
   penned_in what w (m ∷ more) rest v f d b (inr h) = penned_in what w more rest v f.0 d b h
 
 module _ {Disk : Type 0} (s : Setting Disk Refusal) (game innings : ℕ) (rules : s.rules ≡ book_refusal innings) where
-  -- a run goes through all that happened: each ballot that was penned was typed; and it plays that, where all is quiet
+  -- a run goes through all happenings: each penned ballot was typed; and if all is quiet, the run plays the happenings
   pub record Flows (w : Configuration Disk) (hs : List (Happening Disk)) : Type 0 where
     pub moments : List (Moment Disk Refusal)
     pub run : Run s w moments
@@ -85,7 +85,7 @@ module _ {Disk : Type 0} (s : Setting Disk Refusal) (game innings : ℕ) (rules 
     pub begins_calm : IsCalm w
     begins_calm = grind arith
 
-    -- so each configuration is one that a run comes to
+    -- so each configuration of a flow is one that a run comes to
     pub runs : (hs : List (Happening Disk)) → Flow s.view game innings w hs → Flows w hs
     runs hs f = flow_runs w begins_calm hs f
 
@@ -103,7 +103,7 @@ module _ {Disk : Type 0} where
   before P w [] rest h = h
   before P w (m ∷ more) rest h = inr (before P w more rest h)
 
-  -- what is so at some time is so at some moment
+  -- what holds at some time holds at some moment
   pub at_some : (P : Configuration Disk → Type 0) (w : Configuration Disk) (hs : List (Happening Disk)) (ms : List (Moment Disk Refusal)) → GoesThrough w ms hs
       → AtSomeTime w hs P → AtSomeMoment w ms P
   at_some P w [] ms g h = rw g h

@@ -1,4 +1,4 @@
--- By which number a message that came is given: one that it was sent as, if it was.
+-- The number by which a received message is given: one under which it was sent, if it was sent.
 use Rattle.std.proofs.Common.{arith, ◌≡◌, ◌≢◌, ◌⊎◌, ℕ, zero, suc, Some, List, [], ◌∷◌, sym, ap, ◌∙◌, inl, inr}
 use Rattle.std.specs.Prelude.{slice_get}
 use Rattle.agree_core.specs.declared.messages.{Ask.Ask, Asker.Asker, Message.Message}

@@ -18,7 +18,7 @@ use Rattle.progress.specs.CalmMoments.{AllCalm, IsCalm}
 use Rattle.processes.specs.Laws.{GoesOn}
 use Rattle.processes.specs.Progress.{IsQuiet, Plays}
 
--- the event of this configuration fits what happened in the other: a pen is a line that the desk's scorer typed
+-- the event of configuration u fits what happened in configuration v: a pen is a line that the desk's scorer typed
 abbrev pub TypedAs : {Disk : Type 0} → Happening Disk → Configuration Disk → Configuration Disk → DeskId → Entry → Type 0
 TypedAs (DeskCalled d s (desks.Typed line said) out l text) v u c e =
     (c ≡ d) × (k : DeskState _) × ((node v d).process ≡ Running k) × ((node u d).process ≡ Running k)
@@ -34,8 +34,8 @@ module _ {Disk : Type 0} where
   last_on w ms more = grind arith
 
 module _ {Disk : Type 0} (s : Setting Disk Refusal) (game : ℕ) where
-  -- a run of at most two events from one configuration to the other: each fits what happened in the configuration `v`, and
-  -- where that is quiet, they play it
+  -- A run of at most two events from one configuration to the other: each fits what happened in configuration `v`, and if that
+  -- is quiet, they play it.
   pub record Leads (what : Happening Disk) (v from new : Configuration Disk) : Type 0 where
     pub moments : List (Moment Disk Refusal)
     pub few : length moments ≤ 2

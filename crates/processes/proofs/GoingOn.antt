@@ -1,4 +1,4 @@
--- What happens to processes, while no scorer types, is a calm run.
+-- While no scorer types, what happens to processes is a calm run.
 use Rattle.std.proofs.Common.{◌≡◌, ℕ, Some, List, [], ◌∷◌, ◌++◌, refl, subst}
 use Rattle.notation.specs.declared.entry.Entry.{Entry}
 use Rattle.entry_log.specs.Disk.{Images}

@@ -1,7 +1,7 @@
 -- What happens at one station, step by step.
 use Rattle.std.proofs.Common.{arith, ◌≡◌, Bool, true, List, [], ◌∷◌, ◌++◌, cond, refl, ap, ◌∙◌, subst, sym}
 
--- these, with one more before them where a test is so
+-- these, behind one more item if the test holds
 abbrev pub with_one : {X : Type 0} → Bool → X → List X → List X
 with_one test x xs = cond test (x ∷ xs) xs
 
@@ -10,7 +10,7 @@ module _ {State What : Type 0} (next : State → What → State) where
   nexts s [] = s
   nexts s (h ∷ hs) = next (nexts s hs) h
 
-  -- a station that is as what happened there leaves it
+  -- a station's state is what the happenings there make of it
   pub nexts-one : (q : Bool) (s t u : State) (x : What) (xs : List What) → t ≡ nexts s xs → u ≡ cond q (next t x) t → u ≡ nexts s (with_one q x xs)
   nexts-one q s t u x xs e f = grind arith
 
@@ -22,7 +22,7 @@ module _ {State What : Type 0} (next : State → What → State) (May : State �
   pub local-one : (q : Bool) (s : State) (x : What) (xs : List What) → Local s (with_one q x xs) → Local s xs × (q ≡ true → May (nexts next s xs) x)
   local-one q s x xs h = grind arith
 
-  -- so from one state to another
+  -- the happenings lead from one state to another
   abbrev pub Goes : State → List What → State → Type 0
   Goes s hs t = Local s hs × (nexts next s hs ≡ t)
 

@@ -30,7 +30,7 @@ use Rattle.processes.specs.Happenings.{DeskCalled, Happening, Happens, WasSent}
 use Rattle.processes.specs.LostLines.{AskWasHandedOut, ShowsNoLoss}
 use Rattle.processes.proofs.OwnVotes.{kept}
 
--- whether the other desk stands where this one does, no file lacks lines by it
+-- whether or not the other desk is at this one's position, that shows no lost line
 level_so : (level : Bool) → is_loss (if level then Level else Nothing) ≡ false
 level_so level = grind arith
 

@@ -25,13 +25,13 @@ use Rattle.processes.proofs.Local.{Local, goes-append, local-one, nexts, with_on
 use Rattle.processes.proofs.WholeLives.{woven_lives_part_none}
 
 module _ {Disk : Type 0} where
-  -- since it began a board has dropped a vote as one by which a desk's file lacks lines
+  -- since it began, a board has dropped a vote as one that shows that a desk's file lacks lines
   abbrev next_lack : Bool → Happening Disk → Bool
   next_lack b (BoardCalled n sheet (boards.Parted bytes back) out l text seen) = true
   next_lack b (BoardBegun n) = false
   next_lack b what = b
 
-  -- before that it tells nothing of it
+  -- until then the board tells of no such vote
   abbrev MayTell : Bool → Happening Disk → Type 0
   MayTell b what = b ≡ false → TellsNone what
 
@@ -90,7 +90,7 @@ module _ (Disk : Type 0) (game innings : ℕ) where
       → Local next_lack MayTell false hs
   life n hs h = rw h.2 (lives n false h.0 h.1)
 
-  -- where no board drops such a vote none has since it began
+  -- if no board drops such a vote, none has since it began
   here_none : (b : Bool) (h : Happening Disk) → b ≡ false → (IsParted h → ⊥) → next_lack b h ≡ false
   here_none b (BoardCalled n sheet (boards.Parted bytes back) out l text seen) e none = absurd (none tt)
   here_none b h e none = grind (arith, e)

@@ -1,4 +1,4 @@
--- A vote that a desk has cast isn't one that its file lacks.
+-- A vote that a desk has cast is never one that its file lacks.
 use Rattle.std.proofs.Common.{arith, ◌≡◌, Bool, true, false, ⊎_elim, ◌&&◌, ◌||◌, not, List, [], ◌∷◌, Option, Some, None, refl, sym, ap, ap₂, ◌∙◌, subst, inl, inr}
 use Rattle.std.specs.Prelude.{is_some}
 use Rattle.std.specs.Str.{bytes_eq}
@@ -37,7 +37,7 @@ passes : (p q r : Position) → Before p q → Before q r → Before p r
 passes p q r h k = grind arith
 
 module _ (theirs : List Ballot) (b : Ballot) where
-  -- it is for an earlier position than any that may follow
+  -- the vote is for an earlier position than any vote that may follow
   before_next : (own : List Ballot) → Justified theirs own → In b own → (c : Ballot) → Follows theirs c own → Before b.at c.at
   before_next [] j i c f = absurd i
   before_next (x ∷ xs) j (inl e) c f = subst (λ (x : Ballot). Before x.at c.at) (sym e) (follows_later theirs c x xs f)

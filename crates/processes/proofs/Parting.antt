@@ -1,4 +1,4 @@
--- No board sees that a desk's file lacks lines, while both desks' files are kept.
+-- No board sees that a desk's file lacks lines while both desks' files are kept.
 use Rattle.std.proofs.Common.{arith, ◌≡◌, ℕ, Bool, true, false, not, ◌&&◌, ◌||◌, nat_eq, nat_lt, List, [], ◌∷◌, ◌++◌, Option, Some, None, Result, Ok, refl, sym, ap, ap₂, ◌<◌, subst, length}
 use Rattle.std.specs.Prelude.{◌==◌, if◌then◌else◌}
 use Rattle.std.proofs.lemmas.Bool.Decides.{nat_tests}
@@ -42,11 +42,11 @@ use Rattle.processes.specs.Parting.{NoVoteParts, rounds_at, rounds_called}
 use Rattle.processes.proofs.Flowing.{begins_calm, fine, stays_calm}
 use Rattle.processes.proofs.FlowSteps.{happening}
 
--- both desks have these votes
+-- both desks have cast these votes
 abbrev RoundFine : AllVotes → Round → Type 0
 RoundFine v r = In (record { at = r.at; entry = r.a }) v.a × In (record { at = r.at; entry = r.b }) v.b
 
--- ---- what is heard whole was voted
+-- ---- both votes of a round heard whole were cast
 
 round_grows : (v u : AllVotes) → VotesGrow v u → (r : Round) → RoundFine v r → RoundFine u r
 round_grows v u g r h = (g.0 _ h.0, g.1 _ h.1)
@@ -60,7 +60,7 @@ with_fine v rounds (Some r) h k = turn (nat_lt (length rounds) 16384)
     turn true = each_append (RoundFine v) rounds (r ∷ []) h (k r refl, tt)
     turn false = h
 
--- the vote that makes a round whole, and the other desk's, which was noted
+-- the vote that makes a round whole, and the other desk's noted vote
 whole_fine : (v : AllVotes) (reader : ReaderState) (x : Vote) (e : Entry) → ((d : DeskId) → NotedFine (votes_by v d) reader.position (noted_of reader d))
     → In (ballot_of x) (votes_by v x.desk) → position_of x ≡ reader.position → noted_of reader x.desk ≡ None → noted_of reader (other x.desk) ≡ Some e
     → (r : Round) → whole_round reader (Some x.entry) ≡ Some r → RoundFine v r
@@ -87,7 +87,7 @@ module _ (game innings : ℕ) (v : AllVotes) (k l : BoardState) (fine : BoardFin
   call_fine bytes (Ok (What.Heard Heard.Differ)) rounds came (Message.Ask q, says, r) h = absurd r
   call_fine bytes _ rounds came t h = grind arith
 
--- ---- no vote is against that
+-- ---- no cast vote contradicts such a round
 
 at_once : (p q : Position) → is_at p q ≡ true → p ≡ q
 at_once p q e = grind (arith, nat_tests)
@@ -114,7 +114,7 @@ module _ (v : AllVotes) (j : AllJustified v) (entries : (d : DeskId) (b : Ballot
   once A b c i k e = one_vote v.b v.a j.0 b c i k e
   once B b c i k e = one_vote v.a v.b j.1 b c i k e
 
-  -- no desk votes in a later round than the one in which both voted alike
+  -- no desk votes in a later round than one in which both voted alike
   none_after : (d : DeskId) (r : Round) (b : Ballot) → RoundFine v r → r.a ≡ r.b → In b (votes_by v d) → r.at.place ≡ b.at.place → r.at.round < b.at.round → ⊥
   none_after A r b h same i place later =
       none_later v.a v.b j.0 j.1 r.at.place r.at.round b.at.round r.a b.entry
@@ -167,7 +167,7 @@ module _ {Disk : Type 0} (s : Setting Disk Refusal) (game innings : ℕ) (rules 
         let led = happening s game innings rules v (stays_calm s game innings rules w (begins_calm s game innings rules version count w begins) hs) h f.1 in
         subst (λ (u : Configuration Disk). VotesGrow (all_votes v) (all_votes u)) led.ends (run_grows s v led.moments (fine_after hs f.0) led.run)
 
-    -- what came was voted
+    -- a vote that came was cast
     came_fine : (hs : List (Happening Disk)) → Happened hs → (bytes : List ℕ) → WasSent game (after w hs).sent bytes → (m : Message) → Says game bytes m → MessageFine (votes_after hs) m
     came_fine hs f bytes came m says =
         let found = came m says in

@@ -1,4 +1,4 @@
--- What processes print is of their books, and what the public sees of books that both scorers wrote.
+-- Processes print their books, and the public sees books that both scorers wrote.
 use Rattle.std.proofs.Common.{arith, ◌≡◌, ◌≤◌, ◌⊎◌, ℕ, Some, List, [], refl, inl}
 use Rattle.std.specs.Prelude.{All}
 use Rattle.std.proofs.lemmas.List.Elements.{All-cons, All-nil}
@@ -22,7 +22,7 @@ use Rattle.processes.specs.Printing.{Hands, HandsBook, Prints}
 use Rattle.processes.specs.PublicScores.{IsOfBoth, IsSightOfBoth, PrintsOfBoth, ShowsAgreed, ShowsOfBoth}
 
 module _ {Disk : Type 0} (innings : ℕ) (v : Configuration Disk) where
-  -- in a match of one or two innings a side each book that is shown has a score
+  -- in a match of one or two innings a side each shown book has a score
   abbrev pub HasScores : Type 0
   HasScores = 1 ≤ innings → innings ≤ 2 → AllHaveScores innings v
 

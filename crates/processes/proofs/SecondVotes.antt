@@ -1,4 +1,4 @@
--- What brings a second vote is an event that does, so the station takes their entry.
+-- A second vote is brought by an event that takes its entry into the station's book.
 use Rattle.std.proofs.Common.{arith, ◌≡◌, ℕ, List, [], ◌∷◌, ◌++◌, Some, refl, sym, ap, ◌∙◌, subst, inl, inr}
 use Rattle.std.specs.Prelude.{slice_get}
 use Rattle.notation.specs.declared.entry.Entry.{Entry}
@@ -54,7 +54,7 @@ module _
             headline.takes_second s version n w begins (m ∷ ms) goes t book b c (rw last shown) ((keeps_noted s version n w ms begins run t c b).1 keeps)
             (keeps.0, rw last brought, told)
 
-        -- the datagram that was sent is the vote
+        -- the vote of the datagram was sent
         sent_vote : (bytes : List ℕ) (m : Message) → Says game bytes m → SayVote game bytes (other c) b → (i : ℕ) → IsGiven v.sent i m
             → slice_get v.sent i ≡ Some (Message.Vote (vote_of (other c) b))
         sent_vote bytes m says vote i at = given_vote v.sent i (vote_of (other c) b)

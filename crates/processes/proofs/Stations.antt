@@ -1,4 +1,4 @@
--- What the processes of `live` state is part of a station's life.
+-- The contracts of `live` describe parts of a station's life.
 use Rattle.std.proofs.Common.{arith, Result, ◌≡◌, ℕ, List, [], ◌++◌, ap, inl, inr, refl, sym, ◌∙◌, subst}
 use Rattle.notation.specs.declared.entry.Entry.{Entry}
 use Rattle.corrections.specs.CleanList.{history_of}

@@ -35,7 +35,7 @@ set_at (x ∷ xs) zero zero l = refl
 set_at (x ∷ xs) (suc n) (suc m) l = rw (eqb-suc-suc m n) (set_at xs n m l)
 set_at xs n m l = grind (arith, nat_tests)
 
--- what a board's list has at one number after a change at another, or the same
+-- a board's state after a change at the same number or at another
 board_set : (xs : List BoardState) (n m : ℕ) (l : BoardState)
     → board_at (with_board xs n l) m ≡ cond (nat_eq m n) (option_map (λ (k : BoardState). l) (board_at xs m)) (board_at xs m)
 board_set xs (suc n) (suc m) l = rw (eqb-suc-suc m n) (set_at xs n m l)
@@ -44,7 +44,7 @@ board_set xs n m l = grind (arith, nat_tests)
 at_own : (d : DeskId) → same_desk d d ≡ true
 at_own d = grind arith
 
--- what opened at a station was sent, since all that stations send are messages
+-- a message opened at a station was sent, since stations send only messages
 was_sent : (ring : Ring) (game : ℕ) (sent : List Message) (message : List ℕ) → All IsMessage sent → IsAuthentic ring game sent message → WasSent game sent message
 was_sent ring game sent message fine h m says = may_be_given sent m (λ v e.
     let came = h v (subst (Says game message) e says) in
@@ -60,7 +60,7 @@ board_came ring game sent (boards.Given message answer) fine h = was_sent ring g
 board_came ring game sent (boards.Parted message back) fine h = was_sent ring game sent message fine h
 board_came ring game sent _ fine h = tt
 
--- what a happening makes of a desk, and of a board: nothing, where it is elsewhere
+-- a happening leaves a desk, or a board, as it is unless it happens there
 desk_then : {Disk : Type 0} (v : Configuration Disk) (h : Happening Disk) (d : DeskId) → node (after_one v h) d ≡ cond (is_at_desk d h) (next_desk (node v d) h) (node v d)
 desk_then v h d = grind arith
 
@@ -74,7 +74,7 @@ module _ {Disk : Type 0} (view : DeskId → FileVersion → FileView Disk) (seen
   abbrev pub HasBytes : Configuration Disk → Type 0
   HasBytes v = (d : DeskId) → 0 < length (seen (process_disk (node v d).process))
 
-  -- it may happen where it may at its station, and hands out messages
+  -- what may happen at its station may happen in the match, and hands out messages
   module _ (v : Configuration Disk) (sent : All IsMessage v.sent) (bytes : HasBytes v) where
     none : All IsMessage []
     none = All-nil IsMessage
@@ -104,7 +104,7 @@ module _ {Disk : Type 0} (view : DeskId → FileVersion → FileView Disk) (seen
         ((d : DeskId) → DeskLocal (view d) seen d game innings (node w d) (filter (is_at_desk d) hs))
         × ((n : ℕ) → BoardLocal Disk game innings (board_at w.boards n) (filter (is_at_board n) hs))
 
-    -- each station is as what happened there leaves it, and all that was sent are messages
+    -- each station's state is what happened there makes of it, and only messages were sent
     pub record Stands (v : Configuration Disk) (hs : List (Happening Disk)) : Type 0 where
       pub desks : (d : DeskId) → node v d ≡ nexts next_desk (node w d) (filter (is_at_desk d) hs)
       pub boards : (n : ℕ) → board_at v.boards n ≡ nexts next_board (board_at w.boards n) (filter (is_at_board n) hs)

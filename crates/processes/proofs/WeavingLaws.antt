@@ -24,7 +24,7 @@ use Rattle.processes.proofs.FlowLaws.{flows_have_headline}
 use Rattle.processes.proofs.Flowing.{fine}
 use Rattle.processes.proofs.Weaving.{AllMay, weaves}
 
--- a desk that begins first is as one that was created
+-- a desk that begins for the first time is like one just created
 first : {Disk : Type 0} (view : FileView Disk) (seen : Disk → List ℕ) (innings : ℕ) (d : DeskId) (k : DeskState Disk) → BeginsFirst view seen innings d k → Creates view d k
 first view seen innings d k h = grind (arith, same_or_other)
 
@@ -50,7 +50,7 @@ module _ {Disk : Type 0} (seen : Disk → List ℕ) (images : Disk → Images) (
             some_bytes d (node (after w0 gs) d).version (seen (process_disk (node (after w0 gs) d).process)) found.0 found.1)).0,
       )
     where
-      -- bytes that show votes are some
+      -- bytes that show votes aren't empty
       some_bytes : (d : DeskId) (z : FileVersion) (file : List ℕ) (votes : List Ballot) → votes_shown (contents z) d game file ≡ Some votes → 0 < length file
       some_bytes d z [] votes e = absurd (cc (none z d))
       some_bytes d z (x ∷ file) votes e = omega arith

@@ -1,4 +1,4 @@
--- In woven lives no board drops a vote as one by which a desk's file lacks lines.
+-- In woven lives no board drops a vote as one that shows that a desk's file lacks lines.
 use Rattle.std.proofs.Common.{arith, ◌≡◌, ℕ, true, Option, Some, None, List, [], ◌∷◌, cond, refl, sym, ap, ◌∙◌}
 use Rattle.std.specs.Prelude.{is_some}
 use Rattle.std.specs.List.{filter}
@@ -29,7 +29,7 @@ use Rattle.processes.proofs.Local.{Goes, Local, goes-append, local-one, nexts, n
 use Rattle.processes.proofs.Weaving.{board_then}
 use Rattle.processes.proofs.WeavingLaws.{woven_lives_flow}
 
--- a board, where it is there, and the rounds that it has heard whole
+-- the board, if there is one, and the rounds that it has heard whole
 pub record Hearing : Type 0 where
   pub board : Option BoardState
   pub rounds : List Round
@@ -44,7 +44,7 @@ module _ {Disk : Type 0} where
   next_heard s h = record { board = next_board s.board h; rounds = next_rounds s h }
 
 module _ (Disk : Type 0) (game innings : ℕ) where
-  -- a vote is dropped where it is against one of these
+  -- a vote is dropped only if it contradicts one of these rounds
   abbrev MayDrop : List Round → BoardCall → Type 0
   MayDrop rounds (boards.Parted bytes back) = (v : Vote) × Says game bytes (Message.Vote v) × (parts rounds v ≡ true)
   MayDrop rounds call = Unit {0}

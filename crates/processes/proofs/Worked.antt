@@ -1,4 +1,4 @@
--- The worked life is such as what happens to processes.
+-- The worked life consists of happenings of processes.
 use Rattle.std.proofs.Common.{◌≡◌, ℕ, zero, suc, Some, None, Option, List, [], ◌∷◌, Ok, refl, sym, ap, ◌∙◌, inl, inr, arith, slice_get}
 use Rattle.std.specs.Prelude.{All, codes}
 use Rattle.std.specs.Fmt.{digits}
@@ -86,7 +86,7 @@ taken n = refl
 blameless : {X within : Type 0} → X → BlamesDisk Device within further (no_faults []) (no_faults [])
 blameless x = record { failed = λ h. cc; same = λ h. refl; calm = λ due fits h. cc; spent = λ once fits h. cc }
 
--- one more call, that leaves its station so
+-- one more call, which leaves its station in state l
 abbrev then : {State Call Kept : Type 0} → (State → Call → Kept → State) → State → List (own.Moment State Call) → Call → List Message → Kept → List (own.Moment State Call)
 then after_call k ms call out l = record { call = call; out = out; after = after_call (own.last_of k ms) call l } ∷ ms
 
@@ -99,7 +99,7 @@ none_out = All-nil IsMessage
 one_out : (m : Message) → IsMessage m → All IsMessage (m ∷ [])
 one_out m fine = All-cons IsMessage m [] fine none_out
 
--- a station had sealed it
+-- a station had sealed the datagram
 a_sealed : (ring : Ring) (seal : List ℕ) (more : List Message) → slice_get (seals_by ring a_bytes) 0 ≡ Some seal → IsAuthentic ring 7 (a_says ∷ more) a_bytes
 a_sealed ring seal more there = λ v says.
     (sealed seal a_bytes, refl, (0, (seal, there, (None, tt, refl), λ m long same. (0, (a_says, refl, (None, tt, refl))))))
@@ -225,7 +225,7 @@ module _ (s : Sheet) where
   board_asks_it : BoardRuns 7 1 s (fresh_turn [] at_first) asked
   board_asks_it = ((tt, none_out, (tt, (refl, refl), refl, tt)), one_out board_asks (omega arith, omega arith), (tt, (inl ((omega arith, omega arith), refl), refl), refl, refl))
 
-  -- it has heard no round whole, so it hands nothing back
+  -- the board has heard no round whole, so it hands no vote back
   none_at : (o : Option DeskId) (at : Position) → recalled_at [] o at ≡ None
   none_at None at = refl
   none_at (Some d) at = refl
@@ -275,7 +275,7 @@ woven s seals = record {
 
 -- the board's exchange with both desks
 module _ (s : Sheet) where
-  -- a message that is said where just this one is
+  -- in a list of one message, the message said is that one
   only_said : (m n : Message) (i : ℕ) → slice_get (m ∷ []) i ≡ Some n → n ≡ m
   only_said m n zero e = cc
   only_said m n (suc i) e = absurd cc

@@ -1,5 +1,5 @@
--- An exchange of processes, by what happens to them: what a station's process says at a tick comes to a desk's, and what this
--- answers comes to the station's.
+-- An exchange of processes, by what happens to them: the messages that a station's process sends at a tick come to a desk's
+-- process, and its replies come to the station's.
 use Rattle.std.specs.Prelude.{◌≡◌, ◌⊎◌, ℕ, zero, suc, Ok, Some, List, [], ◌∷◌, ◌++◌, slice_get}
 use Rattle.agree_core.specs.declared.messages.{DeskId.DeskId, Message.Message}
 use Rattle.wire.specs.declared.what.What.{What}
@@ -11,7 +11,7 @@ use Rattle.live.specs.Desks as desks
 use Rattle.live.specs.Desks.{DeskCall}
 use Rattle.processes.specs.Happenings.{BoardCalled, DeskCalled, Happening}
 
--- the call of a desk is given bytes that say this message, and hears or answers it; and one of a board
+-- a call of a desk, or of a board, is given bytes that say this message, and the desk or board hears or answers it
 abbrev pub DeskTakes : ℕ → Message → DeskCall → Type 0
 DeskTakes game message (desks.Given bytes (What.Heard heard)) = Says game bytes message
 DeskTakes game message (desks.Given bytes What.Asked) = Says game bytes message
@@ -23,13 +23,13 @@ BoardTakes game message (boards.Given bytes answer) = Says game bytes message
 BoardTakes game message call = ⊥
 
 module _ {Disk : Type 0} where
-  -- what is handed out there
+  -- the messages handed out in a happening
   abbrev pub handed_out : Happening Disk → List Message
   handed_out (DeskCalled d s call out l text) = out
   handed_out (BoardCalled n s call out l text seen) = out
   handed_out what = []
 
-  -- the message is among that
+  -- the message is handed out in this happening
   abbrev pub IsSaid : Message → Happening Disk → Type 0
   IsSaid message what = (i : ℕ) × (slice_get (handed_out what) i ≡ Some message)
 
@@ -45,12 +45,12 @@ module _ {Disk : Type 0} where
   Takes game (Station.Board n) message (BoardCalled k s call out l text seen) = (k ≡ n) × BoardTakes game message call
   Takes game t message what = ⊥
 
-  -- so in one of these happenings
+  -- the station's process takes the message in one of these happenings
   abbrev pub IsTaken : ℕ → Station → Message → List (Happening Disk) → Type 0
   IsTaken game t message [] = ⊥
   IsTaken game t message (h ∷ hs) = Takes game t message h ⊎ IsTaken game t message hs
 
-  -- the desk's process takes the message, and then the station's each that this hands out there
+  -- the desk's process takes the message, and then the station's process takes each message that the desk hands out for it
   pub record IsReplied (game : ℕ) (t : Station) (d : DeskId) (message : Message) (hs : List (Happening Disk)) : Type 0 where
     pub later : List (Happening Disk)
     pub at : Happening Disk
@@ -59,7 +59,7 @@ module _ {Disk : Type 0} where
     pub taken : Takes game (Station.Desk d) message at
     pub heard : (reply : Message) → IsSaid reply at → IsTaken game t reply later
 
-  -- the station's process ticks, and then the desk's takes each message that this hands out, and replies
+  -- the station's process ticks, and then the desk's process takes each message that this hands out, and replies
   pub record ProcessExchange (game : ℕ) (t : Station) (d : DeskId) (hs : List (Happening Disk)) : Type 0 where
     pub later : List (Happening Disk)
     pub at : Happening Disk
@@ -68,7 +68,7 @@ module _ {Disk : Type 0} where
     pub ticks : Ticks t at
     pub answered : (message : Message) → IsSaid message at → IsReplied game t d message later
 
-  -- the board's process has so many exchanges with both desks', one after the other
+  -- the board's process has this many exchanges with both desks' processes, one after the other
   abbrev pub HaveExchanged : ℕ → ℕ → ℕ → List (Happening Disk) → Type 0
   HaveExchanged game n zero hs = Unit {0}
   HaveExchanged game n (suc m) hs =

@@ -1,4 +1,4 @@
--- What happens to the processes of two desks and of boards, in one order, and the configuration that it leaves.
+-- What happens to the processes of two desks and of boards, in one order, and the configuration after it.
 use Rattle.std.specs.Prelude.{◌≡◌, ℕ, List, [], ◌∷◌, ◌++◌, Some}
 use Rattle.corrections.specs.Refusal.{book_refusal}
 use Rattle.cards.specs.Sheet.{Sheet}
@@ -22,12 +22,12 @@ use Rattle.live.specs.Desks.{DeskCall, DeskStep}
 use Rattle.live.specs.Sights.{Sight}
 use Rattle.processes.specs.Printing.{Greets, Hands, Prints, Tells, greeting_of}
 
--- What happens: a desk's process tells its scorer how the desk stands, by the sheet that it was begun with; a call of a
--- desk, with that sheet, what it handed out, the desk after it, and the text that was printed; the end of its process,
--- with the disk left; power lost at its laptop, with the disk left; its beginning on its file; the migration of that file,
--- with the votes that it shows and the disk with the new one; a board's process prints its book, by the sheet that it was
--- begun with, and hands it over to be shown; a call of a board, likewise with its sheet, the text, and what was handed over;
--- a board's beginning. A process that is killed amid a call has made a call whose disk failed, and then ended.
+-- What happens to a desk: its process tells its scorer how the desk stands, by the sheet that it was begun with; a call, with
+-- that sheet, the messages handed out, the desk after it, and the printed text; the end of its process, with the disk left; a
+-- power loss of its laptop, with the disk left; its beginning on its file; the migration of that file, with the votes that it
+-- shows and the disk with the new one. To a board: its process prints its book, by the sheet that it was begun with, and hands
+-- it over to be shown; a call, likewise with its sheet, text, and what was handed over; its beginning. A process that is killed
+-- amid a call has made a call whose disk failed, and then ended.
 pub data Happening (Disk : Type 0) : Type 0 where
   DeskGreeted : DeskId → Sheet → List ℕ → Happening Disk
   DeskCalled : DeskId → Sheet → DeskCall → List Message → DeskState Disk → List ℕ → Happening Disk
@@ -39,16 +39,16 @@ pub data Happening (Disk : Type 0) : Type 0 where
   BoardCalled : ℕ → Sheet → BoardCall → List Message → BoardState → List ℕ → List Sight → Happening Disk
   BoardBegun : ℕ → Happening Disk
 
--- the desk that was opened, or what is left of one that wasn't
+-- the desk that was opened, or what is left of one that wasn't opened
 abbrev pub begun : {Disk : Type 0} → List Ballot → Opening Disk → Process Disk
 begun votes (Opened k) = Running k
 begun votes (NotOpened why left) = Down votes left
 
--- the configuration with this process at a desk, once these messages were handed out
+-- the configuration with this process at a desk, and these messages added to those sent
 abbrev pub with_process : {Disk : Type 0} → Configuration Disk → DeskId → Process Disk → List Message → Configuration Disk
 with_process w d p out = with_node w d (record (node w d) { process = p }) out
 
--- a desk that is down, once its file was migrated to this disk
+-- a desk that is down, after its file was migrated to this disk
 abbrev pub migrated : {Disk : Type 0} → Node Disk → Disk → Node Disk
 migrated x new = record x { version = New; process = Down (process_votes x.process) new }
 
@@ -65,16 +65,16 @@ after_one w (BoardCalled n s call out l text seen) =
     record w { boards = with_board w.boards n l; sent = w.sent ++ out }
 after_one w (BoardBegun n) = record w { boards = with_board w.boards n fresh_board }
 
--- the configuration after all that happened, the newest first
+-- the configuration after all these happenings, the newest first
 abbrev pub after : {Disk : Type 0} → Configuration Disk → List (Happening Disk) → Configuration Disk
 after w [] = w
 after w (h ∷ hs) = after_one (after w hs) h
 
--- where these bytes read as a message of the match, one of the stations sent it before, or it is an ask
+-- if these bytes read as a message of the match, a station sent it before, or it is an ask
 abbrev pub WasSent : ℕ → List Message → List ℕ → Type 0
 WasSent game sent bytes = (m : Message) → Says game bytes m → (i : ℕ) × IsGiven sent i m
 
--- so for the datagram of a call, where it has one
+-- this holds of the datagram that a call is given, if any
 abbrev pub DeskCame : ℕ → List Message → DeskCall → Type 0
 DeskCame game sent (desks.Given bytes what) = WasSent game sent bytes
 DeskCame game sent call = Unit {0}
@@ -84,9 +84,9 @@ BoardCame game sent (boards.Given bytes answer) = WasSent game sent bytes
 BoardCame game sent (boards.Parted bytes back) = WasSent game sent bytes
 BoardCame game sent call = Unit {0}
 
--- in a match of this number and innings a side, where this is what a disk shows of each desk's file
+-- in a match of this number and innings a side, where `view` is what a disk shows of each desk's file
 module _ {Disk : Type 0} (view : DeskId → FileVersion → FileView Disk) (game innings : ℕ) where
-  -- it may happen in this configuration
+  -- what may happen in this configuration
   abbrev pub Happens : Configuration Disk → Happening Disk → Type 0
   Happens w (DeskGreeted d s text) =
       (k : DeskState Disk) × ((node w d).process ≡ Running k) × (text ≡ greeting_of s innings k)

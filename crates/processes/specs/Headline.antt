@@ -21,32 +21,31 @@ use Rattle.processes.specs.Printing.{Greets, Hands, Prints, Tells, greeting_of}
 use Rattle.processes.specs.PublicScores.{ShowsAgreed}
 use Rattle.processes.specs.SecondVotes.{AtEachHappening, TakesSecond}
 
--- at the start, or after something that happened, the configuration was so
+-- the property holds at the start, or after one of the happenings
 abbrev pub AtSomeTime : {Disk : Type 0} → Configuration Disk → List (Happening Disk) → (Configuration Disk → Type 0) → Type 0
 AtSomeTime w [] P = P w
 AtSomeTime w (h ∷ hs) P = P (after w (h ∷ hs)) ⊎ AtSomeTime w hs P
 
--- at the start and after all that happened the configuration was so
+-- the property holds at the start, and after each of the happenings
 abbrev pub AtEachTime : {Disk : Type 0} → Configuration Disk → List (Happening Disk) → (Configuration Disk → Type 0) → Type 0
 AtEachTime w [] P = P w
 AtEachTime w (h ∷ hs) P = P (after w (h ∷ hs)) × AtEachTime w hs P
 
--- the desk was given a line of its scorer's at the ballot's position that says the ballot's entry: put in full, by the sheet
--- of the desk's process and the book of the desk, it is the entry's line, or it says once more what this scorer wrote last
+-- The desk was given a line of its scorer's, at the ballot's position, that says the ballot's entry: put in full, by the sheet
+-- of the desk's process and the desk's book, it is the entry's line, or it repeats what this scorer wrote last.
 abbrev pub TypesBallot : {Disk : Type 0} → Configuration Disk → Happening Disk → DeskId → Ballot → Type 0
 TypesBallot w (DeskCalled c s (desks.Typed line said) out l text) d b =
     (d ≡ c) × (k : DeskState _) × ((node w c).process ≡ Running k) × (k.seat.position ≡ b.at)
     × SaysEntry s k.book k.votes b.at.round line b.entry
 TypesBallot w what d b = ⊥
 
--- in something that happened the desk's scorer typed this ballot
+-- the desk's scorer typed this ballot in one of these happenings
 abbrev pub WasTyped : {Disk : Type 0} → Configuration Disk → List (Happening Disk) → DeskId → Ballot → Type 0
 WasTyped w [] d b = ⊥
 WasTyped w (h ∷ hs) d b = TypesBallot (after w hs) h d b ⊎ WasTyped w hs d b
 
--- What a process printed of what happened is of the book that it shows then: how its desk stands; what its scorer is told
--- of the call, by the desk before it and after it; the six lines of the board's book, or nothing. What it hands over to be
--- shown is that book.
+-- What a process prints belongs to the book that it shows then: how its desk stands; what its scorer is told of a call, by the
+-- desk before and after it; the six lines of the board's book, or nothing. What it hands over to be shown is that book.
 abbrev pub PrintsItsBook : {Disk : Type 0} → ℕ → Configuration Disk → Happening Disk → Type 0
 PrintsItsBook innings w (DeskGreeted d s text) =
     (k : DeskState _) × ((node w d).process ≡ Running k) × (text ≡ greeting_of s innings k)
@@ -63,27 +62,28 @@ pub record ProcessHeadline {Disk : Type 0} (game innings : ℕ) (w : Configurati
   -- of any two books that any two processes show at any two times, one is a prefix of the other
   pub prefixes : (t u : Station) (xs ys : List Entry) → AtSomeTime w hs (λ v. Shows v t xs)
       → AtSomeTime w hs (λ v. Shows v u ys) → BeginsWith ys xs ⊎ BeginsWith xs ys
-  -- both desks have voted in one round for each entry of a book that a process shows
+  -- for each entry of a book that a process shows, both desks have voted for it in one round
   pub by_both : AtEachTime w hs ByBoth
-  -- each vote of a desk is for a line that its scorer typed there, and that it was given at its position and that in full is
-  -- its entry's, behind `again ` in every round but the first, or there as `again` alone, for the entry of the round before
+  -- Each vote of a desk is for a line that its scorer typed there, and that the desk was given at the vote's position. Put in
+  -- full, the line is the entry's; in every round but the first it stands behind `again `, or is `again` alone, for the entry
+  -- of the round before.
   pub typed : (d : DeskId) (b : Ballot) → In b (votes_by (all_votes (after w hs)) d) → WasTyped w hs d b
-  -- each score is the Laws' score of its book: in a match of one or two innings a side each book that a process shows has
-  -- one, and books of one length have the same, whichever processes show them at whatever times
+  -- Each score is the Laws' score of its book: in a match of one or two innings a side each book that a process shows has one,
+  -- and books of equal length have equal scores, at whatever processes and times.
   pub scored : 1 ≤ innings → innings ≤ 2 → AtEachTime w hs (AllHaveScores innings)
   pub scores : (t u : Station) (n : ℕ) (score other : Standing)
       → AtSomeTime w hs (λ v. ShowsScore innings v t n score)
       → AtSomeTime w hs (λ v. ShowsScore innings v u n other) → score ≡ other
-  -- what a process prints is of the book that it shows then
+  -- what a process prints belongs to the book that it shows then
   pub prints : AtEachHappening w hs (PrintsItsBook innings)
-  -- what a board prints, and what it hands over to be shown, as its text and as its state, is of a book for each entry of
-  -- which both desks have voted in one round, with the score that the Laws give it
+  -- What a board prints, and hands over to be shown as its text and as its state, is of a book for each entry of which both
+  -- desks have voted in one round, with its score by the Laws.
   pub shows_agreed : AtEachHappening w hs (ShowsAgreed innings)
-  -- what brings the second of two equal votes to a process that keeps the first makes its book longer by their entry
+  -- a call that brings the second of two equal votes to a process that keeps the first adds their entry to its book
   pub takes_second : AtEachHappening w hs (TakesSecond game)
-  -- and no process keeps both votes of its position
+  -- no process keeps both votes of its position
   pub none_waits : AtEachTime w hs NoneKeepsBoth
-  -- by no message that a station handed out is a desk shown that its own file lacks lines, or the other's
+  -- no message that a station handed out shows a desk that its own file lacks lines, or the other desk's
   pub shows_no_loss : AtEachHappening w hs (ShowsNoLoss game)
-  -- nor is any vote that a station handed out against a round that a board has heard
+  -- no vote that a station handed out contradicts a round that a board has heard
   pub no_vote_parts : NoVoteParts w hs

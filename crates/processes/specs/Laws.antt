@@ -1,4 +1,4 @@
--- What happens to processes is a run of the definitions, and so the headline holds of it.
+-- What happens to processes is a run of the definitions, so the headline holds of it.
 use Rattle.std.specs.Prelude.{◌≡◌, ◌≤◌, ℕ, List, [], ◌∷◌, ◌++◌, length, Some, None}
 use Rattle.corrections.specs.declared.refusal.Refusal.{Refusal}
 use Rattle.cards.specs.Sheet.{Sheet}
@@ -25,7 +25,7 @@ abbrev pub GoesOn :
 GoesOn s w ms new =
     (more : List (Moment _ Refusal)) × (length more ≤ 2) × Run s w (more ++ ms) × (last_of w (more ++ ms) ≡ new)
 
--- the run goes through all that happened, one after the other, with at most two events for each
+-- the run goes through all happenings, one after the other, with at most two events for each
 abbrev pub GoesThrough :
     {Disk : Type 0} → Configuration Disk → List (Moment Disk Refusal) → List (Happening Disk) → Type 0
 GoesThrough w ms [] = ms ≡ []
@@ -34,8 +34,8 @@ GoesThrough w ms (h ∷ hs) =
     × (ms ≡ more ++ rest) × GoesThrough w rest hs × (last_of w ms ≡ after w (h ∷ hs))
 
 module _ {Disk : Type 0} (seen : Disk → List ℕ) (images : Disk → Images) where
-  -- A moment of a board's process, in the configuration that a run has come to, whose datagram, where it reads as a
-  -- message of the match, was sent before: the run goes on to the one with that board so and its messages handed out.
+  -- A moment of a board's process extends a run that has come to this configuration, if its datagram was sent before or reads
+  -- as no message of the match. The run goes on to the configuration with the new board and the messages that it handed out.
   abbrev pub BoardStepsInRun : Type 0
   BoardStepsInRun =
       (contents : FileVersion → FileContents) (game innings : ℕ) (w : Configuration Disk) (ms : List (Moment Disk Refusal))
@@ -45,7 +45,7 @@ module _ {Disk : Type 0} (seen : Disk → List ℕ) (images : Disk → Images) w
       → GoesOn (setting_of contents seen images game innings) w ms
       (record v { boards = with_board v.boards n l; sent = v.sent ++ out })
 
-  -- the same of a desk's process, with whatever sheet, where no fault is due on its disk
+  -- likewise for a desk's process, with any sheet, if no fault is due on its disk
   abbrev pub DeskStepsInRun : Type 0
   DeskStepsInRun =
       (contents : FileVersion → FileContents) (game innings : ℕ) (w : Configuration Disk) (ms : List (Moment Disk Refusal))
@@ -63,7 +63,7 @@ module _ {Disk : Type 0} (seen : Disk → List ℕ) (images : Disk → Images) w
         Begins (setting_of contents seen images game innings) version boards w
         × Flow (λ d version. file_view (contents version) seen images d game) game innings w hs
 
-  -- a run of the definitions goes through it, of which all holds that holds of every run
+  -- a run of the definitions goes through each flow, and all that holds of every run holds of it
   abbrev pub FlowsAreRuns : Type 0
   FlowsAreRuns =
       (contents : FileVersion → FileContents) (game innings : ℕ) (version : FileVersion) (boards : ℕ) (w : Configuration Disk)
@@ -71,7 +71,7 @@ module _ {Disk : Type 0} (seen : Disk → List ℕ) (images : Disk → Images) w
       → (ms : List (Moment Disk Refusal)) × Run (setting_of contents seen images game innings) w ms
       × GoesThrough w ms hs × HoldsInRun (setting_of contents seen images game innings) innings w ms
 
-  -- and so the headline holds of it
+  -- so the headline holds of each flow
   abbrev pub FlowsHaveHeadline : Type 0
   FlowsHaveHeadline =
       (contents : FileVersion → FileContents) (game innings : ℕ) (version : FileVersion) (boards : ℕ) (w : Configuration Disk)

@@ -1,6 +1,6 @@
--- What is claimed: Laws, of flows of Happenings, by the Headline for processes, with Printing and PublicScores; Weaving, of the Lives of
--- stations; Progress, of what goes on with them, by Exchanges; Stations and Files, which tie lives to processes and to files; Worked, a
--- life that is one.
+-- What is claimed. Laws: of flows of Happenings, by the Headline for processes, with Printing and PublicScores. Weaving: of the
+-- Lives of stations. Progress: what goes on with them, by Exchanges. Stations and Files tie lives to processes and to files.
+-- Worked is one such life.
 pub mod Printing
 pub mod Happenings
 pub mod PublicScores

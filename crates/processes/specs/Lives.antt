@@ -27,16 +27,16 @@ use Rattle.station_texts.specs.declared.notices.Notice.{Notice}
 use Rattle.processes.specs.Happenings.{BoardBegun, BoardCalled, BoardGreeted, DeskBegun, DeskCalled, DeskEnded, DeskGreeted, FileMigrated, Happening, PowerLost, begun, migrated}
 use Rattle.processes.specs.Printing.{HandsBook, greeting_of}
 
--- What is claimed of a process by a contract is claimed where its call returns, and a process may be killed amid a call or
--- run on for ever. It is so of these too: the logs of what passed, was typed and was written only grow, and at each
--- moment the next call of the disk, the link or the writer may fail and end the call. So whatever a process has done up
--- to a moment is what one has done that ended there, and of that the contract speaks. What a process does to its file
--- before it begins on it, a sync or a copy, belongs to its beginning; a migration stands between an end and a beginning.
+-- A contract speaks of a process when its call returns, but a process may be killed amid a call or run on for ever. The claims
+-- hold of these too: the logs of what passed, was typed and was written only grow, and at each moment the next call of the
+-- disk, the link or the writer may fail and end the call. So whatever a process has done up to a moment, a process that ended
+-- there has done too, and the contract speaks of that one. What a process does to its file before it begins on it, a sync or a
+-- copy, belongs to its beginning. A migration stands between an end and a beginning.
 
 -- A stage of a desk's life: its process, begun with this sheet as this desk, tells its scorer how it stands and makes these
--- calls; it is cut off amid a call, which has then done what one does whose disk fails, and prints nothing; it has ended
--- or was killed, with the disk left; its laptop has lost power, with the disk left; the next process begins on its file;
--- its file is migrated, with these votes, to this disk.
+-- calls; it is cut off amid a call, which then has the effects of a call whose disk fails, and prints nothing; it has ended or
+-- was killed, with the disk left; its laptop has lost power, with the disk left; the next process begins on its file; its file
+-- is migrated, with these votes, to this disk.
 pub data Stage (Disk : Type 0) : Type 0 where
   CallsMade : Sheet → DeskState Disk → List (own.Moment (DeskProcess Disk) DeskCall) → Stage Disk
   CutOff : Sheet → DeskCall → DeskState Disk → Stage Disk
@@ -58,7 +58,7 @@ after_stage x (PowerLoss disk) = record x { process = Down (process_votes x.proc
 after_stage x (Beginning opening) = record x { process = begun (process_votes x.process) opening }
 after_stage x (FileMigration votes new) = migrated x new
 
--- after these stages, the newest first
+-- the desk after these stages, the newest first
 abbrev pub after_life : {Disk : Type 0} → Node Disk → List (Stage Disk) → Node Disk
 after_life x [] = x
 after_life x (stage ∷ stages) = after_stage (after_life x stages) stage
@@ -68,8 +68,8 @@ abbrev pub BeginsFirst : {Disk : Type 0} → FileView Disk → (Disk → List �
 BeginsFirst view seen innings d k =
     (disk : _) × BeginsOn view seen innings d disk (Opened k) × (k.votes ≡ [])
 
--- the moments are a run of a desk's process, with this sheet, from its beginning on, where this is what a disk shows of its file, and
--- what is told of the disk's failures
+-- the moments are a run of a desk's process, with this sheet, from its beginning on; `view` is what a disk shows of its file,
+-- `faults` what is told of the disk's failures
 abbrev pub RunsFrom :
     {Disk : Type 0} → Sheet → FileView Disk → (Disk → Faults) → ℕ → ℕ
     → DeskState Disk → List (own.Moment (DeskProcess Disk) DeskCall) → Type 0
@@ -77,12 +77,12 @@ RunsFrom sheet view faults game innings k ms =
     (room : ℕ → ℕ) × (cap : ℕ)
     × own.Run (desk_kind sheet view (record { faults = faults; FitsLongest = FitsLongest room cap }) game innings) (fresh k) ms
 
--- the desk of this letter in a match of this number and innings a side, where this is what a disk shows of a file of
--- each version, what a read gives, and what is told of its failures
+-- desk d of a match of this number and innings a side; `view` is what a disk shows of a file of each version, `seen` what a
+-- read gives, `faults` what is told of the disk's failures
 module _
     {Disk : Type 0} (view : FileVersion → FileView Disk) (seen : Disk → List ℕ) (faults : Disk → Faults) (d : DeskId)
     (game innings : ℕ) where
-  -- the stage may come next
+  -- which stage may come next
   abbrev pub IsNextStage : Node Disk → Stage Disk → Type 0
   IsNextStage x (CallsMade s k ms) = (x.process ≡ Running k) × RunsFrom s (view x.version) faults game innings k ms
   IsNextStage x (CutOff s call l) =
@@ -101,7 +101,7 @@ module _
   IsLife x [] = Unit {0}
   IsLife x (stage ∷ stages) = IsLife x stages × IsNextStage (after_life x stages) stage
 
--- what happens at a desk in a stage, and in its life, with what its scorer is told
+-- what happens at a desk in a stage, or in its life, with what its scorer is told
 abbrev pub calls_of :
     {Disk : Type 0} → ℕ → DeskId → Sheet → DeskState Disk → List (own.Moment (DeskProcess Disk) DeskCall)
     → List (Happening Disk)
@@ -123,7 +123,7 @@ abbrev pub life_happens : {Disk : Type 0} → ℕ → DeskId → List (Stage Dis
 life_happens innings d [] = []
 life_happens innings d (x ∷ xs) = stage_happens innings d x ++ life_happens innings d xs
 
--- a board's process at its beginning, with an empty book, behind any notices and whatever was handed over to be shown
+-- a board's process at its beginning, with an empty book, after these notices and whatever was handed over to be shown
 abbrev pub fresh_turn : List Notice → List Sight → BoardTurn
 fresh_turn noted seen = boards.begun fresh_board 0 boards.unheard unticked noted seen
 
@@ -131,8 +131,8 @@ fresh_turn noted seen = boards.begun fresh_board 0 boards.unheard unticked noted
 abbrev pub BoardRuns : ℕ → ℕ → Sheet → BoardTurn → List (own.Moment BoardTurn BoardCall) → Type 0
 BoardRuns game innings s k ms = own.Run (board_kind s game innings) k ms
 
--- a process of a board: the sheet that it was begun with, the notices and what was handed over before its first turn, what
--- it handed over as it began, and its calls
+-- a process of a board: the sheet that it was begun with, the notices and what was handed over before its first turn, what it
+-- handed over as it began, and its calls
 pub record BoardProcess : Type 0 where
   pub sheet : Sheet
   pub noted : List Notice
@@ -143,17 +143,17 @@ pub record BoardProcess : Type 0 where
 abbrev pub first_turn : BoardProcess → BoardTurn
 first_turn p = fresh_turn p.noted p.seen
 
--- it hands over its empty book at first, or nothing, and its calls are such a run
+-- it first hands over its empty book, or nothing, and its calls are a run of a board's process
 abbrev pub IsBoardProcess : ℕ → ℕ → BoardProcess → Type 0
 IsBoardProcess game innings p =
     HandsBook p.sheet innings [] p.first × BoardRuns game innings p.sheet (first_turn p) p.calls
 
--- so each of its processes, the newest first
+-- each process of a board's life is one of a board, the newest first
 abbrev pub IsBoardLife : ℕ → ℕ → List BoardProcess → Type 0
 IsBoardLife game innings [] = Unit {0}
 IsBoardLife game innings (p ∷ ps) = IsBoardLife game innings ps × IsBoardProcess game innings p
 
--- what happens at a board in a process, and in its life, with what it prints and hands over
+-- what happens at a board in a process, or in its life, with what it prints and hands over
 abbrev pub board_calls :
     {Disk : Type 0} → ℕ → ℕ → Sheet → BoardTurn → List Sight → List (own.Moment BoardTurn BoardCall)
     → List (Happening Disk)

@@ -1,5 +1,5 @@
--- What goes on with processes: what happens to them is a run, tick by tick and message by message, and what goes on in every
--- run goes on in it.
+-- What goes on with processes: what happens to them is a run, tick by tick and message by message, so what goes on in every run
+-- goes on with them.
 use Rattle.std.specs.Prelude.{◌≡◌, ℕ, List, [], ◌∷◌, ◌++◌, Some, Ok, slice_get}
 use Rattle.notation.specs.declared.entry.Entry.{Entry}
 use Rattle.corrections.specs.declared.refusal.Refusal.{Refusal}
@@ -28,7 +28,7 @@ use Rattle.processes.specs.Happenings.{BoardCalled, DeskCalled, Happening, after
 use Rattle.processes.specs.Exchanges.{HaveExchanged, ProcessExchange}
 use Rattle.processes.specs.Laws.{IsFlow}
 
--- it is given by this number, and that is one that it was sent as, if it was
+-- the message is given by this number, which is one under which it was sent, if it was sent
 abbrev pub IsGivenAsSent : List Message → ℕ → Message → Type 0
 IsGivenAsSent sent n m = IsGiven sent n m × ((i : ℕ) → slice_get sent i ≡ Some m → slice_get sent n ≡ Some m)
 
@@ -39,30 +39,30 @@ IsQuietCall (desks.Given bytes What.Device) = ⊥
 IsQuietCall call = Unit {0}
 
 module _ {Disk : Type 0} where
-  -- it is one moment, of which this is so
+  -- the list is one moment, with this property
   abbrev pub IsOne : (Moment Disk Refusal → Type 0) → List (Moment Disk Refusal) → Type 0
   IsOne P (m ∷ []) = P m
   IsOne P ms = ⊥
 
-  -- in a moment the station ticks
+  -- in the moment the station ticks
   abbrev pub TicksAt : Station → Moment Disk Refusal → Type 0
   TicksAt t m = m.event ≡ Event.Tick t
 
-  -- in a moment the station is given the message that the bytes say, by a number by which it may be given: one that it was
-  -- sent as, where it was
+  -- in the moment the station is given the message that the bytes say, by a number under which it was sent, or, if it wasn't
+  -- sent, by one that gives an ask
   abbrev pub GivesAt : ℕ → Configuration Disk → Station → List ℕ → Moment Disk Refusal → Type 0
   GivesAt game v t bytes m =
       (n : ℕ) × (message : Message) × (m.event ≡ Event.Give n t) × Says game bytes message × IsGivenAsSent v.sent n message
 
-  -- What a call of a desk is in a run: a tick is a tick; a message that it is told of or answers is that message; and what
-  -- leaves it as it is, is nothing.
+  -- What a call of a desk is in a run: a tick is a tick; a message that the desk hears or answers is that message given to it;
+  -- and a call that leaves the desk as it is, is no moment.
   abbrev pub PlaysDesk : ℕ → Configuration Disk → DeskId → DeskCall → List (Moment Disk Refusal) → Type 0
   PlaysDesk game v d desks.Ticked ms = IsOne (TicksAt (Station.Desk d)) ms
   PlaysDesk game v d (desks.Given bytes (What.Heard heard)) ms = IsOne (GivesAt game v (Station.Desk d) bytes) ms
   PlaysDesk game v d (desks.Given bytes What.Asked) ms = IsOne (GivesAt game v (Station.Desk d) bytes) ms
   PlaysDesk game v d call ms = ms ≡ []
 
-  -- and one of a board
+  -- what a call of a board is in a run, likewise
   abbrev pub PlaysBoard : ℕ → Configuration Disk → ℕ → BoardCall → List (Moment Disk Refusal) → Type 0
   PlaysBoard game v n boards.Ticked ms = IsOne (TicksAt (Station.Board n)) ms
   PlaysBoard game v n (boards.Given bytes (Ok (What.Bad fault))) ms = ms ≡ []
@@ -74,7 +74,7 @@ module _ {Disk : Type 0} where
   Plays game v (BoardCalled n s call out l text seen) ms = PlaysBoard game v n call ms
   Plays game v what ms = ⊥
 
-  -- the moments play all that happened from that configuration on, one after the other, and come to the same configurations
+  -- the moments play all happenings from that configuration on, one after the other, and come to the same configurations
   abbrev pub ArePlayed : ℕ → Configuration Disk → List (Happening Disk) → List (Moment Disk Refusal) → Type 0
   ArePlayed game v [] ms = ms ≡ []
   ArePlayed game v (h ∷ hs) ms =
@@ -90,11 +90,11 @@ module _ {Disk : Type 0} where
   AllQuiet [] = Unit {0}
   AllQuiet (h ∷ hs) = AllQuiet hs × IsQuiet h
 
--- What goes on with processes after some time, `v` being what the stations were then, while no scorer types, no disk fails,
--- and no process begins or ends: it is a calm run, in which the stations tick where their processes tick, and are given
--- what those are given. So where processes have an exchange, so have the stations in this run. At `v` there holds what holds
--- in every run. So where both desks were up then, and each has had an exchange with the other, both are in step; and a board
--- that has had as many with both as it was behind has their book.
+-- What goes on with processes after some time, with `v` as the stations' configuration then, while no scorer types, no disk
+-- fails, and no process begins or ends. It is a calm run, in which stations tick when their processes tick, and are given what
+-- the processes are given. So if processes have an exchange, the stations have one in this run. What holds in every run holds
+-- at `v`. So if both desks were up then, and each has had an exchange with the other, both are in step; and a board that has
+-- had as many exchanges with both as it was behind has their book.
 pub record GoOn
     {Disk : Type 0} (s : Setting Disk Refusal) (game : ℕ) (v : Configuration Disk) (hs : List (Happening Disk)) : Type 0 where
   pub moments : List (Moment Disk Refusal)
@@ -112,7 +112,7 @@ pub record GoOn
       × (HasExchanges v n m moments → (l : BoardState) × (board_at (after v hs).boards n ≡ Some l)
       × ((p : Position) (book : List Entry) → InStep (after v hs) p book → l.book ≡ book))
 
--- so it is after whatever happened to the processes of a match
+-- this holds after whatever happened to the processes of a match
 abbrev pub ProcessesGoOn : {Disk : Type 0} → (Disk → List ℕ) → (Disk → Images) → Type 0
 ProcessesGoOn {Disk} seen images =
     (contents : FileVersion → FileContents) (game innings : ℕ) (version : FileVersion) (boards : ℕ) (w : Configuration Disk)

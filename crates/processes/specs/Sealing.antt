@@ -1,4 +1,5 @@
--- What comes at a station that takes sealed datagrams alone: the premise on the network, of each pair, over bytes as they come.
+-- The premise on the network, for a station that takes only sealed datagrams: what each pair's seal says of the bytes that
+-- come.
 use Rattle.std.specs.Prelude.{◌≡◌, ℕ, Some, List, length, slice_get}
 use Rattle.agree_core.specs.declared.messages.{DeskId.DeskId, Message.Message, Vote.Vote}
 use Rattle.agree_core.specs.declared.messages.DeskId.TheVariants.{A, B}
@@ -12,9 +13,9 @@ use Rattle.live.specs.Boards.{BoardCall}
 use Rattle.live.specs.Desks as desks
 use Rattle.live.specs.Desks.{DeskCall}
 
--- where the message reads as a vote of the match, it is the opening of bytes that came, by a seal that this station shares with
--- who sent it; and where these open by that seal, one of the stations had sealed them with it before. Asks need no such thing:
--- anybody may make them up.
+-- If the message reads as a vote of the match, it is the opening of received bytes, by a seal that this station shares with
+-- their sender; and if these open by that seal, one of the stations had sealed them with it before. Asks need no such thing:
+-- anyone may make them up.
 abbrev pub IsAuthentic : Ring → ℕ → List Message → List ℕ → Type 0
 IsAuthentic ring game sent message =
     (v : Vote) → Says game message (Message.Vote v)
@@ -22,7 +23,7 @@ IsAuthentic ring game sent message =
     × (slice_get (seals_by ring message) i ≡ Some seal) × IsSealed seal message bytes
     × IsUnforged seal game sent bytes))
 
--- so for the message that a call is given, where it has one
+-- this holds of the message that a call is given, if any
 abbrev pub DeskAuthentic : Ring → ℕ → List Message → DeskCall → Type 0
 DeskAuthentic ring game sent (desks.Given message what) = IsAuthentic ring game sent message
 DeskAuthentic ring game sent call = Unit {0}

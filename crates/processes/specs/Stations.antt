@@ -1,4 +1,4 @@
--- What the processes of `live` state is part of a station's life.
+-- The contracts of `live`, read as parts of a station's life.
 use Rattle.std.specs.Prelude.{◌≡◌, ◌<◌, ℕ, List, [], ◌∷◌, ◌++◌, length, Result, IfOk}
 use Rattle.notation.specs.declared.entry.Entry.{Entry}
 use Rattle.corrections.specs.declared.book_of.BookOf.{Ghosts as Books}
@@ -36,7 +36,7 @@ use Rattle.processes.specs.Lives.{Beginning, BoardProcess, CallsMade, IsBoardPro
 use Rattle.processes.specs.Printing.{greeting_of}
 
 module _ {S B D : Type 0} {g : Files S D} {h : Disks D} {b : Books B} where
-  -- By what `begin_desk` ensures of its answer (`creates`, `opens`), a process so begins on this disk.
+  -- By what `begin_desk` ensures of its answer (`creates`, `opens`), a process may begin like this on this disk.
   abbrev pub BeginningIsStage : Result (Desk S B D g h b) (OpenRefusal × D) → Type 0
   BeginningIsStage made =
       (disk : D) (d : DeskId) (game innings : ℕ)
@@ -46,10 +46,10 @@ module _ {S B D : Type 0} {g : Files S D} {h : Disks D} {b : Books B} where
       → Opens (file_view g.contents h.seen h.images d game) (book_refusal innings) d disk (opening made))
       → BeginsOn (file_view g.contents h.seen h.images d game) h.seen innings d disk (opening made)
 
-  -- From the desk at the start of its process to the desk at its end, by what `run_desk` ensures: these moments are a
-  -- run from its beginning on, their datagrams are just those that passed, their lines just those that were typed, their
-  -- times just those that its clock showed, and their texts just those that were written: behind the one of how the match
-  -- stands at first, each is of the book that the desk has after its call.
+  -- By what `run_desk` ensures, from the desk at the start of its process to the desk at its end: the moments are a run from
+  -- its beginning on; their datagrams are exactly those that passed, their lines those that were typed, their times those that
+  -- its clock showed, and their texts those that were written. The first text says how the match stands, and each later one
+  -- belongs to the book that the desk has after its call.
   abbrev pub DeskRunIsStage : (old new : Desk S B D g h b) → Type 0
   DeskRunIsStage old new =
       (sheet : Sheet) (before after : Logs) (turns : ℕ) (result : Result (Unit {0}) DeskEnd)
@@ -61,7 +61,7 @@ module _ {S B D : Type 0} {g : Files S D} {h : Disks D} {b : Books B} where
       (known_in result (with_told before (greeting_of sheet (innings_of old) (state_of old)))) (known_in result after)
 
 module _ {Disk : Type 0} where
-  -- the stages of one process of a desk: its beginning, and its calls where that opened the desk
+  -- the stages of one process of a desk: its beginning, and its calls if the desk was opened
   abbrev pub process_stages : Sheet → Opening Disk → List (own.Moment (DeskProcess Disk) DeskCall) → List (Stage Disk)
   process_stages sheet (Opened k) calls = CallsMade sheet k calls ∷ Beginning (Opened k) ∷ []
   process_stages sheet (NotOpened cause left) calls = Beginning (NotOpened cause left) ∷ []
@@ -71,7 +71,7 @@ module _ {Disk : Type 0} where
     abbrev pub process_kind : own.Kind (DeskProcess Disk) DeskCall
     process_kind = desk_kind sheet view disks sheet.game innings
 
-    -- how its logs grew: not at all, where no desk was opened
+    -- how the process's logs grew: not at all, if no desk was opened
     abbrev pub ProcessLogs :
         Opening Disk → List (own.Moment (DeskProcess Disk) DeskCall) → Logs → Logs → Result (Unit {0}) LifeEnd → Type 0
     ProcessLogs (Opened k) calls before after result =
@@ -79,12 +79,12 @@ module _ {Disk : Type 0} where
         × LogsGrow process_kind (fresh k) calls (known_in end (with_told before (greeting_of sheet innings k))) (known_in end after)
     ProcessLogs (NotOpened cause left) calls before after result = after ≡ before
 
--- on disks of this kind, of which `seen` is what is read, `images` what a power loss may leave, and `faults` what is told of
+-- for disks of this kind, with `seen` as what is read, `images` as what a power loss may leave, and `faults` as what is told of
 -- their failures
 module _ {Disk : Type 0} (seen : Disk → List ℕ) (images : Disk → Images) (faults : Disk → Faults) where
-  -- By what `keep_desk` ensures, its process on the disk of a desk that is down is a part of that desk's life: its
-  -- beginning, and its calls where that opened the desk. Its datagrams are just those that passed, its lines just those
-  -- that were typed, its times just those that were read, and its texts just those that were written.
+  -- By what `keep_desk` ensures, its process on the disk of a desk that is down is a part of that desk's life: its beginning,
+  -- and its calls if the desk was opened. Its datagrams are exactly those that passed, its lines those that were typed, its
+  -- times those that were read, and its texts those that were written.
   abbrev pub DeskLifeIsLife : Type 0
   DeskLifeIsLife =
       (contents : FileVersion → FileContents) (d : DeskId) (x : Node Disk) (votes : List Ballot) (disk : Disk)
@@ -99,9 +99,9 @@ module _ {Disk : Type 0} (seen : Disk → List ℕ) (images : Disk → Images) (
       (record { faults = faults; FitsLongest = FitsLongest room cap }) sheet innings opening calls before after result
 
 module _ {B : Type 0} {g : _} (content : B → List Entry) (innings_of : B → ℕ) where
-  -- From a new board on, by what `keep_board` ensures, a process of a board's life, with this sheet: its datagrams are just
-  -- those that passed, its times just those that its clock showed, and its texts just those that were written, first the
-  -- one of its empty book; and what was handed over to be shown is just what it did.
+  -- By what `keep_board` ensures, a new board's run is a process of a board's life, with this sheet: its datagrams are exactly
+  -- those that passed, its times those that its clock showed, its texts those that were written, the empty book's first, and
+  -- its sights those that were handed over to be shown.
   abbrev pub BoardLifeIsProcess : (old new : Board B g) → Type 0
   BoardLifeIsProcess old new =
       (sheet : Sheet) (before after : Logs) (turns : ℕ) (noted notes : List Notice) (seen sees : List Sight)

@@ -1,4 +1,4 @@
--- The lives of all stations in one order.
+-- The lives of all stations, in one order.
 use Rattle.std.specs.Prelude.{◌≡◌, ℕ, Bool, true, false, nat_eq, List, [], ◌∷◌, None}
 use Rattle.std.specs.List.{filter}
 use Rattle.entry_log.specs.Disk.{Faults, Images}
@@ -18,7 +18,7 @@ use Rattle.processes.specs.Parting.{NoneIsParted, NoneTells}
 use Rattle.processes.specs.Sealing.{BoardAuthentic, DeskAuthentic, ring_of_desk}
 use Rattle.seal.specs.Rings.{Seals, ring_of_board}
 
--- it happens at this desk; at this board
+-- whether it happens at this desk, or at this board
 abbrev pub same_desk : DeskId → DeskId → Bool
 same_desk A A = true
 same_desk A B = false
@@ -42,7 +42,7 @@ is_at_board n (BoardCalled m s call out l text seen) = nat_eq n m
 is_at_board n (BoardBegun m) = nat_eq n m
 is_at_board n what = false
 
--- where sealed bytes came and opened, a station had sealed them with that pair's seal before
+-- if sealed bytes came to a station and opened, a station had sealed them with that pair's seal before
 abbrev pub Came : {Disk : Type 0} → Seals → ℕ → Configuration Disk → Happening Disk → Type 0
 Came seals game w (DeskCalled d s call out l text) = DeskAuthentic (ring_of_desk seals d) game w.sent call
 Came seals game w (BoardCalled n s call out l text seen) = BoardAuthentic (ring_of_board seals n) game w.sent call
@@ -52,7 +52,7 @@ abbrev pub NothingIsForged : {Disk : Type 0} → Seals → ℕ → Configuration
 NothingIsForged seals game w [] = Unit {0}
 NothingIsForged seals game w (h ∷ hs) = NothingIsForged seals game w hs × Came seals game (after w hs) h
 
--- two desks at the beginning of their first processes, and so many boards
+-- two desks at the beginning of their first processes, and this many boards
 abbrev pub start : {Disk : Type 0} → FileVersion → ℕ → DeskState Disk → DeskState Disk → Configuration Disk
 start version boards a b =
     record {
@@ -63,8 +63,9 @@ start version boards a b =
     }
 
 module _ {Disk : Type 0} (seen : Disk → List ℕ) (images : Disk → Images) (faults : Disk → Faults) where
-  -- All that happened to the processes of a match with these seals, the newest first: what opened at a station by the seal of a
-  -- pair, one of them had sealed with that before; what happened at each desk and at each board is its life; and there are no other boards.
+  -- All that happened to the processes of a match with these seals, the newest first: whatever opened at a station by a pair's
+  -- seal, a station had sealed with it before; what happened at each desk and at each board is its life; and nothing happened
+  -- at other boards.
   pub record IsWoven (seals : Seals) (contents : FileVersion → FileContents) (game innings : ℕ) (w : Configuration Disk) (hs : List (Happening Disk)) : Type 0 where
     pub order : NothingIsForged seals game w hs
     pub desks : (d : DeskId) → (life : List (Stage Disk))
@@ -80,7 +81,8 @@ module _ {Disk : Type 0} (seen : Disk → List ℕ) (images : Disk → Images) (
       BeginsFirst (file_view contents seen images A game) seen innings A a
       × BeginsFirst (file_view contents seen images B game) seen innings B b
 
-  -- the lives of all stations of a match's seals, put into one order in which nothing opens that none had sealed so, are a flow
+  -- The lives of all stations of a match with these seals are a flow, put into one order in which nothing opens by a seal that
+  -- no station had sealed with it.
   abbrev pub WovenLivesFlow : Type 0
   WovenLivesFlow =
       (seals : Seals) (contents : FileVersion → FileContents) (game innings : ℕ) (version : FileVersion) (boards : ℕ)
@@ -89,7 +91,7 @@ module _ {Disk : Type 0} (seen : Disk → List ℕ) (images : Disk → Images) (
       → IsWoven seals contents game innings (start version boards a b) hs
       → IsFlow seen images contents game innings version boards (start version boards a b) hs
 
-  -- and so the headline holds of them
+  -- so the headline holds of them
   abbrev pub WovenLivesHaveHeadline : Type 0
   WovenLivesHaveHeadline =
       (seals : Seals) (contents : FileVersion → FileContents) (game innings : ℕ) (version : FileVersion) (boards : ℕ)
@@ -98,7 +100,7 @@ module _ {Disk : Type 0} (seen : Disk → List ℕ) (images : Disk → Images) (
       → IsWoven seals contents game innings (start version boards a b) hs
       → ProcessHeadline game innings (start version boards a b) hs
 
-  -- and no board drops a vote as one by which a desk's file lacks lines
+  -- no board drops a vote as one that shows that a desk's file lacks lines
   abbrev pub WovenLivesPartNone : Type 0
   WovenLivesPartNone =
       (seals : Seals) (contents : FileVersion → FileContents) (game innings : ℕ) (version : FileVersion) (boards : ℕ)
@@ -106,7 +108,7 @@ module _ {Disk : Type 0} (seen : Disk → List ℕ) (images : Disk → Images) (
       → BothBegin (contents version) game innings a b
       → IsWoven seals contents game innings (start version boards a b) hs → NoneIsParted hs
 
-  -- nor tells by what it hands over to be shown that one does
+  -- no board tells, by what it hands over to be shown, that a desk's file lacks lines
   abbrev pub WovenLivesTellNone : Type 0
   WovenLivesTellNone =
       (seals : Seals) (contents : FileVersion → FileContents) (game innings : ℕ) (version : FileVersion) (boards : ℕ)

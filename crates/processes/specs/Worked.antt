@@ -1,7 +1,7 @@
--- A worked life: desk A pens `void`, is killed, begins in vain, and begins; desk B is given its vote, tells its scorer later
--- that the other has written, and pens `void` too; a board shows its empty book, looks at its clock, asks, is given the vote with
--- which each desk answers, and shows the book. A disk is its bytes, all of them synced: one for the header, and one for the desk's vote. The
--- texts were written by hand.
+-- A worked life. Desk A pens `void`, is killed, begins in vain, and begins; desk B is given its vote, tells its scorer later
+-- that the other has written, and pens `void` too. A board shows its empty book, looks at its clock, asks, is given the vote
+-- with which each desk answers, and shows the book. A disk is its bytes, all synced: one for the header, and one for the desk's
+-- vote. The texts were written by hand.
 use Rattle.std.specs.Prelude.{ℕ, List, [], ◌∷◌, ◌++◌, None, Ok, Err, codes, false}
 use Rattle.notation.specs.declared.entry.Entry.TheVariants.{Write}
 use Rattle.notation.specs.declared.entry.Plain.TheVariants.{Void}
@@ -38,7 +38,7 @@ use Rattle.processes.specs.Files.{NoneShowNone}
 use Rattle.processes.specs.Progress.{AllQuiet}
 use Rattle.processes.specs.Weaving.{BothBegin, IsWoven, start}
 
--- what is on a disk: behind the header the desk's vote, or none
+-- the bytes of a disk: the header, and behind it the desk's vote, or none
 abbrev pub the_vote : Ballot
 the_vote = ballot_at 0 0 (Write Void)
 
@@ -56,7 +56,7 @@ disk_without = 1 ∷ []
 abbrev pub disk_with : List ℕ
 disk_with = 1 ∷ 1 ∷ []
 
--- the desks and the board, as they go on
+-- the states of the desks and the board, one after the other
 abbrev pub new_desk : DeskId → DeskState (List ℕ)
 new_desk d = opened d disk_without []
 
@@ -100,7 +100,7 @@ a_bytes = written 7 a_says
 abbrev pub b_bytes : List ℕ
 b_bytes = written 7 b_says
 
--- and of the board's ask
+-- the datagram of the board's ask
 abbrev pub ask_bytes : List ℕ
 ask_bytes = written 7 board_asks
 
@@ -108,7 +108,7 @@ ask_bytes = written 7 board_asks
 abbrev pub no_play : List ℕ
 no_play = codes "No play\nOvers -\nStriker -\nOther -\nTarget -\nResult -\n"
 
--- what happens at last, the newest first
+-- the last happenings, the newest first
 abbrev pub ended : Sheet → List (Happening (List ℕ))
 ended s =
     DeskGreeted A s (codes "No play\n0 pending: void\n")
@@ -118,7 +118,7 @@ ended s =
     ∷ BoardCalled 1 s boards.TurnEnded [] board_agreed no_play (sight_of s 1 (Write Void ∷ []) None ∷ [])
     ∷ []
 
--- the board asks before that, and each desk answers
+-- before them the board asks, and each desk answers
 abbrev pub exchanged : Sheet → List (Happening (List ℕ))
 exchanged s =
     BoardCalled 1 s (boards.Given b_bytes (Ok (Heard hearing.Heard.Agreed))) [] board_agreed [] []
@@ -128,7 +128,7 @@ exchanged s =
     ∷ BoardCalled 1 s boards.Ticked (board_asks ∷ []) fresh_board [] []
     ∷ []
 
--- and what happens at first
+-- the first happenings
 abbrev pub begun : Sheet → List (Happening (List ℕ))
 begun s =
     BoardCalled 1 s (boards.Looked 0) [] fresh_board [] []
@@ -147,14 +147,14 @@ begun s =
 abbrev pub lived : Sheet → List (Happening (List ℕ))
 lived s = ended s ++ (exchanged s ++ begun s)
 
--- all is so that the law of woven lives asks for: no bytes show no votes, both desks begin, and what happened is such as what
--- happens to processes, with whatever sheet and seals, in a match of one innings a side
+-- The premises of the law of woven lives hold: an empty file shows no votes, both desks begin, and all that happened may happen
+-- to processes, with any sheet and seals, in a match of one innings a side.
 abbrev pub LivedIsWoven : Type 0
 LivedIsWoven =
     NoneShowNone toy 7 × BothBegin (λ disk. disk) only no_faults (toy New) 7 1 (new_desk A) (new_desk B)
     × ((s : Sheet) (seals : Seals)
     → IsWoven (λ disk. disk) only no_faults seals toy 7 1 (start New 1 (new_desk A) (new_desk B)) (lived s))
 
--- and in its midst the board has an exchange with both desks, while no scorer types, no disk fails, and no process begins or ends
+-- amid them the board has an exchange with both desks, while no scorer types, no disk fails, and no process begins or ends
 abbrev pub LivedHasExchange : Type 0
 LivedHasExchange = (s : Sheet) → AllQuiet (exchanged s) × HaveExchanged 7 1 1 (exchanged s)

@@ -18,23 +18,23 @@ pub fn moments_extend_a_run<D: Disk>()
     ensures desks { DeskStepsInRun D.seen D.images }
 {}
 
-/// Where every datagram that came to a station and reads as a message of the match was sent by one of them before, the
-/// moments of two desks' and some boards' processes, with their ends and new beginnings, in the order in which they
-/// happened, are a run of the definitions. So the headline holds of them.
+/// If every datagram that came to a station and reads as a message of the match was sent by a station before, the moments of
+/// two desks' and some boards' processes, with their ends and new beginnings, in the order in which they happened, are a run of
+/// the definitions. So the headline holds of them.
 pub fn every_flow_is_sound<D: Disk>()
     ensures runs { FlowsAreRuns D.seen D.images }
     ensures headline { FlowsHaveHeadline D.seen D.images }
 {}
 
-/// What happens to processes, while no scorer types, no disk fails, and no process begins or ends, is such a run too, tick by
-/// tick and message by message, from what the stations were on. So what goes on in every run goes on with them.
+/// While no scorer types, no disk fails, and no process begins or ends, what happens to processes is such a run too, tick by
+/// tick and message by message, from the stations' states then. So what goes on in every run goes on with them.
 pub fn every_flow_goes_on<D: Disk>()
     ensures { ProcessesGoOn D.seen D.images }
 {}
 
-/// The lives of two desks and some boards that take sealed datagrams alone, each process from its beginning to its end,
-/// put into one order, are such moments, where what opened at a station was sealed by one of them before. So the headline holds
-/// of them, and no board drops a vote as one by which a desk's file lacks lines, nor tells so.
+/// The lives of two desks and some boards that take only sealed datagrams, each process from its beginning to its end, put into
+/// one order, are such moments, if whatever opened at a station was sealed by a station before. So the headline holds of them,
+/// and no board drops a vote as one that shows that a desk's file lacks lines, nor tells so.
 pub fn woven_lives_are_a_flow<D: Disk>()
     ensures flow { WovenLivesFlow D.seen D.images D.faults }
     ensures headline { WovenLivesHaveHeadline D.seen D.images D.faults }
@@ -54,24 +54,24 @@ pub fn desk_runs_are_stages<S: SlotsOf, B: BookOf>(old: &Desk<S, B>, new: &Desk<
     ensures { DeskRunIsStage old.now new.now }
 {}
 
-/// What `live::keep_desk` ensures, which the program calls, is a process of a desk's life, from its beginning to its end.
+/// What `live::keep_desk`, which the program calls, ensures is a process of a desk's life, from its beginning to its end.
 pub fn kept_desks_are_lives<D: Disk>()
     ensures { DeskLifeIsLife D.seen D.images D.faults }
 {}
 
-/// What `live::keep_board` ensures of a new board, which the program calls, is a process of its life.
+/// What `live::keep_board`, which the program calls, ensures of a new board is a process of its life.
 pub fn kept_boards_are_lives<B: BookOf>(old: &Board<B>, new: &Board<B>)
     ensures { BoardLifeIsProcess B.content B.innings_a_side old.now new.now }
 {}
 
-/// A file of either version without a byte shows no votes.
+/// An empty file of either version shows no votes.
 pub fn empty_files_show_none()
     ensures { EmptyFilesShowNone }
 {}
 
-/// The premises of the law of woven lives are met: a desk that pens, is killed, begins in vain and begins, with another desk
-/// and a board that are given its vote, is what it speaks of. In its midst the board has an exchange with both desks, of which the
-/// law of what goes on speaks.
+/// The premises of the law of woven lives can be met: by a desk that pens, is killed, begins in vain and begins, with another
+/// desk and a board that are given its vote. Amid this the board has an exchange with both desks, which the law of what goes on
+/// speaks of.
 pub fn a_worked_life_is_woven()
     ensures lives { LivedIsWoven }
     ensures exchange { LivedHasExchange }

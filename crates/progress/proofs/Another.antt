@@ -1,4 +1,4 @@
--- No vote of the other desk is another one than that by which a desk went on.
+-- No vote of the other desk differs from the vote by which a desk went on.
 use Rattle.std.proofs.lemmas.Grind.{common_steps}
 use Rattle.std.proofs.Common.{◌≡◌, ◌≢◌, ◌⊎◌, ◌<◌, ℕ, Bool, true, false, List, [], ◌∷◌, refl, sym, ap, subst, inl, inr, arith}
 use Rattle.std.specs.Prelude.{if◌then◌else◌}
@@ -41,7 +41,7 @@ two_codes e f i k differ = turn (bytes_eq (code e) (code f)) refl
     turn false q = refl
     turn true q = absurd (differ (code_once e f i k ((bytes_eq-Decides (code e) (code f)).0 (sym q))))
 
--- by what the last vote was
+-- by cases of the last vote's position
 elsewhere : (at : Bool) (x y : Bool) → at ≡ false → y ≡ false → (if at then x else y) ≡ false
 elsewhere at x y e f = grind (arith, e, f)
 
@@ -52,14 +52,14 @@ module _ (s : SeatState) (c : Ballot) (less : Before c.at s.position) where
 
   module _ (theirs : List Ballot) (z : Ballot) (zs : List Ballot) (jo : Justified theirs (z ∷ zs)) (jt : Justified (z ∷ zs) theirs)
       (i : In c theirs) (is : IsEntry c.entry) (own : IsEntry z.entry) where
-    -- the other's vote for the position of the last vote
+    -- the other desk's vote is for the position of the last vote
     same_round : c.at ≡ z.at → s.position ≡ next_round z.at → Differed theirs z → is_another s (z ∷ zs) c.at (code c.entry) ≡ false
     same_round here next d = grind (arith, one_vote, place_is_no_round, at_itself, two_codes)
 
     same_place : c.at ≡ z.at → s.position ≡ next_place z.at → In z theirs → is_another s (z ∷ zs) c.at (code c.entry) ≡ false
     same_place here next k = grind (arith, one_vote, at_itself, one_code)
 
-    -- none is for a position between that and the desk's own
+    -- no vote is for a position between the last vote's and the desk's own
     not_between : Before z.at c.at → ((s.position ≡ next_round z.at) × Differed theirs z) ⊎ ((s.position ≡ next_place z.at) × In z theirs) → ⊥
     not_between behind (inl n) = let next = n.0 in grind arith
     not_between behind (inr n) =
@@ -79,7 +79,7 @@ module _ (s : SeatState) (c : Ballot) (less : Before c.at s.position) where
   by_last theirs [] e jo jt i is are f = refl
   by_last theirs (z ∷ zs) e jo jt i is are f = went_on theirs z zs jo jt i is (are z (inl refl)) f
 
-  -- a vote of the other desk for an earlier position
+  -- a vote of the other desk for an earlier position isn't another one
   pub not_another : (d : DeskId) (theirs own : List Ballot) (book : List Entry) → SeatFine d own theirs s book → Justified own theirs → In c theirs
       → IsEntry c.entry → ((b : Ballot) → In b own → IsEntry b.entry) → is_another s own c.at (code c.entry) ≡ false
   not_another d theirs own book f jt i is are =

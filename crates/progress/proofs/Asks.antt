@@ -32,7 +32,7 @@ use Rattle.progress.proofs.CalmRuns.{sent_set}
 use Rattle.progress.proofs.Rounds.{RoundsFine, passed, rounds_grow, rounds_of_seat}
 use Rattle.progress.proofs.Settled.{fine_seat}
 
--- a desk's seat
+-- the rounds of a desk's seat
 seat_rounds : (v : AllVotes) (d : DeskId) (s : SeatState) (book : List Entry) → SeatFine d (votes_by v d) (votes_by v (other d)) s book → RoundsFine v s.position
 seat_rounds v A s book f = rounds_of_seat A v.a v.b s book f
 seat_rounds v B s book f = λ round less. let h = rounds_of_seat B v.b v.a s book f round less in (h.1, h.0, h.3, h.2, λ e. h.4 (sym e))
@@ -40,7 +40,7 @@ seat_rounds v B s book f = λ round less. let h = rounds_of_seat B v.b v.a s boo
 seat_both : (v : AllVotes) (d : DeskId) (s : SeatState) (book : List Entry) → SeatFine d (votes_by v d) (votes_by v (other d)) s book → AllBoth v.a v.b 0 book
 seat_both v h1 s book f = grind (arith, both_turned)
 
--- an ask is for a position at which a station was
+-- an ask is for a position that a station was at
 abbrev AskFine : AllVotes → Message → Type 0
 AskFine v (Message.Vote x) = Unit {0}
 AskFine v (Message.Ask q) = RoundsFine v (record { place = q.place; round = q.round })
@@ -63,7 +63,7 @@ module _ {Disk Why : Type 0} (s : Setting Disk Why) where
   abbrev AllAsks : Configuration Disk → Type 0
   AllAsks w = Each (AskFine (all_votes w)) w.sent
 
-  -- what was sent, and what is handed out
+  -- the asks already sent, and those handed out
   more_asks : (w new : Configuration Disk) (out : List Message) → Grows s w new → new.sent ≡ w.sent ++ out → AllAsks w → Each (AskFine (all_votes w)) out → AllAsks new
   more_asks w new out g e h k = grind (arith, ask_grows, each_append, each_other)
 

@@ -1,4 +1,4 @@
--- How a board goes on in calm moments, and hears what a desk says.
+-- How a board goes on in calm moments, and hears the votes of a desk.
 use Rattle.std.proofs.Common.{◌≡◌, ◌≢◌, ◌⊎◌, ℕ, Some, List, [], ◌∷◌, ◌++◌, refl, ap, ◌∙◌, subst, inl, inr, arith}
 use Rattle.agree_core.specs.declared.{messages.Asker.Asker, messages.DeskId.DeskId, messages.Message.Message, messages.Vote.Vote}
 use Rattle.agree_core.specs.Ballots.{AllVotes, Justified, votes_by}
@@ -25,11 +25,11 @@ use Rattle.progress.specs.Exchange.{ComesTo, HandsOut}
 use Rattle.progress.proofs.CalmRuns.{Steady, last_out, steady_votes}
 use Rattle.progress.proofs.Exchanges.{Ear, Hearer, Knows, NoVote, On, none_full, on_on}
 
--- what a reader has of a desk
+-- the reader's position, and what it has noted of a desk
 abbrev pub ear : DeskId → ReaderState → Ear
 ear d r = record { position = r.position; noted = noted_of r d }
 
--- it has gone on, by each desk
+-- the reader has gone on, for each desk
 abbrev pub BoardOn : ReaderState → ReaderState → Type 0
 BoardOn r t = (d : DeskId) → On (ear d r) (ear d t)
 
@@ -70,13 +70,13 @@ module _ {Disk Why : Type 0} (s : Setting Disk Why) where
       let g = board_step_on (last_of w ms) m.event (station_of m.event) m.answer m.after c.1 n h.0 h.1 r.1 in
       (g.0, g.1, λ d. on_on (ear d k.reader) (ear d h.0.reader) (ear d g.0.reader) (h.2 d) (g.2 d))
 
-  -- a board that is given a vote for its position, and isn't answered that the votes are bad
+  -- a board hears a vote for its position, unless the answer is that the votes are bad
   pub board_hears : (w : Configuration Disk) (m : Moment Disk Why) (n : ℕ) (k l : BoardState) (v : Vote) → Step s w m.event m.answer m.after
       → ComesTo w m (Station.Board n) (Message.Vote v) → board_at w.boards n ≡ Some k → board_at m.after.boards n ≡ Some l
       → position_of v ≡ k.reader.position → IsSoundAnswer m.event m.answer → Before k.reader.position l.reader.position ⊎ Knows (ear v.desk l.reader)
   board_hears w m n k l v p z7 at there pos sound = grind (arith, given_there, board_put)
 
-  -- a board asks at its tick
+  -- at its tick a board asks for a vote that it lacks
   pub board_ticks : (v : AllVotes) (n : ℕ) (d : DeskId) (w : Configuration Disk) (m : Moment Disk Why) → Steady s v w → Step s w m.event m.answer m.after
       → m.event ≡ Event.Tick (Station.Board n) → (k : BoardState) → board_at w.boards n ≡ Some k
       → (board_at m.after.boards n ≡ Some k)

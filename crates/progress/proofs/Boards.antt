@@ -1,4 +1,4 @@
--- How a board goes on in calm moments, and that it has left a round only where both desks differed.
+-- How a board goes on in calm moments; and that it left a round only if both desks differed there.
 use Rattle.std.proofs.Common.{◌≡◌, ◌≢◌, ℕ, Some, List, [], ◌∷◌, sym, ap, ◌∙◌, subst, arith}
 use Rattle.notation.specs.declared.entry.Entry.{Entry}
 use Rattle.agree_core.specs.declared.{messages.DeskId.DeskId, messages.Message.Message, messages.Vote.Vote, seat.Heard.Heard}

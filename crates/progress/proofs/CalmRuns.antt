@@ -1,4 +1,4 @@
--- Calm runs: both desks stay up, and what was sent stays sent.
+-- Calm runs: both desks stay up, and sent messages stay sent.
 use Rattle.std.proofs.Common.{◌≡◌, ℕ, suc, Some, List, [], ◌∷◌, ◌++◌, ◌+◌, ◌≤◌, length, length-append, append_assoc, refl, sym, ap, ◌∙◌, subst, inl, inr, arith}
 use Rattle.std.specs.Prelude.{slice_get}
 use Rattle.agree_core.specs.declared.messages.{DeskId.DeskId, Message.Message}
@@ -26,7 +26,7 @@ pub get_here : {X : Type 0} → (xs ys : List X) (x : X) → slice_get (xs ++ (x
 get_here [] ys x = refl
 get_here (z ∷ zs) ys x = get_here zs ys x
 
--- the last of what is sent is handed out, by the number that comes next
+-- the last message that a step hands out is sent under a number of that step
 pub last_out : {X : Type 0} → (xs ys sent : List X) (x : X) → sent ≡ xs ++ (ys ++ (x ∷ []))
     → (n : ℕ) × (length xs ≤ n) × (slice_get sent n ≡ Some x)
 last_out xs ys sent x e =
@@ -50,7 +50,7 @@ module _ {Disk Why : Type 0} where
   calm_join [] ys b a = b
   calm_join (x ∷ xs) ys b a = (calm_join xs ys b a.0, a.1)
 
-  -- where a station is given a message
+  -- the moment in which a station is given a message
   pub given_at : (w : Configuration Disk) (t : Station) (message : Message) (ms : List (Moment Disk Why)) → Reaches w t message ms
       → (at : Amid ms) × ComesTo (last_of w at.earlier) at.moment t message
   given_at w t message [] g = absurd g
@@ -92,7 +92,7 @@ module _ {Disk Why : Type 0} (s : Setting Disk Why) where
         (h.0, h.1, h.2 ∙ k.2);
   }
 
-  -- a calm run, from there on
+  -- a calm run from this configuration on, with both desks up
   pub record CalmRun (v : AllVotes) (w : Configuration Disk) (ms : List (Moment Disk Why)) : Type 0 where
     pub begins : Steady v w
     pub run : Run s w ms

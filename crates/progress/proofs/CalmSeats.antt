@@ -7,11 +7,11 @@ use Rattle.agree_core.specs.Positions.{Before, next_place, next_round}
 use Rattle.agree_core.specs.Seats.{SeatState, noting}
 use Rattle.progress.specs.CalmMoments.{NotBack}
 
--- it notes the other desk's vote, before it casts its own
+-- the seat notes the other desk's vote, before its desk casts its own
 abbrev pub Notes : SeatState → SeatState → Type 0
 Notes s t = (f : Entry) × (s.mine ≡ None) × (s.theirs ≡ None) × (t ≡ noting s f)
 
--- it has cast its vote, and leaves for a later position
+-- the desk has cast its vote, and its seat leaves for a later position
 abbrev pub Leaves : List Ballot → SeatState → SeatState → Type 0
 Leaves theirs s t =
     (e : Entry) × (f : Entry) × (s.mine ≡ Some e) × In (record { at = s.position; entry = f }) theirs

@@ -24,7 +24,7 @@ module _ {Disk : Type 0} where
   pub one_process : (x : Node Disk) (k l : DeskState Disk) → x.process ≡ Running k → x.process ≡ Running l → k ≡ l
   one_process x k l p q = cc
 
-  -- it is up so, after being so
+  -- the desk of this node is still up, with its votes, and its seat has gone on
   abbrev pub UpFrom : List Ballot → DeskState Disk → Node Disk → Type 0
   UpFrom theirs k y = (l : DeskState Disk) × IsUp y l × (l.votes ≡ k.votes) × GoesOn theirs k.seat l.seat
 

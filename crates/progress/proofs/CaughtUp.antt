@@ -30,7 +30,7 @@ use Rattle.progress.proofs.Rounds.{RoundsFine, one_round_more, passed, same_entr
 use Rattle.progress.proofs.Settled.{steady}
 use Rattle.progress.proofs.Exchanges.{Done, NoVote, exchange_brings, in_range_or_full, none_full}
 
--- a vote of this position, or none
+-- there is a vote for this position, or none
 pub voted_or_not : (votes : List Ballot) (p : Position) → ((e : Entry) × In (record { at = p; entry = e }) votes) ⊎ NoVote votes p
 voted_or_not [] p = inr (λ f i. i)
 voted_or_not (b ∷ bs) p = elim (ordered b.at p) [
@@ -41,7 +41,7 @@ voted_or_not (b ∷ bs) p = elim (ordered b.at p) [
   ]
 ]
 
--- a position is some number of positions behind, since those at which both voted are in range
+-- each position is some number of positions behind, since the positions at which both voted are in range
 behind_from : (v : AllVotes) → AllJustified v → (fuel : ℕ) (p : Position) → 8192 * 256 ≤ p.place * 256 + p.round + fuel → (n : ℕ) × IsBehindBy v p n
 behind_from v j zero p less = elim (in_range_or_full p) [
   | inr full ↦ (zero, λ h. none_full v.b v.a p j.0 full (h A).0 (h A).1)
@@ -64,7 +64,7 @@ behind_from v j (suc fuel) p less = elim (in_range_or_full p) [
 pub some_behind : (v : AllVotes) → AllJustified v → (p : Position) → (n : ℕ) × IsBehindBy v p n
 some_behind v j p = behind_from v j (8192 * 256) p (omega arith)
 
--- it is so many positions behind, or fewer
+-- the position is at most n positions behind
 abbrev pub AtMost : AllVotes → Position → ℕ → Type 0
 AtMost v p n = (m : ℕ) × (m ≤ n) × IsBehindBy v p m
 
@@ -77,7 +77,7 @@ rounds_after v p next e f h ia ib (inl a) = subst (RoundsFine v) (sym a.1) (λ r
 rounds_after v p next e f h ia ib (inr a) = subst (RoundsFine v) (sym a.1) (one_round_more v p h (e, f, ia, ib, a.0))
 
 module _ (v : AllVotes) (j : AllJustified v) (q : Position) (book : List Entry) (both : AllBoth v.a v.b 0 book) (long : length book ≡ q.place) (now : RoundsFine v q) where
-  -- what is behind a position isn't before the one that follows that
+  -- if a position is left behind, the one that follows it is reached at least
   next_not_past : (p next : Position) (e f : Entry) → In (record { at = p; entry = e }) v.a → In (record { at = p; entry = f }) v.b → IsAfter p e f next
       → Before p q → NotBack next q
   next_not_past p next e f ia ib (inr a) b = grind arith
@@ -93,7 +93,7 @@ module _ (v : AllVotes) (j : AllJustified v) (q : Position) (book : List Entry) 
       at_most_more v q n (suc n) (omega arith)
       (moved_on n h.2 (rounds_after v p h.2 h.0 h.1 before h.3 h.4 h.5) h.6 (next_not_past p h.2 h.0 h.1 h.3 h.4 h.5 b))
 
-  -- one position on, at least
+  -- at least one position on
   pub gone_by : (n r : ℕ) (p : Position) → RoundsFine v p → IsBehindBy v p n → n ≤ r → Before p q → AtMost v q (r - 1)
   gone_by zero r p before h most b = absurd (h (passed v j p q book both long before now b))
   gone_by (suc n) r p before h most b =
@@ -103,7 +103,7 @@ module _ (v : AllVotes) (j : AllJustified v) (q : Position) (book : List Entry) 
 module _ {Disk Why : Type 0} (s : Setting Disk Why) where
   module _ (version : FileVersion) (boards : ℕ) (w0 : Configuration Disk) (ms : List (Moment Disk Why)) (begins : Begins s version boards w0) (run : Run s w0 ms)
       (v : AllVotes) (n : ℕ) where
-    -- what is so in calm moments from then on
+    -- what holds in calm moments from this configuration on
     record At (c : Configuration Disk) : Type 0 where
       steady_here : Steady s v c
       rounds : AllRounds s c
@@ -131,7 +131,7 @@ module _ {Disk Why : Type 0} (s : Setting Disk Why) where
     justified : (c : Configuration Disk) → At c → AllJustified v
     justified c a = subst AllJustified (steady_votes s v c a.steady_here) (all_justified s c a.steady_here.fine)
 
-    -- the board after these moments, so many positions behind
+    -- after these moments the board is at most r positions behind
     abbrev Behind : Configuration Disk → ℕ → Type 0
     Behind c r = (l : BoardState) × (board_at c.boards n ≡ Some l) × AtMost v l.reader.position r
 

@@ -1,4 +1,4 @@
--- What an exchange brings a station: a later position, or all that a desk has cast at its position.
+-- What an exchange brings a station: a later position, or every vote that a desk has cast at its position.
 use Rattle.std.proofs.Common.{None, ◌≡◌, ◌≢◌, ◌⊎◌, Option, Some, List, [], ◌∷◌, ◌++◌, refl, sym, ap, ◌∙◌, subst, inl, inr, arith}
 use Rattle.notation.specs.declared.entry.Entry.{Entry}
 use Rattle.agree_core.specs.declared.{messages.Ask.Ask, messages.Asker.Asker, messages.DeskId.DeskId, messages.Message.Message, messages.Vote.Vote, position.Position.Position}
@@ -20,7 +20,7 @@ use Rattle.progress.specs.CalmMoments.{IsUp}
 use Rattle.progress.specs.Exchange.{Amid, ComesTo, Exchange, HandsOut, IsAnswered, Reaches}
 use Rattle.progress.proofs.CalmRuns.{CalmRun, Steady, last_out, given_at, last_split, sent_set, split, steady_votes}
 
--- nothing is cast at this position
+-- no vote is cast for this position
 abbrev pub NoVote : List Ballot → Position → Type 0
 NoVote votes p = (f : Entry) → In (record { at = p; entry = f }) votes → ⊥
 
@@ -32,7 +32,7 @@ pub none_full : (theirs votes : List Ballot) (p : Position) → Justified theirs
 none_full theirs [] p j full f i = i
 none_full theirs (b ∷ bs) p j full f i = grind (arith, (none_full theirs bs p j.2 full f))
 
--- where a station is, and what it has noted there of a desk
+-- a station's position, and what it has noted there of a desk
 pub record Ear : Type 0 where
   pub position : Position
   pub noted : Option Entry
@@ -40,11 +40,11 @@ pub record Ear : Type 0 where
 abbrev pub Knows : Ear → Type 0
 Knows e = e.noted ≢ None
 
--- it has gone on so: to a later position, or with what it had noted
+-- the station has gone on: to a later position, or keeping what it had noted
 abbrev pub On : Ear → Ear → Type 0
 On e f = Before e.position f.position ⊎ ((f.position ≡ e.position) × ((x : Entry) → e.noted ≡ Some x → f.noted ≡ Some x))
 
--- from the one to the other it has moved on; or it knows what the desk has cast there, if it has
+-- the station has moved on, or knows what the desk has cast at its position, if anything
 abbrev pub Done : List Ballot → Ear → Ear → Type 0
 Done votes e f = Before e.position f.position ⊎ (Knows f ⊎ NoVote votes f.position)
 
@@ -71,7 +71,7 @@ module _ {Disk Why : Type 0} (s : Setting Disk Why) where
       subst (λ (z : AllVotes). DeskFine (s.view d (node w d).version) d (votes_by z (other d)) k) (steady_votes s v w st)
       (running s (node w d).version d (votes_by (all_votes w) (other d)) (node w d).process k u.runs (node_fine s w d st.fine))
 
-  -- what is given to a desk
+  -- a desk is given the message in this moment
   pub record IsGivenTo (w : Configuration Disk) (m : Moment Disk Why) (d : DeskId) (k : DeskState Disk) (message : Message) : Type 0 where
     pub l : DeskState Disk
     pub told : ReceiveAnswer
@@ -95,19 +95,19 @@ module _ {Disk Why : Type 0} (s : Setting Disk Why) where
   replies w m d k q u g = grind arith
 
   module _ (v : AllVotes) (t : Station) (d : DeskId) where
-    -- how a station in calm moments, of which this is so, hears what a desk says
+    -- a station of this kind hears in calm moments what a desk says
     pub record Hearer : Type 1 where
       pub State : Type 0
       pub ear : State → Ear
       pub Ok : Moment Disk Why → Type 0
       pub Is : Configuration Disk → State → Type 0
-      -- it goes on
+      -- the station goes on
       pub stays : (w : Configuration Disk) (ms : List (Moment Disk Why)) → CalmRun s v w ms → (k : State) → Is w k → (l : State) × Is (last_of w ms) l
       pub goes : (w : Configuration Disk) (ms : List (Moment Disk Why)) → CalmRun s v w ms → (k l : State) → Is w k → Is (last_of w ms) l → On (ear k) (ear l)
-      -- it is given the desk's vote of its position
+      -- the station hears the desk's vote for its position
       pub hears : (w : Configuration Disk) (m : Moment Disk Why) → Steady s v w → Ok m → Step s w m.event m.answer m.after → (k l : State) → Is w k → Is m.after l
           → (x : Vote) → ComesTo w m t (Message.Vote x) → x.desk ≡ d → position_of x ≡ (ear k).position → Before (ear k).position (ear l).position ⊎ Knows (ear l)
-      -- at a tick it asks for that, if it lacks it
+      -- at a tick the station asks for that vote, if it lacks it
       pub ticks : (w : Configuration Disk) (m : Moment Disk Why) → Steady s v w → Step s w m.event m.answer m.after → m.event ≡ Event.Tick t → (k : State) → Is w k
           → Is m.after k × (Knows (ear k) ⊎ (NoVote (votes_by v d) (ear k).position ⊎ ((from : Asker) × HandsOut w m (ask_for from (ear k).position))))
 
@@ -115,7 +115,7 @@ module _ {Disk Why : Type 0} (s : Setting Disk Why) where
       abbrev votes : List Ballot
       votes = votes_by v d
 
-      -- the station in calm moments, from the first of them to the last
+      -- the station over these calm moments: its state before the first and after the last
       pub record Span (w : Configuration Disk) (ms : List (Moment Disk Why)) (k l : h.State) : Type 0 where
         pub run : CalmRun s v w ms
         pub ok : Each h.Ok ms
@@ -153,7 +153,7 @@ module _ {Disk Why : Type 0} (s : Setting Disk Why) where
             rest = record { run = runs.1; ok = ok.0; from = y.1; to = subst (λ (z : Configuration Disk). h.Is z l) last p.to };
           }
 
-      -- it hears the answer for the position at which it was before
+      -- the station hears the answer for the position that it asked for
       returned : (w : Configuration Disk) (ms : List (Moment Disk Why)) (j k l : h.State) → On (h.ear j) (h.ear k) → Span w ms k l → (x : Vote) → x.desk ≡ d
           → position_of x ≡ (h.ear j).position → Reaches w t (Message.Vote x) ms → Done votes (h.ear j) (h.ear l)
       returned w ms j k l g p x desk at given =
@@ -191,7 +191,7 @@ module _ {Disk Why : Type 0} (s : Setting Disk Why) where
                 (x.heard (Message.Vote vote) out)
           ]
 
-      -- an exchange brings the station further on, or all that the desk has cast at its position
+      -- an exchange brings the station to a later position, or every vote that the desk has cast at its position
       pub exchange_brings : (w : Configuration Disk) (ms : List (Moment Disk Why)) (k l : h.State) → Span w ms k l → Exchange w t d ms → Done votes (h.ear k) (h.ear l)
       exchange_brings w ms k l p x =
           let a = halves w ms k l p x.at in

@@ -1,4 +1,4 @@
--- A desk whose disk has failed stays so until it is killed or loses power.
+-- A desk whose disk has failed stays failed until it is killed or loses power.
 use Rattle.std.proofs.Common.{◌≡◌, ◌≢◌, true, List, refl, ap, ◌∙◌, subst, inl, inr, arith}
 use Rattle.notation.specs.declared.entry.Entry.{Entry}
 use Rattle.agree_core.specs.declared.messages.{DeskId.DeskId, Message.Message}

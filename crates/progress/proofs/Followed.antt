@@ -23,14 +23,14 @@ pub all_sound : {Disk Why : Type 0} (w : Configuration Disk) (more ms : List (Mo
 all_sound w [] ms h = tt
 all_sound w (m ∷ more) ms h = (h.1, all_sound w more ms h.0)
 
--- a board at whose position not both have voted has the agreed list
+-- a board has the agreed list unless both desks have voted at its position
 pub agreed_board : (v : AllVotes) → AllJustified v → (k : BoardState) → BoardFine v k → BoardRounds v k → (BothVoted v k.reader.position → ⊥) → IsAgreedList v k.book
 agreed_board v j k f rounds none = (
   both_settled v j 0 k.book f.both,
   λ round e h. none (voted_up_to v j k.reader.position rounds round e (subst (λ (p : ℕ). EqualVotes v p round e) f.long h)),
 )
 
--- not both are noted
+-- after an exchange with each desk the reader has moved on, or one of the desks hasn't voted at its position
 pub lacks : (v : AllVotes) (r t : ReaderState) → ReaderWaits t → Done v.a (ear A r) (ear A t) → Done v.b (ear B r) (ear B t)
     → Before r.position t.position ⊎ (NoVote v.a t.position ⊎ NoVote v.b t.position)
 lacks v r t w h4 y = grind arith

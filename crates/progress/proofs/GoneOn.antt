@@ -28,7 +28,7 @@ module _ {Disk Why : Type 0} (s : Setting Disk Why) where
       let h = (step_at_keeps s (last_of w ms) m.event (station_of m.event) m.answer m.after (run_keeps s w ms f r.0) r.1).1 in
       (λ b i. h.0 b (g.0 b i), λ b i. h.1 b (g.1 b i))
 
-  -- the position and the book of a step, by the votes
+  -- what the votes say of a position and the book at it
   pub record Stands (v : AllVotes) (p : Position) (book : List Entry) : Type 0 where
     pub both : AllBoth v.a v.b 0 book
     pub long : length book ≡ p.place
@@ -44,7 +44,7 @@ module _ {Disk Why : Type 0} (s : Setting Disk Why) where
         rounds = subst (RoundsFine (all_votes w)) k.2 (rounds_of_seat A (all_votes w).a (all_votes w).b k.0.seat k.0.book g);
       }
 
-  -- from one step to a later one
+  -- from being in step once to being in step later
   module _ (new : Configuration Disk) (u : AllVotes) (p q : Position) (book xs : List Entry) (grow : VotesGrow u (all_votes new)) (j : AllJustified (all_votes new))
       (before : Stands u p book) (now : Stands (all_votes new) q xs) (i : InStep new q xs) where
     abbrev v : AllVotes

@@ -18,7 +18,7 @@ use Rattle.progress.specs.InStep.{IsAfter, IsBehind}
 pub ordered : (p q : Position) → (p ≡ q) ⊎ (Before p q ⊎ Before q p)
 ordered p q = grind (arith, compare)
 
--- this position follows a vote, by what the other desk voted there
+-- this position follows the vote, by what the other desk voted there
 abbrev Next : List Ballot → Ballot → Position → Type 0
 Next theirs y q = ((q ≡ next_round y.at) × Differed theirs y) ⊎ ((q ≡ next_place y.at) × In y theirs)
 
@@ -37,15 +37,15 @@ between a b (z ∷ zs) y c q ja jb i lo hi (inr n) (inl g) w =
       | inr (inr more) ↦ grind arith
     ]
 
--- what a desk may vote next is behind each of its votes
+-- a position at which a desk may vote next is after each of its votes
 pub before_next : (theirs own : List Ballot) (c x : Ballot) → Justified theirs own → Follows theirs c own → In x own → Before x.at c.at
 before_next theirs h1 c x j f i = grind (arith, earlier)
 
--- a desk's last vote is for this position, or it may vote there next
+-- the desk's last vote is for this position, or it may vote there next
 abbrev Here : List Ballot → List Ballot → Position → Entry → List Ballot → Type 0
 Here theirs own p e prev = Follows theirs (record { at = p; entry = e }) prev × ((own ≡ record { at = p; entry = e } ∷ prev) ⊎ (own ≡ prev))
 
--- the vote before the other desk's position is this desk's last one
+-- the vote that leads to the other desk's position is this desk's last one
 module _ (a b prev_a ys : List Ballot) (y : Ballot) (p q : Position) (e : Entry) (ja : Justified b a) (jb : Justified a b)
     (fa : Follows b (record { at = p; entry = e }) prev_a) (next : Next a y q) (has : In y b) (lo : Before p q) where
   abbrev c : Ballot
@@ -79,7 +79,7 @@ module _ (a b prev_a ys : List Ballot) (y : Ballot) (p q : Position) (e : Entry)
       let w : Within prev_a a = λ x k. subst (In x) (sym h) k in
       absurd (far w (before_next b prev_a c (record { at = y.at; entry = voted.0 }) j fa i))
 
--- a desk that is before another one has voted where it is, and the other one is at the position after it
+-- if a desk is behind another one, it has voted at its position, and the other one is at the position after that
 behind : (a b prev_a prev_b : List Ballot) (p q : Position) (e g : Entry) → Justified b a → Justified a b
     → Here b a p e prev_a → Here a b q g prev_b → Before p q
     → (a ≡ record { at = p; entry = e } ∷ prev_a) × ((f : Entry) × In (record { at = p; entry = f }) b × IsAfter p e f q)
@@ -91,7 +91,7 @@ behind a b prev_a (y ∷ ys) p q e g ja jb ha hb lo =
     ] in
     its_last a b prev_a ys y p q e ja jb ha.0 hb.0 has lo ha.1
 
--- how a seat stands by the votes
+-- where a seat stands, by the votes
 abbrev pub Stands : List Ballot → List Ballot → SeatState → Type 0
 Stands theirs own s =
     (e : Entry) × (prev : List Ballot) × Follows theirs (record { at = s.position; entry = e }) prev
@@ -115,7 +115,7 @@ is_behind a b s t ja jb hs ht lo = grind (arith, behind)
 pub any : Entry
 any = Entry.Write Plain.Void
 
--- two desks are at one position, or one of them is one behind
+-- two desks are at one position, or one of them is one position behind
 pub never_far : (a b : List Ballot) (s t : SeatState) (xs ys : List Entry) → SeatFine A a b s xs → SeatFine B b a t ys
     → (s.position ≡ t.position) ⊎ (IsBehind b s t.position ⊎ IsBehind a t s.position)
 never_far a b s t xs ys fs ft =
@@ -137,7 +137,7 @@ pub not_cast : (theirs own : List Ballot) (book : List Entry) (s : SeatState) (m
     → MineFine theirs own book s.position mine → Follows theirs (record { at = s.position; entry = any }) own
 not_cast theirs own book s h4 m n h = grind (arith, any)
 
--- where both are at one position, at which not both have cast, both books are the agreed list
+-- if both desks are at one position, and not both have cast there, both books are the agreed list
 pub agree : (a b : List Ballot) (s t : SeatState) (xs ys : List Entry) → SeatFine A a b s xs → SeatFine B b a t ys
     → s.position ≡ t.position → (s.mine ≡ None) ⊎ (t.mine ≡ None) → (xs ≡ ys) × IsAgreedList (record { a = a; b = b }) xs
 agree a b s t xs ys fs ft at none =
@@ -159,7 +159,7 @@ agree a b s t xs ys fs ft at none =
           open_place b a t.position any ft.justified fs.justified (not_cast a b ys t t.mine refl n ft.mine) round e (grind arith) (grind arith)
     ]
 
--- a vote of the other desk is for the position of a seat, or an earlier one, or the seat is one position behind it
+-- a vote of the other desk is for the seat's position or an earlier one, or the seat is one position behind it
 came_after : (own theirs : List Ballot) (x : Ballot) → Justified own theirs → In x theirs → (x.at ≡ first) ⊎ ((y : Ballot) × In y theirs × Next own y x.at)
 came_after own [] x j i = absurd i
 came_after own (z ∷ []) x j (inl e) = inl (ap (λ (c : Ballot). c.at) e ∙ j.1)

@@ -1,4 +1,4 @@
--- Where both desks are up, an exchange can always happen.
+-- If both desks are up, an exchange can always happen.
 use Rattle.std.proofs.Common.{◌≡◌, ◌≢◌, ◌⊎◌, ◌<◌, ◌≤◌, ◌+◌, ◌-◌, ℕ, zero, suc, Option, Some, None, List, [], ◌∷◌, ◌++◌, length, length-append, append_assoc, refl, sym, ap, ◌∙◌, subst, inl, inr, arith}
 use Rattle.std.specs.Prelude.{slice_get}
 use Rattle.notation.specs.declared.entry.Entry.{Entry}
@@ -35,7 +35,7 @@ use Rattle.progress.proofs.Rounds.{same_entry}
 same_desk : (c d : DeskId) → (c ≡ d) ⊎ (c ≢ d)
 same_desk h0 h1 = grind arith
 
--- a seat goes on somehow with each vote
+-- a seat has some next state for each vote
 hears : (s : SeatState) (v : Vote) → (h : Heard) × (t : SeatState) × Hears s v h t
 hears s v = elim (same_desk v.desk s.desk) [
   | inl e ↦ (Heard.Mine, s, (e, refl))
@@ -57,7 +57,7 @@ hears s v = elim (same_desk v.desk s.desk) [
       | inr d ↦ (Heard.Differ, waiting s.desk (next_round s.position), ((n, at), q, (e, m, d), refl))
     ]
 
--- and so does a board's reader
+-- likewise for a board's reader
 listens : (r : ReaderState) (v : Vote) → ((h : Heard) × (t : ReaderState) × Listens r v h t × (h ≢ Heard.Agreed)) ⊎ ((t : ReaderState) × Listens r v Heard.Agreed t)
 listens r v = elim (ordered (position_of v) r.position) [
   | inr (inl b) ↦ inl (Heard.Old, r, (b, refl), λ e. cc)
@@ -90,12 +90,12 @@ get_less (z ∷ zs) (suc n) x e = let less = get_less zs n x e in omega (arith, 
 get_less h0 n x e = grind arith
 
 module _ {Disk Why : Type 0} where
-  -- it reaches the station in more moments too
+  -- a message that reaches the station in some moments reaches it in more of them
   pub given_more : (w : Configuration Disk) (t : Station) (message : Message) (xs ys : List (Moment Disk Why)) → Reaches w t message ys → Reaches w t message (xs ++ ys)
   given_more w t message [] ys g = g
   given_more w t message (x ∷ xs) ys g = inr (given_more w t message xs ys g)
 
-  -- with others before it, or after it
+  -- a moment stays amid moments when others are added before or after them
   amid_before : (ms before : List (Moment Disk Why)) → Amid ms → Amid (ms ++ before)
   amid_before ms before at = record {
     later = at.later;
@@ -129,7 +129,7 @@ module _ {Disk Why : Type 0} where
   }
 
 module _ {Disk Why : Type 0} (s : Setting Disk Why) (v : AllVotes) where
-  -- a moment that may come, of this event
+  -- a possible moment of this event
   abbrev Comes : Configuration Disk → Event → Type 0
   Comes w event = (m : Moment Disk Why) × (m.event ≡ event) × Step s w m.event m.answer m.after
 
@@ -201,7 +201,7 @@ module _ {Disk Why : Type 0} (s : Setting Disk Why) (v : AllVotes) where
           taken r c None e = (record { reader = r; book = k.book ++ x.entry ∷ [] }, BoardAnswer.Told Heard.Agreed, (c, (λ q. e), refl))
           taken r c (Some why) e = (k, BoardAnswer.BadVotes k.reader.position.place, ((r, c), (λ q. absurd (grind (arith, e, q))), refl, refl))
 
-  -- the station is there
+  -- the station exists
   abbrev Ready : Station → Configuration Disk → Type 0
   Ready (Station.Desk d) w = Unit {0}
   Ready (Station.Board n) w = (k : BoardState) × (board_at w.boards n ≡ Some k)
@@ -218,13 +218,13 @@ module _ {Disk Why : Type 0} (s : Setting Disk Why) (v : AllVotes) where
   ticked w st (Station.Desk d) h = ticks w st d
   ticked w st (Station.Board n) h = ticks_board w n h.0 h.1
 
-  -- calm moments that may come, of which this is so
+  -- possible calm moments with this property
   pub record SomeMoments (w : Configuration Disk) (P : List (Moment Disk Why) → Type 0) : Type 0 where
     pub ms : List (Moment Disk Why)
     pub goes : CalmRun s v w ms
     pub so : P ms
 
-  -- a moment that may come, of a calm event
+  -- one possible moment of a calm event
   one_moment : (w : Configuration Disk) (event : Event) → Steady s v w → IsCalm event → (m : Comes w event) → CalmRun s v w (m.0 ∷ [])
   one_moment w event st calm m = record { begins = st; run = (tt, m.2); calm = (tt, subst IsCalm (sym m.1) calm) }
 
@@ -232,7 +232,7 @@ module _ {Disk Why : Type 0} (s : Setting Disk Why) (v : AllVotes) where
   sent_stays w [] r = omega arith
   sent_stays w (m ∷ ms) r = grind (arith, length-append, (sent_stays w ms r.0))
 
-  -- the station is given so many messages, from this number on
+  -- the station is given all messages of these numbers
   all_given : (w : Configuration Disk) → Steady s v w → (t : Station) → Ready t w → (from many : ℕ) → from + many ≤ length w.sent
       → SomeMoments w (λ ms. (message : Message) (r : ℕ) → from ≤ r → r < from + many → slice_get w.sent r ≡ Some message → Reaches w t message ms)
   all_given w st t ready from zero less = record { ms = []; goes = record { begins = st; run = tt; calm = tt }; so = λ message r a b get. absurd (omega (arith, a, b)) }
@@ -253,7 +253,7 @@ module _ {Disk Why : Type 0} (s : Setting Disk Why) (v : AllVotes) where
         ];
       }
 
-  -- so many messages, from this number on, are given to a desk, and what it answers to the station
+  -- the desk is given all messages of these numbers, and the station what the desk answers
   all_answered : (w : Configuration Disk) → Steady s v w → (t : Station) → Ready t w → (d : DeskId) (from many : ℕ) → from + many ≤ length w.sent
       → SomeMoments w (λ ms. (message : Message) (n : ℕ) → from ≤ n → n < from + many → slice_get w.sent n ≡ Some message → IsAnswered w t d message ms)
   all_answered w st t ready d from zero less = record { ms = []; goes = record { begins = st; run = tt; calm = tt }; so = λ message n a b get. absurd (omega (arith, a, b)) }
@@ -304,7 +304,7 @@ module _ {Disk Why : Type 0} (s : Setting Disk Why) (v : AllVotes) where
         };
       }
 
-  -- two exchanges, of one station with both desks or of both desks, one after the other
+  -- two exchanges, one after the other: of one station with both desks, or of both desks
   both : (t : DeskId → Station) (to : DeskId → DeskId) (w : Configuration Disk) → Steady s v w → Ready (t A) w → Ready (t B) w
       → SomeMoments w (λ ms. (d : DeskId) → Exchange w (t d) (to d) ms)
   both t to w st ra rb =
@@ -316,7 +316,7 @@ module _ {Disk Why : Type 0} (s : Setting Disk Why) (v : AllVotes) where
       each xs ys x y A = exchange_after w (t A) (to A) ys xs x
       each xs ys x y B = exchange_before w (t B) (to B) ys xs y
 
-  -- a board's exchanges with both desks, so many times
+  -- this many exchanges of a board with both desks
   exchanges : (w : Configuration Disk) → Steady s v w → (n : ℕ) → Ready (Station.Board n) w → (m : ℕ) → SomeMoments w (λ ms. HasExchanges w n m ms)
   exchanges w st n ready zero = record { ms = []; goes = record { begins = st; run = tt; calm = tt }; so = tt }
   exchanges w st n ready (suc m) =

@@ -1,4 +1,4 @@
--- What goes on, at each configuration that a run comes to.
+-- The claims of progress, at each configuration that a run comes to.
 use Rattle.std.proofs.Common.{◌≡◌, ◌⊎◌, ℕ, true, false, List, subst, sym, arith}
 use Rattle.notation.specs.Code.{code}
 use Rattle.agree_core.specs.declared.{messages.DeskId.DeskId, position.Position.Position}

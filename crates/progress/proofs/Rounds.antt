@@ -1,4 +1,4 @@
--- Of a position to which both desks' votes lead: both voted at each before it, and differed in the rounds before it.
+-- A position that both desks' votes lead to: both voted at each position before it, and differed in the earlier rounds.
 use Rattle.std.proofs.Common.{◌≡◌, ◌≢◌, ◌⊎◌, ◌<◌, ◌+◌, ℕ, List, [], ◌∷◌, length, get_or, refl, sym, ap, ◌∙◌, subst, inl, inr, arith, false, true}
 use Rattle.std.proofs.lemmas.Bool.{false≢true}
 use Rattle.std.specs.Prelude.{Bool}
@@ -33,7 +33,7 @@ both_voted v p a b B = b
 abbrev pub DifferedIn : AllVotes → ℕ → ℕ → Type 0
 DifferedIn v place round = BothDiffered v.a v.b place round
 
--- in each round before this one, at its place, both desks differed
+-- in each earlier round of its place both desks differed
 abbrev pub RoundsFine : AllVotes → Position → Type 0
 RoundsFine v p = (round : ℕ) → round < p.round → DifferedIn v p.place round
 
@@ -49,7 +49,7 @@ one_round_more v p h d round less = elim (compare round p.round) [
   | inr (inr more) ↦ absurd (omega (arith, less, more))
 ]
 
--- so it is of a position at which a desk may vote next
+-- this holds of a position at which a desk may vote next
 rounds_followed : (own theirs prev : List Ballot) (c : Ballot) → Follows theirs c prev → Within prev own → Justified theirs prev → (round : ℕ) → round < c.at.round
     → BothDiffered own theirs c.at.place round
 rounds_followed own theirs [] c e w j round less = absurd (grind (arith, e, less))
@@ -62,7 +62,7 @@ rounds_followed own theirs (z ∷ zs) c (inl n) w j round less = elim (compare r
   | inr (inr q) ↦ absurd (grind arith)
 ]
 
--- and of a desk's seat
+-- and of the position of a desk's seat
 pub rounds_of_seat : (d : DeskId) (own theirs : List Ballot) (s : SeatState) (book : List Entry) → SeatFine d own theirs s book → (round : ℕ) → round < s.position.round
     → BothDiffered own theirs s.position.place round
 rounds_of_seat d own theirs s book f round less =
@@ -71,7 +71,7 @@ rounds_of_seat d own theirs s book f round less =
     let justified : Justified theirs hs.1 = let j = f.justified in grind arith in
     rounds_followed own theirs hs.1 (record { at = s.position; entry = hs.0 }) hs.2 within justified round less
 
--- where both voted alike at the place, they have voted in each round that they may have left
+-- if both voted alike at the place, both have voted in each round up to this position
 pub voted_up_to : (v : AllVotes) → AllJustified v → (p : Position) → RoundsFine v p → (round : ℕ) (e : Entry) → EqualVotes v p.place round e → BothVoted v p
 voted_up_to v j p fine round e h = elim (compare round p.round) [
   | inl lo ↦
@@ -85,7 +85,7 @@ voted_up_to v j p fine round e h = elim (compare round p.round) [
       both_voted v p (d.0, d.2) (d.1, d.3)
 ]
 
--- who is at a later position has passed both votes of an earlier one
+-- whoever is at a later position has passed both votes of an earlier one
 pub passed : (v : AllVotes) → AllJustified v → (p q : Position) (book : List Entry) → AllBoth v.a v.b 0 book → length book ≡ q.place → RoundsFine v p → RoundsFine v q
     → Before p q → BothVoted v p
 passed v j p q book both long before now (inr (place, less)) =

@@ -32,14 +32,14 @@ use Rattle.progress.proofs.Near.{agree, before_next, never_far, not_cast}
 use Rattle.progress.proofs.Exchanges.{Done, Knows, NoVote, fine_at}
 use Rattle.progress.proofs.Trips.{ear, others_justified, trip}
 
--- it waits for its own scorer, or for a vote that isn't cast
+-- the seat waits for its own scorer, or for a vote that isn't cast
 abbrev pub Caught : List Ballot → SeatState → Type 0
 Caught theirs s = (s.mine ≡ None) ⊎ NoVote theirs s.position
 
 pub caught : (theirs : List Ballot) (s t : SeatState) → GoesOn theirs s t → SeatWaits t → Done theirs (ear s) (ear t) → Caught theirs t
 caught theirs s t g w h5 = grind arith
 
--- and it stays where it is
+-- such a seat stays where it is
 caught_stays : (theirs : List Ballot) (s t : SeatState) → Caught theirs s → GoesOn theirs s t → t.position ≡ s.position
 caught_stays theirs s t c h4 = grind arith
 
@@ -68,7 +68,7 @@ module _ (a b : List Ballot) (s t : SeatState) (xs ys : List Entry) (fs : SeatFi
 not_moved : (theirs : List Ballot) (s t : SeatState) → t.position ≡ s.position → Done theirs (ear s) (ear t) → Knows (ear t) ⊎ NoVote theirs t.position
 not_moved theirs s t e h4 = grind (arith, not_before)
 
--- who knows what is cast there knows this
+-- a seat that knows every vote cast at its position knows this one
 knows_it : (d : DeskId) (own theirs : List Ballot) (x : SeatState) (book : List Entry) (e : Entry) → SeatFine d own theirs x book → Justified own theirs
     → Knows (ear x) ⊎ NoVote theirs x.position → In (record { at = x.position; entry = e }) theirs → x.theirs ≡ Some e
 knows_it d own theirs x book e f j h i = grind (arith, one_vote)
@@ -76,11 +76,11 @@ knows_it d own theirs x book e f j h i = grind (arith, one_vote)
 back_back : (p q r : Position) → NotBack p q → NotBack q r → NotBack p r
 back_back p q r h3 n = grind arith
 
--- whose vote isn't cast has none there
+-- a desk whose seat has no vote of its own hasn't voted at its position
 pub not_voted : (d : DeskId) (own theirs : List Ballot) (s : SeatState) (book : List Entry) → SeatFine d own theirs s book → s.mine ≡ None → NoVote own s.position
 not_voted d own theirs s book f n e i = grind (arith, not_before, before_next, not_cast)
 
--- what stands against a pen, by the position and the book
+-- when a scorer may pen, by the position and the book
 may_pen : {Disk Why : Type 0} (rules : Rules Why) (d : DeskId) (own theirs : List Ballot) (k : DeskState Disk) (p : Position) (book : List Entry) (e : Entry) → SeatFine d own theirs k.seat k.book
     → k.votes ≡ own → k.failed ≡ false → k.seat.position ≡ p → k.book ≡ book
     → MayPen rules k e ↔ ((((f : Entry) × In (record { at = p; entry = f }) own) → ⊥) × (rules book e ≡ None) × (p.place < 8192) × (p.round < 256) × (length own < 16384))
@@ -159,7 +159,7 @@ module _ {Disk Why : Type 0} (s : Setting Disk Why) where
     pub settled : InStep (last_of w ms) (last.up A).0.seat.position (last.up A).0.book
     settled = in_step v (last_of w ms) last (caught_at A) (caught_at B)
 
-    -- where each had an exchange before
+    -- after an earlier exchange of each desk
     pub noted : ((d : DeskId) → Caught (votes_by v (other d)) (st.up d).0.seat) → EachKnows (last_of w ms)
     noted c d k e u i =
         let x = last.up d in
@@ -186,7 +186,7 @@ module _ {Disk Why : Type 0} (s : Setting Disk Why) where
         let mid = last v w ms st h in
         noted v (last_of w ms) rest mid k (caught_at v w ms st h)
 
-    -- a desk that runs, by its votes
+    -- a running desk's seat is fine, by the votes
     pub fine_seat : (d : DeskId) (k : DeskState Disk) → (node w d).process ≡ Running k
         → SeatFine d (votes_by (all_votes w) d) (votes_by (all_votes w) (other d)) k.seat k.book × (k.votes ≡ votes_by (all_votes w) d)
     fine_seat d k runs =
@@ -194,7 +194,7 @@ module _ {Disk Why : Type 0} (s : Setting Disk Why) where
         let seat = (running s (node w d).version d (votes_by (all_votes w) (other d)) (node w d).process k runs (node_fine s w d f)).seat in
         (subst (λ (z : List Ballot). SeatFine d z (votes_by (all_votes w) (other d)) k.seat k.book) votes seat, votes)
 
-    -- a desk that is up pens what nothing stands against
+    -- a desk that is up pens an entry that its scorer may pen
     pens_it : (d : DeskId) (x y : Node Disk) (k l : DeskState Disk) (e : Entry) (told : PenAnswer Why) (answer : Answer Why) (out : List Message)
         → IsUp x k → MayPen s.rules k e → Pens (s.view d x.version) s.rules k e told l out → AfterPen (s.view d x.version) x told l answer y
         → (settled : Settled) × (answer ≡ Penned settled)

@@ -23,7 +23,7 @@ use Rattle.progress.proofs.CalmSeats.{GoesOn}
 use Rattle.progress.proofs.CalmSteps.{one_process}
 use Rattle.progress.proofs.Exchanges.{Done, Ear, Hearer, IsGivenTo, Knows, NoVote, On, exchange_brings, fine_at, given_to, none_full}
 
--- what a seat has of the other desk
+-- the seat's position, and what it has noted of the other desk
 abbrev pub ear : SeatState → Ear
 ear s = record { position = s.position; noted = s.theirs }
 
@@ -40,7 +40,7 @@ module _ {Disk Why : Type 0} (s : Setting Disk Why) where
   pub others_justified : (w : Configuration Disk) (v : AllVotes) → Steady s v w → (d : DeskId) → Justified (votes_by v d) (votes_by v (other d))
   others_justified w v st d = subst (λ (z : AllVotes). Justified (votes_by z d) (votes_by z (other d))) (steady_votes s v w st) (justified_other s w d st.fine)
 
-  -- it asks for the vote that it lacks
+  -- the desk asks for the vote that it lacks
   ticks : (v : AllVotes) (d : DeskId) (w : Configuration Disk) (m : Moment Disk Why) → Steady s v w → Step s w m.event m.answer m.after → m.event ≡ Event.Tick (Station.Desk d)
       → (k : DeskState Disk) → IsUp (node w d) k
       → IsUp (node m.after d) k × (Knows (ear k.seat) ⊎ (NoVote (votes_by v (other d)) k.seat.position ⊎ ((from : Asker) × HandsOut w m (ask_for from k.seat.position))))
@@ -77,7 +77,7 @@ module _ {Disk Why : Type 0} (s : Setting Disk Why) where
     ticks = λ w m st p e k u. ticks v d w m st p e k u;
   }
 
-  -- an exchange brings a desk further on, or all that the other has cast at its position
+  -- an exchange brings a desk to a later position, or every vote that the other desk has cast at its position
   pub trip : (v : AllVotes) (w : Configuration Disk) (ms : List (Moment Disk Why)) → CalmRun s v w ms → (d : DeskId)
       → Exchange w (Station.Desk d) (other d) ms → (k l : DeskState Disk) → IsUp (node w d) k → IsUp (node (last_of w ms) d) l
       → Done (votes_by v (other d)) (ear k.seat) (ear l.seat)

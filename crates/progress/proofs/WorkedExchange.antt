@@ -1,4 +1,4 @@
--- The worked exchange is one.
+-- The worked exchange is an exchange of both desks.
 use Rattle.std.proofs.Common.{◌≡◌, ◌≢◌, ◌≤◌, ℕ, zero, suc, Some, [], ◌∷◌, refl, inl, inr, arith}
 use Rattle.std.specs.Prelude.{slice_get}
 use Rattle.notation.specs.declared.entry.Entry.{Entry}
@@ -53,7 +53,7 @@ module _ {Why : Type 0} (rules : Rules Why) (e : Entry) where
   answer reply (suc (suc (suc (suc n)))) low get = absurd (cc)
   answer reply n low get = absurd (omega (arith, low))
 
-  -- each message of A's tick is given to B, which has no answer
+  -- each message of A's tick is given to B, which answers none
   told_b : (message : Message) → HandsOut (at e unheard []) (a_ticks {Why = Why} e) message
       → IsAnswered (at e unheard (says A 0 e ∷ ask_for Asker.A first ∷ [])) (Station.Desk A) B message (answer_given {Why = Why} e ∷ a_answers e ∷ ask_given e ∷ vote_given e ∷ b_ticks e ∷ [])
   told_b message (zero, low, get) = record {

@@ -1,31 +1,31 @@
--- An exchange: what a station says at a tick reaches a desk, and what the desk answers reaches the station.
+-- An exchange: what a station says at a tick reaches a desk, and the desk's answers reach the station.
 use Rattle.std.specs.Prelude.{◌≡◌, ◌≤◌, ◌⊎◌, ℕ, zero, suc, Some, List, [], ◌∷◌, ◌++◌, length, slice_get}
 use Rattle.agree_core.specs.declared.messages.{DeskId.DeskId, Message.Message}
 use Rattle.headline.specs.declared.{event.Event.Event, event.Station.Station}
 use Rattle.headline.specs.Configurations.{Configuration}
 use Rattle.headline.specs.Runs.{Moment, last_of}
 
--- the message was handed out in this moment, which came after that configuration
+-- the message was handed out in this moment, right after configuration w
 abbrev pub HandsOut : {Disk Why : Type 0} → Configuration Disk → Moment Disk Why → Message → Type 0
 HandsOut w m message = (n : ℕ) × (length w.sent ≤ n) × (slice_get m.after.sent n ≡ Some message)
 
--- the message comes to the station in this moment, which came after that configuration, by any number that it was sent as
+-- the station is given the message in this moment, right after configuration w, by any number under which it was sent
 abbrev pub ComesTo : {Disk Why : Type 0} → Configuration Disk → Moment Disk Why → Station → Message → Type 0
 ComesTo w m t message = (n : ℕ) × (m.event ≡ Event.Give n t) × (slice_get w.sent n ≡ Some message)
 
--- in one of these moments, from that configuration on, the message reaches the station
+-- the message reaches the station in one of these moments, from configuration w on
 abbrev pub Reaches : {Disk Why : Type 0} → Configuration Disk → Station → Message → List (Moment Disk Why) → Type 0
 Reaches w t message [] = ⊥
 Reaches w t message (m ∷ ms) = ComesTo (last_of w ms) m t message ⊎ Reaches w t message ms
 
--- one of these moments, with those after it and those before it, the newest first
+-- one of these moments, with the later and the earlier ones, the newest first
 pub record Amid {Disk Why : Type 0} (ms : List (Moment Disk Why)) : Type 0 where
   pub later : List (Moment Disk Why)
   pub moment : Moment Disk Why
   pub earlier : List (Moment Disk Why)
   pub whole : ms ≡ later ++ (moment ∷ earlier)
 
--- in these moments, from that configuration on, the message is given to the desk, and then what it answers to the station
+-- in these moments, from configuration w on, the desk is given the message, and then the station each answer to it
 pub record IsAnswered
     {Disk Why : Type 0} (w : Configuration Disk) (t : Station) (d : DeskId) (message : Message) (ms : List (Moment Disk Why))
     : Type 0 where
@@ -33,7 +33,7 @@ pub record IsAnswered
   pub given : ComesTo (last_of w at.earlier) at.moment (Station.Desk d) message
   pub heard : (reply : Message) → HandsOut (last_of w at.earlier) at.moment reply → Reaches at.moment.after t reply at.later
 
--- in these moments the station ticks, and then each message that it hands out there is given to the desk, and answered
+-- in these moments the station ticks, and then the desk is given and answers each message handed out there
 pub record Exchange
     {Disk Why : Type 0} (w : Configuration Disk) (t : Station) (d : DeskId) (ms : List (Moment Disk Why))
     : Type 0 where
@@ -42,7 +42,7 @@ pub record Exchange
   pub answered : (message : Message) → HandsOut (last_of w at.earlier) at.moment message
       → IsAnswered at.moment.after t d message at.later
 
--- in these moments the board of this number has so many exchanges with both desks, one after the other
+-- in these moments the board of this number has this many exchanges with both desks, one after the other
 abbrev pub HasExchanges : {Disk Why : Type 0} → Configuration Disk → ℕ → ℕ → List (Moment Disk Why) → Type 0
 HasExchanges w n zero ms = Unit {0}
 HasExchanges w n (suc m) ms =

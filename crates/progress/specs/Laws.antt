@@ -1,4 +1,4 @@
--- What goes on in every match, by whatever code, on whatever disks, in files of whatever form.
+-- What goes on in every match, with any code, any disks and any form of file.
 use Rattle.std.specs.Prelude.{ℕ, List}
 use Rattle.corrections.specs.declared.refusal.Refusal.{Refusal}
 use Rattle.entry_log.specs.Disk.{Images}
@@ -9,9 +9,9 @@ use Rattle.headline.specs.Match.{setting_of}
 use Rattle.headline.specs.Runs.{Begins, Moment, Run, last_of}
 use Rattle.progress.specs.Progress.{HoldsAt}
 
--- on disks of this kind, of which `seen` is what is read, and `images` what a power loss may leave
+-- for disks of this kind, with `seen` as what is read, and `images` as what a power loss may leave
 module _ {Disk : Type 0} (seen : Disk → List ℕ) (images : Disk → Images) where
-  -- so it is at each configuration that a run of a match of this number comes to, whatever a file of either version shows of
+  -- it holds at each configuration that a run of the match of this number comes to, whatever a file of either version shows of
   -- its bytes (`contents`)
   abbrev pub GoesOnInEachRun : Type 0
   GoesOnInEachRun =

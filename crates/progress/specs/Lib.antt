@@ -1,4 +1,4 @@
--- All of these hold what is claimed; none serves private functions only.
+-- All of these modules state what is claimed; none serves private functions only.
 pub mod CalmMoments
 pub mod Exchange
 pub mod InStep

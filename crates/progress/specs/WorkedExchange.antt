@@ -1,4 +1,4 @@
--- A worked exchange: A's vote was lost on its way; both desks tick, and are given what the other says.
+-- A worked exchange: A's vote was lost on its way; both desks tick, and each is given the other's messages.
 use Rattle.std.specs.Prelude.{false, true, None, List, [], ◌∷◌}
 use Rattle.notation.specs.declared.entry.Entry.{Entry}
 use Rattle.agree_core.specs.declared.{messages.Asker.Asker, messages.Message.Message, seat.Heard.Heard}
@@ -23,7 +23,7 @@ worked rules = record { view = λ d version. shows; rules = rules; shows = λ bo
 abbrev pub up : DeskState Shown → Node Shown
 up k = record { version = New; process = Running k; due = None }
 
--- desk B, which has cast nothing, before it hears of A's vote and after
+-- desk B, which has cast nothing, before and after it hears A's vote
 abbrev pub unheard : DeskState Shown
 unheard = record { seat = waiting B first; book = []; failed = false; votes = []; disk = synced [] }
 
@@ -42,7 +42,7 @@ all_said e = says A 0 e ∷ ask_for Asker.A first ∷ ask_for Asker.B first ∷ 
 abbrev pub moment : {Why : Type 0} → Event → Answer Why → Configuration Shown → Moment Shown Why
 moment event answer after = record { event = event; answer = answer; after = after }
 
--- both tick; B is given A's vote and its ask, and A the ask of B; and B the vote with which A answers
+-- both tick; B is given A's vote and A's ask, A is given B's ask, and B the vote with which A answers it
 module _ {Why : Type 0} (e : Entry) where
   abbrev pub a_ticks : Moment Shown Why
   a_ticks = moment (Event.Tick (Station.Desk A)) (Ticked 2) (at e unheard (says A 0 e ∷ ask_for Asker.A first ∷ []))
@@ -65,7 +65,7 @@ module _ {Why : Type 0} (e : Entry) where
   abbrev pub exchanged : List (Moment Shown Why)
   exchanged = answer_given ∷ a_answers ∷ ask_given ∷ vote_given ∷ b_ticks ∷ a_ticks ∷ []
 
--- each has such an exchange with the other; then they are in step at the first position, and B has noted A's vote
+-- each desk has an exchange with the other; then they are in step at the first position, and B has noted A's vote
 abbrev pub WorkedExchange : {Why : Type 0} → Rules Why → Entry → Type 0
 WorkedExchange rules e =
     Hear (worked rules) (at e unheard []) (exchanged e) × InStep (at e (heard e) (all_said e)) first []

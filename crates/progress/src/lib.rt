@@ -1,4 +1,4 @@
-//! What goes on in every run of a match: desks that hear each other come to one place, and boards to their book.
+//! What goes on in every run of a match: desks that hear each other come to one position, and boards to the desks' book.
 #![tactic(auto)]
 
 mod laws;

@@ -38,7 +38,7 @@ use Rattle.schedule_replay.proofs.GiveLemmas.{all_at, message_at}
 use Rattle.schedule_replay.proofs.SiteLemmas.{no_bytes, ticked}
 use Rattle.schedule_replay.proofs.WorldLemmas.{sent_length}
 
--- what a board receives of bytes that say a message
+-- a board that takes bytes receives the message that they say
 takes_as : (rules : Rules Refusal) (game : ℕ) (k l : BoardState) (bytes : List ℕ) (answer : Result What BoardRefusal) (m : Message)
     → Says game bytes m → Takes rules game k bytes answer l → (received : BoardAnswer) × (answer_of (board_seen answer) ≡ Some (board_told received)) × BoardReceives rules k m received l
 takes_as rules game k l bytes (Ok (What.Bad fault)) m s t = let both = reads_once game bytes (Ok m) (Err fault) s t.0 in absurd (cc)
@@ -48,7 +48,7 @@ takes_as rules game k l bytes (Err (BoardRefusal.BadVotes place)) m s t =
     (BoardAnswer.BadVotes place, refl, rw (says_once game bytes t.0 m t.1 s) at t.2)
 takes_as rules game k l bytes _ m s t = absurd t
 
--- the board is given a message that was sent
+-- the board is given a sent message
 pub board_gives : (k l : MatchBoard) (n : ℕ) (t : Station) (d : Datagram) (answer : Result What BoardRefusal) (sent : List Datagram) → slice_get sent n ≡ Some d
     → Takes (match_of (board_game k) (board_innings k)).rules (board_game k) (board_state k) d.bytes answer (board_state l) → BoardSteps (Event.Give n t) k sent (board_seen answer) l sent
 board_gives k l n t d answer sent there takes messages b =
@@ -56,27 +56,27 @@ board_gives k l n t d answer sent there takes messages b =
     let taken = takes_as (match_of (board_game k) (board_innings k)).rules (board_game k) (board_state k) (board_state l) d.bytes answer m.0 m.2 takes in
     ([], board_told taken.0, taken.1, (m.0, taken.0, inl m.1, taken.2, refl, refl), no_bytes (board_game k) sent messages b)
 
--- what a tick hands out
+-- the messages that a board's tick hands out
 pub board_ticks : (k : MatchBoard) (t : Station) (said out before after : List Datagram) → AreSent (board_game k) (map (λ (d : Datagram). d.bytes) out) (BoardTicks (board_state k))
     → said ≡ out → after ≡ before ++ said → BoardSteps (Event.Tick t) k before (Seen.Ticked (length said)) k after
 board_ticks k t said out before after sent is added messages b =
     let z = ticked (board_game k) (BoardTicks (board_state k)) said out before after messages sent is added b in
     (sent.0, Answer.Ticked (length said), refl, (sent.3, ap Answer.Ticked z.0, refl), z.1)
 
--- the world has the same desks, in the same match
+-- the world has the same desks and match as before
 pub record SameDesks (old new : World) : Type 0 where
   pub a : new.a ≡ old.a
   pub b : new.b ≡ old.b
   pub same_game : new.game ≡ old.game
   pub same_innings : new.innings_a_side ≡ old.innings_a_side
 
--- the board of this number is there, and no cause stands against the event
+-- the board of this number exists, and no cause bars the event
 pub record IsThere (n : ℕ) (old : World) (event : Event) (k : MatchBoard) : Type 0 where
   pub number : n ≡ suc (n - 1)
   pub here : slice_get old.boards.items (n - 1) ≡ Some k
   pub none : first_cause (no_board (length old.boards.items) n) false (length old.sent.items) event ≡ None
 
--- where no cause stands there is the board of this number
+-- if no cause bars the event, the board of this number exists
 pub is_there : {n many : ℕ} {old : World} (event : Event) {k : MatchBoard} {missing : Bool} → missing ≡ no_board many n
     → many ≡ length old.boards.items → first_cause missing false (length old.sent.items) event ≡ None → k ≡ get_or old.boards.items (n - 1) k
     → IsThere n old event k
@@ -105,7 +105,7 @@ module _ (old new : World) (same : SameDesks old new) (w : Configuration MemDisk
   stays : new.boards.items ≡ old.boards.items → new.sent.items ≡ old.sent.items → HasConfiguration new w
   stays boards sent = grind (arith, site_stays old new, h.sites, h.named)
 
--- a cause stands against it, or there is no memory, which it may want
+-- a cause bars the event, or memory ran out for an event that may take memory
 abbrev pub WhyNot : (Event → Bool) → ℕ → World → Event → WorldRefusal → Type 0
 WhyNot may n old event why =
     let cause = first_cause (no_board (length old.boards.items) n) false (length old.sent.items) event in
@@ -124,7 +124,7 @@ module _ (n : ℕ) (old new : World) (event : Event) (e : station_of event ≡ S
     sent_length old.game old.sent.items w.sent h.bytes,
   )
 
-  -- an event that a board has taken
+  -- a board has taken an event
   pub board_steps : (k l : MatchBoard) (seen : Seen) → IsThere n old event k → new.boards.items ≡ slice_set old.boards.items (n - 1) l
       → (IsBoardOf old.game old.innings_a_side k → IsBoardOf old.game old.innings_a_side l) → BoardSteps event k old.sent.items seen l new.sent.items → StepsTo event old seen new
   board_steps k l seen t put_there owner steps w h =
@@ -143,14 +143,14 @@ module _ (n : ℕ) (old new : World) (event : Event) (e : station_of event ≡ S
         ),
       )
 
-  -- an event that a board hasn't taken; where it was refused before anything was done it is out of memory for what it may send
+  -- a board hasn't taken an event: a cause bars it, or memory ran out for messages that it may send
   pub board_refuses : (why : WorldRefusal) → new.boards.items ≡ old.boards.items → new.sent.items ≡ old.sent.items → WhyNot may_grow n old event why → RefusesTo event old why new
   board_refuses why boards sent c w h = (w, grind (arith, cause_is w h), stays old new same w h boards sent)
 
   pub board_admits_not : (why : WorldRefusal) → new.boards.items ≡ old.boards.items → new.sent.items ≡ old.sent.items → WhyNot may_send n old event why → RefusesTo event old why new
   board_admits_not why boards sent c = board_refuses why boards sent (grind (arith, sending_grows event))
 
-  -- the board begins empty, or is as it was where it is out of memory
+  -- the board begins empty, or stays as it was if memory ran out
   pub wipes : (m : ℕ) (k l : MatchBoard) (result : Result Seen WorldRefusal) → event ≡ Event.Wipe m → IsThere n old event k
       → new.boards.items ≡ slice_set old.boards.items (n - 1) l → new.sent.items ≡ old.sent.items → IfOk result (λ seen. (n : ℕ) (sent : List Datagram) → BoardSteps (Event.Wipe n) k sent seen l sent)
       → OnOk result (IsBoardOf old.game old.innings_a_side l) → IfErr result (λ why. (why ≡ WorldRefusal.NoMemory) × (l ≡ k))
@@ -160,14 +160,14 @@ module _ (n : ℕ) (old new : World) (event : Event) (e : station_of event ≡ S
       let boards : new.boards.items ≡ old.boards.items = grind (arith, put_there, get_or_from_slice_get old.boards.items (n - 1) k k t.here, set-get_or old.boards.items (n - 1) k) in
       (tt, board_refuses why boards items (inr (t.none, want, ap may_grow q)))
 
--- a desk that was just created
+-- a site's desk that was just created
 site_begins : (version : FileVersion) (name : DeskId) (game innings : ℕ) (site : Site) → BeginsSite version name game innings site
     → (x : Node MemDisk) × HasNode site x × BeginsAt (match_of game innings) version name x
 site_begins version name game innings site h =
     let k = h.desk in
     (record { version = version; process = Running (state_of k.0); due = None }, grind (arith, h.same_version, k.1, k.2, h.down, h.due), (state_of k.0, refl, k.3))
 
--- so many boards
+-- as many fresh boards as wanted
 pub fresh_many : (n : ℕ) → length (fresh_boards n) ≡ n
 fresh_many zero = refl
 fresh_many (suc n) = ap suc (fresh_many n)
@@ -191,7 +191,7 @@ begins world version boards a b fresh sent =
     let own = subst (λ (v : FileVersion). Begins (match_of world.game world.innings_a_side) v (boards_of world) w) (sym a.same_version) (rw many begin) in
     record { is_new = (w, is, own); same_game = refl; same_innings = refl; same_version = a.same_version; same_boards = many }
 
--- one board more
+-- one more board
 pub one_more : (game innings n : ℕ) (boards : List MatchBoard) (k : MatchBoard) → AreFresh game innings n boards → board_state k ≡ fresh_board → IsBoardOf game innings k
     → AreFresh game innings (n + 1) (boards ++ k ∷ [])
 one_more game innings n boards k h fresh of = record {

@@ -1,4 +1,4 @@
--- A fault that stays due at a site is due at the same call of its disk.
+-- A fault that stays due at a site stays due at the same disk call.
 use Rattle.std.proofs.Common.{arith, ◌≡◌, ◌∙◌, Bool, false, true≢false, Option, Some, None, refl, sym, ap, Result}
 use Rattle.std.specs.Prelude.{OnOk}
 use Rattle.entry_log.specs.MemDisk.{faults_of}
@@ -13,15 +13,15 @@ use Rattle.schedule_replay.specs.inner.Sites.{AfterRefusal, BreaksDown, KeepsDue
 use Rattle.world_desks.specs.WorldDesks.{disk_of}
 use Rattle.schedule_replay.proofs.SiteLemmas.{broken_same}
 
--- the desk runs on
+-- a running desk
 pub keeps_running : (old : Site) (k l : WorldDesk) → old.desk ≡ Some k → faults_of (disk_of l) ≡ faults_of (disk_of k) → KeepsDue old (record old { desk = Some l })
 keeps_running old k l here e fault due = rw (here, ap (λ z. z.due) e) refl
 
--- or it stays down
+-- a desk that is down
 pub keeps_down : (old : Site) (disk left : MemDisk) → old.desk ≡ None → old.disk ≡ Some disk → (faults_of left).due ≡ (faults_of disk).due → KeepsDue old (record old { disk = Some left })
 keeps_down old disk left down there e fault due = rw (down, there, e) refl
 
--- nothing is due
+-- no fault is due
 pub keeps_none : (old new : Site) → new.due ≡ None → KeepsDue old new
 keeps_none old new none fault due = absurd (cc)
 
@@ -32,7 +32,7 @@ pub keeps_refused : (why : DeskRefusal) (old new : Site) (k l : WorldDesk) (seen
     → ((why ≡ DeskRefusal.Device → ⊥) → faults_of (disk_of l) ≡ faults_of (disk_of k)) → AfterRefusal why (record old { desk = Some l }) seen new → KeepsDue old new
 keeps_refused why old new k l seen here same r = grind (arith, here, same)
 
--- the votes of a desk that is down aren't found: so it is then, at a site of the same match
+-- the votes of a desk that is down weren't found: a due fault stays due, and the site is of the same match
 pub keeps_not_found : (memory failing : Bool) (cause : Cause) (old new : Site) (disk : Option MemDisk) (result : Result Seen WorldRefusal)
     → (failing ≡ false → KeepsDue old (record old { disk = disk })) → NotFoundBy memory failing cause (record old { disk = disk }) result new
     → OnOk result (KeepsDue old new) × SameSite old new

@@ -1,4 +1,4 @@
--- A tick, an end, a fault and an opening at a site are steps of the definitions there.
+-- At a site a tick, an end, a fault and an opening are steps of the definitions.
 use Rattle.std.proofs.Common.{arith, ◌≡◌, ℕ, Some, None, List, [], ◌++◌, length, map, refl, sym, ap, ◌∙◌, subst}
 use Rattle.entry_log.specs.Disk.{Images, IsImage, only}
 use Rattle.entry_log.proofs.Running.{each_image}
@@ -24,7 +24,7 @@ use Rattle.schedule_replay.specs.inner.Sites.{HasNode, IsDue, PutsDown, SiteStep
 use Rattle.world_desks.specs.WorldDesks.{SameOwner, disk_of, game_of, state_of}
 use Rattle.schedule_replay.proofs.SiteLemmas.{HasDisk, no_bytes, put_down_is, running_is, runs_again, sets_plan_stays, site_disk, ticked}
 
--- what a tick hands out
+-- the messages that a desk's tick hands out
 pub ticks : (site : Site) (k : WorldDesk) (t : Station) (said out before after : List Datagram) → site.desk ≡ Some k → AreSent (game_of k) (map (λ (d : Datagram). d.bytes) out) (Ticks (state_of k))
     → said ≡ out → after ≡ before ++ said → SiteSteps (Event.Tick t) site before (Seen.Ticked (length said)) site after
 ticks site k t said out before after here sent is added x messages h b =
@@ -46,7 +46,7 @@ kills old new k sent here put x messages h b =
     let stays = sets_plan_stays old.name x.version old.game Calm (process_disk x.process) down.0 down.2 in
     (y, [], Answer.Done, refl, (state_of k, r.process, (down.0, stays, refl), refl, refl), is, no_bytes old.game sent messages b)
 
--- its power is lost: what was put down is an image of what was there
+-- the desk loses power: its new disk is an image of the old one
 pub powers : (old mid new : Site) (choice : Choice) (there left : MemDisk) (sent : List Datagram) → PutsDown (record old { due = None }) mid → mid.disk ≡ Some there
     → IsImage (images_of there) (file_of left) → images_of left ≡ only (file_of left) → cap_of left ≡ cap_of there → plan_of left ≡ Calm
     → new ≡ record mid { disk = Some left } → SiteSteps (Event.Power old.name choice) old sent Seen.Done new sent
@@ -64,12 +64,12 @@ powers old mid new choice there left sent put at image images cap calm is x mess
     ) in
     (y, [], Answer.Done, refl, (left, loses, refl, refl, refl), site, no_bytes old.game sent messages b)
 
--- an event by which this fault falls due at the desk
+-- an event that makes this fault due at the desk
 module _ (old : Site) (fault : Fault) (plan : Plan) (event : Event)
     (step : (x y : Node MemDisk) (messages : List Message) → FallsDue ((match_of old.game old.innings_a_side).view old.name x.version) fault x y
     → AtDesk (match_of old.game old.innings_a_side) messages old.name event x Answer.Done y [])
     (due : (calls : ℕ) → IsDue (Some fault) (due_of calls plan)) (sent : List Datagram) where
-  -- one that runs
+  -- the desk runs
   pub falls_running : (k l : WorldDesk) → old.desk ≡ Some k → SetsPlan plan (disk_of k) (disk_of l) → state_of l ≡ record (state_of k) { disk = disk_of l } → SameOwner k l
       → SiteSteps event old sent Seen.Done (record old { desk = Some l; due = Some fault }) sent
   falls_running k l here sets state owner x messages h b =
@@ -78,7 +78,7 @@ module _ (old : Site) (fault : Fault) (plan : Plan) (event : Event)
       let falls = step x y messages (disk_of l, rw r.process (sets_plan_stays old.name x.version old.game plan (disk_of k) (disk_of l) sets), grind (arith, state, r.process)) in
       (y, [], Answer.Done, refl, falls, runs_again old k l (Some fault) x here h owner (rw sets.plan (due (call_count (disk_of l)))), no_bytes old.game sent messages b)
 
-  -- and one that is down
+  -- the desk is down
   pub falls_down : (disk left : MemDisk) → old.desk ≡ None → old.disk ≡ Some disk → SetsPlan plan disk left
       → SiteSteps event old sent Seen.Done (record old { disk = Some left; due = Some fault }) sent
   falls_down disk left down there sets x messages h b =

@@ -1,4 +1,4 @@
--- Bytes that were handed out are taken as the message that they say.
+-- Sent bytes are taken as the message that they say.
 use Rattle.std.proofs.Common.{arith, ◌≡◌, ℕ, Option, Some, List, [], ◌++◌, map, refl, ap, inl, Ok, Err}
 use Rattle.std.specs.Prelude.{All, is_some, true, false, slice_get}
 use Rattle.std.specs.Bool.{⊤}
@@ -35,7 +35,7 @@ use Rattle.schedule_replay.proofs.SiteLemmas.{broken_site, more_bytes, no_bytes,
 any_reply : (game : ℕ) (reply : Option (List ℕ)) (out : List Message) → replied reply ≡ map (written game) out → is_some reply ≡ has_any out
 any_reply game reply out e = grind arith
 
--- bytes that say a message are received as that message, and what is seen is the answer, unless a device call failed
+-- A desk that takes bytes receives the message that they say, and the answer is what is seen, unless a device call failed.
 takes_as : (view : FileView MemDisk) (game : ℕ) (x : Node MemDisk) (k l : DeskState MemDisk) (bytes : List ℕ) (what : What) (reply : Option (List ℕ)) (out : List Message)
     (m : Message) → Says game bytes m → Takes view game k bytes what l out → is_fault what ≡ false → replied reply ≡ map (written game) out
     → (received : ReceiveAnswer) × (answer : Answer Refusal) × (answer_of (given_seen what reply) ≡ Some answer)
@@ -49,11 +49,11 @@ takes_as view game x k l bytes What.Asked reply out m s t n e =
     (ReceiveAnswer.Asked, Answer.Asked (is_some reply), refl, rw (says_once game bytes t.0 m t.1 s) at t.2, (ap Answer.Asked (any_reply game reply out e), refl))
 takes_as view game x k l bytes What.Device reply out m s t n e = absurd (cc)
 
--- what is so of all is so of the one at this number
+-- what holds of all items holds of the one at this number
 pub all_at : {X : Type 0} (P : X → Type 0) (xs : List X) (n : ℕ) (x : X) → All P xs → slice_get xs n ≡ Some x → P x
 all_at P xs n x all e = rw (get_or_from_slice_get xs n x x e) at (All-get_or P xs n x (slice_get_within xs n x e) all)
 
--- the message that the bytes at this number say
+-- the bytes at this number say a message
 pub message_at : (game : ℕ) (sent : List Datagram) (messages : List Message) (n : ℕ) (d : Datagram) → AreBytesOf game sent messages → slice_get sent n ≡ Some d
     → (m : Message) × (slice_get messages n ≡ Some m) × Says game d.bytes m
 message_at game sent messages n d b there =
@@ -73,7 +73,7 @@ calm_faults k l r blame calm = blame.same (λ e. grind arith)
 
 module _ (old : Site) (k l : WorldDesk) (n : ℕ) (t : Station) (d : Datagram) (r : Received) (before : List Datagram) (here : old.desk ≡ Some k) (there : slice_get before n ≡ Some d)
     (step : AreSent (game_of k) (replied r.reply) (λ out. Takes (view_of k) (game_of k) (state_of k) d.bytes r.what (state_of l) out)) (owner : SameOwner k l) (blame : GiveBlame k r l) where
-  -- the site's desk is given a message that was sent
+  -- the site's desk is given a sent message
   pub give_runs_on : (after : List Datagram) → is_fault r.what ≡ false → map (λ (x : Datagram). x.bytes) after ≡ map (λ (x : Datagram). x.bytes) before ++ replied r.reply
       → SiteSteps (Event.Give n t) old before (given_seen r.what r.reply) (record old { desk = Some l }) after
   give_runs_on after calm bytes x messages h b =
@@ -92,7 +92,7 @@ module _ (old : Site) (k l : WorldDesk) (n : ℕ) (t : Station) (d : Datagram) (
         more_bytes old.game before after messages given.0 (replied r.reply) b given.1 given.2 bytes,
       )
 
-  -- a device call of the desk failed as it answered an ask
+  -- a device call of the desk failed while it answered an ask
   pub give_breaks : (new : Site) (seen : Seen) → is_fault r.what ≡ true → BreaksDown old.due (Cause.Desk refusals.Device) (record old { desk = Some l }) seen new
       → SiteSteps (Event.Give n t) old before seen new before
   give_breaks new seen fails broke x messages h b =

@@ -1,4 +1,4 @@
--- Migrating the file of a site whose desk is down is a step of the definitions there.
+-- Migrating the file of a site whose desk is down is a step of the definitions.
 use Rattle.std.proofs.Common.{◌≡◌, ◌≢◌, ◌⊎◌, ◌<◌, ◌≤◌, ℕ, Some, None, List, [], length, refl, sym, ap, ◌∙◌, subst, inl, inr, arith, Result, Ok, Err}
 use Rattle.std.specs.Prelude.{IsErrOf}
 use Rattle.corrections.specs.declared.refusal.Refusal.{Refusal}
@@ -31,7 +31,8 @@ use Rattle.schedule_replay.specs.inner.Sites.{BreaksDown, HasNode, IsWorldDisk, 
 use Rattle.schedule_replay.proofs.SiteLemmas.{no_bytes}
 use Rattle.schedule_replay.proofs.OpenLemmas.{IsDown, Outcome, ViewAt, broken_down, down_at, still_down, syncs}
 
--- what the definitions say of a file of this version is a step at a site whose desk is down, and whose file has it
+-- a migration by the definitions, of a file of this version, is a step at a site whose desk is down and whose file has that
+-- version
 migrates : (old new : Site) (disk : MemDisk) (version : FileVersion) (seen : Seen) (sent : List Datagram) → old.version ≡ version → old.desk ≡ None → old.disk ≡ Some disk
     → ((x : Node MemDisk) → HasNode old x → (d : IsDown old disk x) → (y : Node MemDisk) × (answer : Answer Refusal) × (answer_of seen ≡ Some answer)
     × MigratesAt (ViewAt old) x version d.votes disk answer y × HasNode new y) → SiteSteps (Event.Migrate old.name) old sent seen new sent
@@ -47,7 +48,7 @@ pub of_new : (old : Site) (disk : MemDisk) (sent : List Datagram) → old.versio
 of_new old disk sent new down there =
     migrates old old disk FileVersion.New (Seen.Refused (Cause.Migrate (VotesRefusal.File files.Version))) sent new down there (λ x h d. (x, Answer.OtherVersion, refl, (refl, refl), h))
 
--- the votes of the old file
+-- the disks of a migration: a fresh one, the old one without its plan, and the new one with it
 pub record IsMoved (old : Site) (disk moved fresh new : MemDisk) : Type 0 where
   pub fresh_is : IsFresh [] (most_bytes FileVersion.New) fresh
   pub here : SetsPlan Calm disk moved
@@ -71,7 +72,7 @@ migrated old disk moved fresh begun made n sent version down there m is holds ca
     let site : HasNode new (record x { version = FileVersion.New; process = Down d.votes made }) = grind (arith, on_made, d.many, h.due) in
     (record x { version = FileVersion.New; process = Down d.votes made }, Answer.Migrated n, refl, (ToNew is.votes made, (found, held), (ap Answer.Migrated is.many, refl)), site))
 
--- the old disk after a migration that failed
+-- the old disk after a failed migration
 pub record IsReturned (old : Site) (disk moved begun left new last : MemDisk) (why : VotesRefusal) : Type 0 where
   pub seen : file_of left ≡ file_of moved
   pub images : (images_of left ≡ images_of moved) ⊎ (images_of left ≡ only (file_of moved))
@@ -80,26 +81,26 @@ pub record IsReturned (old : Site) (disk moved begun left new last : MemDisk) (w
   pub back : SetsPlan (plan_of new) left last
   pub due : (faults_of last).due ≡ (faults_of new).due
 
--- why it isn't migrated
+-- why the file isn't migrated
 abbrev pub RefusedFor : Site → MemDisk → MemDisk → VotesRefusal → Type 0
 RefusedFor old moved begun why =
     (IsErrOf {T = Migrated MemDisk MemDisk} (Err why) not_empty → 0 < length (file_of begun))
     × ((why ≡ device) ⊎ ((why ≡ VotesRefusal.NoMemory) ⊎ ((why ≡ not_empty) ⊎ (file_votes (contents version_1) (desk_number old.name) old.game (file_of moved) ≡ Err why))))
 
 module _ (old : Site) (disk moved fresh begun left made last : MemDisk) (m : IsMoved old disk moved fresh begun) where
-  -- what the old disk shows then, and what room it has
+  -- the old disk may have been synced, and has its old cap
   returned : (why : VotesRefusal) → IsReturned old disk moved begun left made last why → ((version : FileVersion) → MaySync (ViewAt old version) disk last) × (cap_of last ≡ cap_of disk)
   returned why r = (
     λ version. may_sync (contents (format_of version)) file_of images_of old.name old.game disk last (grind (arith, m.here, r.back)) (grind (arith, m.here, r.back, r.images)),
     r.back.cap ∙ r.cap ∙ m.here.cap,
   )
 
-  -- the new disk was empty
+  -- the new disk was empty, so the old file is at fault
   fault_of : (why : VotesRefusal) → why ≢ device → why ≢ VotesRefusal.NoMemory → RefusedFor old moved begun why
       → file_votes (contents version_1) (desk_number old.name) old.game (file_of moved) ≡ Err why
   fault_of why n k f = grind (arith, ap length (m.there.file ∙ m.fresh_is.file))
 
-  -- nothing has failed
+  -- unless a device call failed, the disk's faults are as before
   calm_faults : (why : VotesRefusal) → IsReturned old disk moved begun left made last why → why ≢ device → faults_of last ≡ faults_of disk
   calm_faults why r n = grind (arith, m.here, r.back, r.blame.same (λ q. n (cc)))
 

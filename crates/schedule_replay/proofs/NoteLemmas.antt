@@ -1,4 +1,4 @@
--- What a score that is noted adds to those that were shown.
+-- What noting a score adds to the scores shown so far.
 use Rattle.std.proofs.Common.{◌≡◌, ◌≤◌, ◌<◌, ◌+◌, ◌*◌, ℕ, Bool, true, false, Some, List, [], ◌∷◌, ◌++◌, length, replicate}
 use Rattle.std.proofs.Common.{sym, ap, ◌∙◌, subst, inl, inr, arith}
 use Rattle.std.proofs.lemmas.Bool.Decides.{eqb_tells}
@@ -17,16 +17,16 @@ use Rattle.schedule_replay.specs.inner.ShownScores.{Adds, IsKept, IsMarked, IsSt
 abbrev pub Shown : Type 0
 Shown = Station × ℕ × Standing
 
--- boards are numbered from 1 on
+-- boards are numbered from 1
 abbrev pub FromOne : Station → Type 0
 FromOne (Station.Desk d) = Unit {0}
 FromOne (Station.Board n) = 1 ≤ n
 
--- stations have numbers of their own
+-- each station has its own number
 pub same_station : (t u : Station) → FromOne t → FromOne u → station_number t ≡ station_number u → t ≡ u
 same_station t u p q e = grind arith
 
--- and so have a station and a length
+-- each station and length have their own mark
 same_mark : (t u : Station) (n m : ℕ) → IsStation t → IsStation u → n ≤ PLACES → m ≤ PLACES → mark_of t n ≡ mark_of u m → (t ≡ u) × (n ≡ m)
 same_mark t u n m p q k l e = let h = apart (station_number t) (station_number u) n m k l e in (grind (arith, same_station t u, h.0, p, q), h.1)
   where
@@ -36,7 +36,7 @@ same_mark t u n m p q k l e = let h = apart (station_number t) (station_number u
 no_mark : (n i : ℕ) → get_or (replicate n false) i false ≡ true → ⊥
 no_mark n i h = grind (arith, common_steps)
 
--- without a score there is no mark
+-- at first there are no scores and no marks
 pub empty_kept : (shown : ShownScores) → shown.marks.items ≡ replicate most_marks false → shown.seen.items ≡ [] → IsKept shown
 empty_kept shown marks seen = record {
   long = ap length marks ∙ length-replicate most_marks false;
@@ -48,18 +48,18 @@ empty_kept shown marks seen = record {
 mark_stays : (xs : List Bool) (i j : ℕ) → i < length xs → get_or xs j false ≡ true → get_or (slice_set xs i true) j false ≡ true
 mark_stays xs i j l h = grind (arith, get_or-set_same xs i true false l, get_or-set_other xs i j true false)
 
--- the mark that is read of a station and a length
+-- the mark read for a station and a length
 pub mark_read : (shown : ShownScores) (u : Station) (m mark : ℕ) (b : Bool) → IsKept shown → mark ≡ mark_of u m → mark < most_marks → b ≡ slice_index_or shown.marks.items mark b
     → b ≡ get_or shown.marks.items (mark_of u m) false
 mark_read shown u m mark b h e less read =
     get_or_read_under shown.marks.items mark most_marks b false read less (sym h.long) ∙ ap (λ (n : ℕ). get_or shown.marks.items n false) e
 
 module _ (u : Station) (m : ℕ) (score : Standing) where
-  -- a score that stands there adds nothing
+  -- a score that is already among them adds nothing
   pub stands_there : (seen : List Shown) → Contains seen (u, m, score) → Adds u (λ n s. (n ≡ m) × (s ≡ score)) seen seen
   stands_there seen h t n other = grind (arith, h)
 
-  -- one whose mark is set stands there
+  -- a score whose mark is set is among them
   pub marked_there : (shown : ShownScores) → IsKept shown → IsStation u → m ≤ PLACES → IsMarked shown.marks.items u m
       → ((other : Standing) → Contains shown.seen.items (u, m, other) → other ≡ score) → Contains shown.seen.items (u, m, score)
   marked_there shown h p small set one = let c = h.marked u m p small set in rw (one c.0 c.1) at c.1
@@ -74,7 +74,7 @@ module _ (u : Station) (m : ℕ) (score : Standing) where
   once_more xs h none i j t n s o p q =
       grind (arith, slice_get-push xs (u, m, score) i (t, n, s) p, slice_get-push xs (u, m, score) j (t, n, o) q, h i j t n s o, none i s, none j o)
 
-  -- one that wasn't marked is added and marked
+  -- an unmarked score is added and marked
   pub added_kept : (old new : ShownScores) → IsStation u → m ≤ PLACES → mark_of u m < most_marks → IsKept old → (IsMarked old.marks.items u m → ⊥)
       → new.marks.items ≡ slice_set old.marks.items (mark_of u m) true → new.seen.items ≡ old.seen.items ++ (u, m, score) ∷ [] → IsKept new
   added_kept old new p small within h unmarked marks seen =

@@ -1,4 +1,4 @@
--- Opening the file of a site whose desk is down is a step of the definitions there.
+-- Opening the file of a site whose desk is down is a step of the definitions.
 use Rattle.std.proofs.Common.{arith, ◌≡◌, ℕ, Option, Some, None, List, [], length, refl, sym, ap, subst, inl, Result, Ok, Err}
 use Rattle.std.specs.Option.{is_none, is_some}
 use Rattle.std.specs.Bool.{⊤}
@@ -44,12 +44,12 @@ pub record IsDown (site : Site) (disk : MemDisk) (x : Node MemDisk) : Type 0 whe
 pub down_at : (site : Site) (disk : MemDisk) (x : Node MemDisk) → site.desk ≡ None → site.disk ≡ Some disk → HasNode site x → IsDown site disk x
 down_at site disk x down there h = grind arith
 
--- it stays down on this disk
+-- the desk stays down, with this disk
 pub stays_down : (site : Site) (disk left : MemDisk) (due : Option Fault) (x : Node MemDisk) → site.desk ≡ None → HasNode site x → (d : IsDown site disk x) → cap_of left ≡ cap_of disk
     → IsDue due (faults_of left).due → HasNode (record site { disk = Some left; due = due }) (record x { process = Down d.votes left; due = due })
 stays_down site disk left due x down h d cap faults = grind (arith, d.on_disk, d.many)
 
--- a device call has failed at a desk that is down
+-- a device call failed at a desk that is down
 pub broken_down : (old new : Site) (disk left : MemDisk) (x : Node MemDisk) (v : FileVersion) (cause : Cause) (seen : Seen) → old.desk ≡ None → HasNode old x → (d : IsDown old disk x)
     → cap_of left ≡ cap_of disk → ((faults_of disk).due ≡ Never → ⊥) → (IsOnce (faults_of disk).due → (faults_of left).due ≡ Never)
     → answer_of (Seen.Refused cause) ≡ Some Answer.DeviceFailed → BreaksDown old.due cause (record old { disk = Some left }) seen new
@@ -59,7 +59,7 @@ broken_down old new disk left x v cause seen down h d cap calm spent told b =
     broken old new old.desk (Some left) disk x (Down d.votes left) v (λ fault. StaysDownBy ((match_of old.game old.innings_a_side).view old.name v) x fault d.votes left) cause seen old.due refl h
     d.on_disk.faults calm (λ once. stays_down old disk left None x down h d cap (spent once)) has (refl, refl) (λ lowered s. (lowered, refl, s, refl)) told b
 
--- what comes of opening or migrating: a step of the definitions, or out of memory
+-- the outcome of opening or migrating: a step of the definitions, or memory ran out
 abbrev pub Outcome : Event → Site → Result Seen WorldRefusal → Site → Type 0
 Outcome event old result new =
     IfOk result (λ seen. (sent : List Datagram) → SiteSteps event old sent seen new sent)
@@ -85,22 +85,22 @@ opened old l disk left n sent none down there opens own cap faults many x messag
 abbrev pub OpenBlame : MemDisk → OpenRefusal → MemDisk → Type 0
 OpenBlame disk why left = BlamesDisk {T = WorldDesk} device ⊤ (Err why) (faults_of disk) (faults_of left)
 
--- a site that stays
+-- a site that stays as it was
 pub stays_so : (old : Site) → SyncsSite old old
 stays_so old x h = (process_disk x.process, inl (refl, λ image. (λ i. i, λ i. i)), grind arith)
 
 module _ (old new : Site) (disk left : MemDisk) (down : old.desk ≡ None) (there : old.disk ≡ Some disk) (cap : cap_of left ≡ cap_of disk) where
-  -- it stays down, with what is due
+  -- the desk stays down, and the same fault stays due
   pub still_down : (x : Node MemDisk) → HasNode old x → (d : IsDown old disk x) → faults_of left ≡ faults_of disk → HasNode (record old { disk = Some left }) (record x { process = Down d.votes left })
   still_down x h d faults = grind (arith, stays_down old disk left old.due x down h d cap)
 
-  -- it isn't opened, and its disk may have been synced
+  -- the desk isn't opened, and its disk may have been synced
   pub syncs : MaySync (ViewAt old old.version) disk left → faults_of left ≡ faults_of disk → new ≡ record old { disk = Some left } → SyncsSite old new
   syncs may faults e x h =
       let d = down_at old disk x down there h in (left, rw (h.version, d.process) may, grind (arith, e, d.process, still_down x h d faults))
 
   module _ (result : Result Seen WorldRefusal) where
-    -- because of what is in the file
+    -- the desk isn't opened because of what its file has
     not_sound : (why : OpenRefusal) (told : openings.OpenRefusal) (answer : Answer Refusal) → Opens (ViewAt old old.version) (RulesAt old) old.name disk (NotOpened told left)
         → ((x : Node MemDisk) (votes : List Ballot) → AfterOpen (ViewAt old x.version) x votes (NotOpened told left) answer (record x { process = Down votes left }))
         → faults_of left ≡ faults_of disk → answer_of (Seen.Refused (Cause.Open why)) ≡ Some answer
@@ -123,20 +123,20 @@ module _ (old new : Site) (disk left : MemDisk) (down : old.desk ≡ None) (ther
       tt,
     )
 
-    -- the votes file refused
+    -- the votes file was refused
     pub not_found : (why : VotesRefusal) → Opens (ViewAt old old.version) (RulesAt old) old.name disk (NotOpened (open_cause (Votes why)) left) → OpenBlame disk (Votes why) left
         → NotFoundBy (wants_memory why) (is_failing why) (Cause.Open (Votes why)) (record old { disk = Some left }) result new → Outcome (Event.Open old.name) old result new
     not_found VotesRefusal.NoMemory o blame n = rw n.0 (tt, (refl, syncs o (blame.same (λ q. (cc))) n.1))
     not_found (VotesRefusal.File files.Device) o blame n = failing o blame n
     not_found why o blame n = not_sound (Votes why) openings.OpenRefusal.Unsound Answer.Unsound o (λ x v. (refl, refl)) (blame.same (λ q. (cc))) refl n
 
-    -- the votes are no book
+    -- the votes make no book
     pub bad_votes : (place : ℕ) → Opens (ViewAt old old.version) (RulesAt old) old.name disk (NotOpened (openings.OpenRefusal.BadVotes place) left) → OpenBlame disk (BadVotes place) left
         → (result ≡ Ok (Seen.Refused (Cause.Open (BadVotes place)))) × (new ≡ record old { disk = Some left }) → Outcome (Event.Open old.name) old result new
     bad_votes place o blame n =
         not_sound (BadVotes place) (openings.OpenRefusal.BadVotes place) Answer.NoBook o (λ x v. (refl, refl)) (blame.same (λ q. (cc))) refl n
 
--- a whole site whose desk is down has a disk
+-- a whole site has a disk if its desk is down
 pub some_disk : (desk : Option WorldDesk) (disk : Option MemDisk) → is_some disk ≡ is_none desk → desk ≡ None → (d : MemDisk) × (disk ≡ Some d)
 some_disk (Some k) disk w e = absurd (cc)
 some_disk None (Some d) w e = (d, refl)

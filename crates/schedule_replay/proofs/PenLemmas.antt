@@ -1,4 +1,4 @@
--- A pen at a site's desk is a step of the definitions there.
+-- A pen at a site's desk is a step of the definitions.
 use Rattle.std.proofs.Common.{arith, ◌≡◌, ◌≢◌, Bool, Some, List, ◌++◌, map, refl, sym, ap, append-nil, ◌∙◌, Result, Err}
 use Rattle.notation.specs.declared.entry.Entry.{Entry}
 use Rattle.entry_log.specs.MemDisk.{cap_of, faults_of}
@@ -26,7 +26,7 @@ abbrev pub PenBlame : WorldDesk → Result Penned DeskRefusal → WorldDesk → 
 PenBlame k told l = BlamesDisk DeskRefusal.Device (FitsOneMore k) told (faults_of (disk_of k)) (faults_of (disk_of l))
 
 module _ (old : Site) (k l : WorldDesk) (e : Entry) (before : List Datagram) (here : old.desk ≡ Some k) (owner : SameOwner k l) where
-  -- the desk of a site has penned, or refused to
+  -- the desk of a site has penned, or has refused to
   pub pen_runs_on : (told : Result Penned DeskRefusal) (seen : Seen) (after : List Datagram) → PenSteps k e told l → PenBlame k told l
       → pen_answer told ≢ PenAnswer.DeviceFailed → answer_of seen ≡ Some (told_to_pen (pen_answer told))
       → map (λ (d : Datagram). d.bytes) after ≡ map (λ (d : Datagram). d.bytes) before ++ sent told
@@ -44,7 +44,7 @@ module _ (old : Site) (k l : WorldDesk) (e : Entry) (before : List Datagram) (he
         more_bytes old.game before after messages penned.0 (sent told) b penned.1 penned.2 bytes,
       )
 
-  -- a refusal, or that a device call of the desk failed as it penned
+  -- the desk has refused, or a device call failed while it penned
   pub pen_refused : (new : Site) (why : DeskRefusal) (seen : Seen) → PenSteps k e (Err why) l → PenBlame k (Err why) l
       → AfterRefusal why (record old { desk = Some l }) seen new → SiteSteps (Event.Pen old.name e) old before seen new before
   pen_refused new DeskRefusal.Device seen step blame broke = λ x messages h b.
@@ -59,6 +59,6 @@ module _ (old : Site) (k l : WorldDesk) (e : Entry) (before : List Datagram) (he
   pen_refused new why seen step blame a =
       rw (a.0, a.1) (pen_runs_on (Err why) (Seen.Refused (Cause.Desk why)) before step blame (λ q. (cc)) refl (sym (append-nil _)))
 
--- the site after a refusal is of the same match
+-- after a refusal the site is of the same match
 pub refused_same : (device : Bool) (why : DeskRefusal) (old new : Site) (l : WorldDesk) (seen : Seen) → RefusedBy device why (record old { desk = Some l }) seen new → SameSite old new
 refused_same device why old new l seen q = grind (arith, broken_same old.due (Cause.Desk why) old new (Some l) old.disk seen)

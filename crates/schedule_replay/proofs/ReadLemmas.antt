@@ -1,4 +1,4 @@
--- Of a file's votes the first are the desk's.
+-- The desk's votes are the first of its file's votes.
 use Rattle.std.proofs.Common.{◌≡◌, ◌≤◌, ℕ, Option, Some, List, [], ◌∷◌, ◌++◌, length, ap, ◌∙◌, inl, inr, arith, length-append}
 use Rattle.std.proofs.Math.Seq.{drop-append_seam}
 use Rattle.entry_log.specs.Format.{contents}
@@ -21,13 +21,13 @@ use Rattle.schedule_replay.proofs.SiteLemmas.{site_disk}
 first_are : (later votes found : List Ballot) (n : ℕ) → found ≡ later ++ votes → n ≡ length votes → (n ≤ length found) × (oldest n found ≡ votes)
 first_are later votes found n e size = grind (arith, length-append later votes, drop-append_seam later votes)
 
--- a desk that is put down still reads so
+-- after a desk is put down, a read of its file still gives its votes, and perhaps later ones
 pub put_down_reads : (old new : Site) (disk : MemDisk) (x : Node MemDisk) → HasNode old x → SiteReads old.game old.innings_a_side old.name x
     → PutsDown old new → new.disk ≡ Some disk → (later : List Ballot) ×
     (votes_shown (contents (format_of new.version)) new.name new.game (file_of disk) ≡ Some (later ++ process_votes x.process))
 put_down_reads old new disk x h reads put there = (reads.0, grind (arith, site_disk old x h, h.version, put, reads.1))
 
--- and the first of the votes found are the desk's
+-- the first of the votes found are the desk's
 pub put_down_votes : (old new : Site) (disk : MemDisk) (x : Node MemDisk) (found : List Ballot) → HasNode old x
     → SiteReads old.game old.innings_a_side old.name x → PutsDown old new → new.disk ≡ Some disk
     → votes_shown (contents (format_of new.version)) new.name new.game (file_of disk) ≡ Some found
@@ -36,13 +36,13 @@ put_down_votes old new disk x found h reads put there shows =
     let read = put_down_reads old new disk x h reads put there in
     first_are read.0 (process_votes x.process) found new.votes (grind (arith, shows, read.1)) (put.counted ∙ (site_disk old x h).votes)
 
--- what the match's file of a desk shows, its site reads by its own names
+-- a read of a desk's file in the match is a read of its site's file
 pub of_names : (code : World) (d : DeskId) (w : Configuration MemDisk) → HasConfiguration code w → FilesRead code.game code.innings_a_side w
     → SiteReads (code_site code d).game (code_site code d).innings_a_side (code_site code d).name (node w d)
 of_names code d w h reads =
     let names = h.named d in rw (names.same_name, names.same_game) (reads d)
 
--- in a run what is read has the votes, and perhaps one more
+-- in a run a read of each file gives the desk's votes, and perhaps one more
 pub files_read : (game innings : ℕ) (w : Configuration MemDisk) → Fine (match_of game innings) w → FilesRead game innings w
 files_read game innings w f d =
     let s = match_of game innings in

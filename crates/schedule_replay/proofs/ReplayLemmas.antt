@@ -1,4 +1,4 @@
--- A run goes on by one event, and what it shows is noted.
+-- A run goes on by one event, and the scores that it shows are noted.
 use Rattle.std.proofs.Common.{◌≡◌, ◌⊎◌, ◌<◌, ◌≤◌, ℕ, ◌+◌, Some, List, Result, Ok, Err, [], ◌∷◌}
 use Rattle.std.proofs.Common.{◌++◌, length, add-one, refl, sym, ap, ◌∙◌, inl, inr, arith, take, slice_index_or, length-append}
 use Rattle.std.proofs.Math.Seq.{take-append_seam, take-length, take-suc}
@@ -39,7 +39,7 @@ use Rattle.headline.proofs.Scores.{one_score}
 use Rattle.headline.proofs.EveryRun.{holds_in_run}
 
 module _ (game innings : ℕ) where
-  -- no event changes how many boards there are
+  -- no event changes the number of boards
   step_many : (w : Configuration MemDisk) (event : Event) (t : Station) (answer : Answer Refusal) (new : Configuration MemDisk)
       → StepAt (match_of game innings) w event t answer new → length new.boards ≡ length w.boards
   step_many w event t answer new p = grind (arith, length-set {A = BoardState})
@@ -54,7 +54,7 @@ module _
     (game innings : ℕ) (version : FileVersion) (boards : ℕ) (events : List Event) (number : ℕ) (world : World) (outcomes : List Seen)
     (seen : List Shown)
   where
-    -- a run over the first events ends with what the code's world shows, and all that was shown is noted
+    -- a run over the first events ends at the world's configuration, and all scores shown so far are noted
     pub record IsAfter : Type 0 where
       pub w : Configuration MemDisk
       pub ms : MatchRun
@@ -62,7 +62,7 @@ module _
       pub noted : AreSeen innings w ms seen
       pub scored : AtEachMoment w ms (AllHaveScores innings)
 
-    -- such a run, of which all is noted but what the world shows now
+    -- such a run, with all scores noted but those that the world shows now
     pub record IsNext : Type 0 where
       pub w : Configuration MemDisk
       pub ms : MatchRun
@@ -71,19 +71,19 @@ module _
           → AtSomeMoment w ms (λ v. ShowsScore innings v t n score) ↔ (Contains seen (t, n, score) ⊎ ShowsScore innings (last_of w ms) t n score)
       pub scored : AllHaveScores innings (last_of w ms) → AtEachMoment w ms (AllHaveScores innings)
 
--- a book of so many entries that a list begins with is that front of it
+-- if a list begins with a book, the book is that many of its first entries
 front : (innings n : ℕ) (score : Standing) (agreed book : List Entry) → BeginsWith agreed book → n ≡ length book → IsScoreOf score innings book
     → (n ≤ length agreed) × IsScoreOf score innings (take n agreed)
 front innings n score agreed book p e is = grind (arith, take-append_seam book p.0, length-append book p.0)
 
--- a score that is shown at some moment is that of a book that is shown then
+-- a score shown at some moment is the score of a book shown then
 some_book : (innings : ℕ) (w : Configuration MemDisk) (ms : MatchRun) (t : Station) (n : ℕ) (score : Standing) → AtSomeMoment w ms (λ v. ShowsScore innings v t n score)
     → (book : List Entry) × AtSomeMoment w ms (λ v. Shows v t book) × (n ≡ length book) × IsScoreOf score innings book
 some_book innings w [] t n score h = h
 some_book innings w (m ∷ ms) t n score (inl h) = (h.0, inl h.1, h.2, h.3)
 some_book innings w (m ∷ ms) t n score (inr h) = let b = some_book innings w ms t n score h in (b.0, inr b.1, b.2, b.3)
 
--- what holds in every run holds in it
+-- what holds in every run holds in this one
 holds : {game innings : ℕ} {version : FileVersion} {boards : ℕ} {over : List Event} {outcomes : List Seen} {w : Configuration MemDisk} {ms : MatchRun}
     → IsRunOf game innings version boards over outcomes w ms → HoldsInRun (match_of game innings) innings w ms
 holds {game = game} {innings = innings} {version = version} {boards = boards} {w = w} {ms = ms} run =
@@ -94,7 +94,7 @@ module _ {game innings : ℕ} {version : FileVersion} {boards : ℕ} {events : L
   begins_at world h = (h.is_new.0, grind (arith, h.is_new.1, h.is_new.2))
 
   module _ {number : ℕ} {world : World} {outcomes : List Seen} {seen : List Shown} (h : IsNext game innings version boards events number world outcomes seen) where
-    -- a station and a length that are noted have the score that the world shows
+    -- a noted station and length have the score that the world shows
     pub notable : boards ≤ 4 → (v : Configuration MemDisk) × IsNotable world seen v
     notable few =
         let run = h.at.run in
@@ -108,7 +108,7 @@ module _ {game innings : ℕ} {version : FileVersion} {boards : ℕ} {events : L
           },
         )
 
-    -- what the world shows is noted
+    -- the scores that the world shows are noted
     pub noted : {new : List Shown} → Notes world seen new → HaveScores world → IsAfter game innings version boards events number world outcomes new
     noted notes have =
         let last = last_of h.w h.ms in
@@ -122,7 +122,7 @@ module _ {game innings : ℕ} {version : FileVersion} {boards : ℕ} {events : L
           scored = h.scored (rw h.at.same_innings at (code_scored world last have h.at.has_configuration));
         }
 
-  -- one event more
+  -- one more event
   pub steps_on : (number : ℕ) (event : Event) (world new : World) (outcomes : List Seen) (seen : Seen) (w : Configuration MemDisk) (ms : MatchRun)
       → number < length events → event ≡ slice_index_or events number event → IsAt game innings version boards events number world outcomes w ms → StepsTo event world seen new
       → KeepsMatch world new → (m : Moment MemDisk Refusal) × IsAt game innings version boards events (number + 1) new (outcomes ++ seen ∷ []) w (m ∷ ms)
@@ -163,7 +163,7 @@ module _ {game innings : ℕ} {version : FileVersion} {boards : ℕ} {events : L
         scored = λ have. (have, h.scored);
       }
 
-  -- some run ends so
+  -- such a run exists
   pub has_taken : {number : ℕ} {world : World} {outcomes : List Seen} {shown : List Shown}
       → IsAfter game innings version boards events number world outcomes shown → HasTaken game innings version boards events number world
   has_taken {outcomes = outcomes} h = (outcomes, h.w, h.ms, h.at)
@@ -191,7 +191,7 @@ module _ {game innings : ℕ} {version : FileVersion} {boards : ℕ} {events : L
       let s = refuses_at why less here p.3 refuses in
       inr (p.0, p.1, p.2, number, event, s.0, p.3.run, holds p.3.run, refl, s.1, s.2)
 
-  -- all are, and there is no memory for the report
+  -- all events are taken, and memory ran out for the report
   pub ends_unreported : {number : ℕ} {world : World} → number ≡ length events → HasTaken game innings version boards events number world
       → EndsAt game innings version boards events (0, NoMemory)
   ends_unreported {number = number} e p =
@@ -207,7 +207,7 @@ module _ {game innings : ℕ} {version : FileVersion} {boards : ℕ} {events : L
       let read = files_read game innings (last_of h.w h.ms) (run_keeps s h.w h.ms (begins_fine s version boards h.w run.begins) run.run) in
       (last_of h.w h.ms, h.at.has_configuration, rw h.at.same_game read)
 
-  -- what is reported of the whole run
+  -- the report of the whole run
   pub reported : {number : ℕ} {world : World} (report : Report) → number ≡ length events
       → IsAfter game innings version boards events number world report.outcomes.items report.seen.items → StandOnce report.seen.items
       → ((w : Configuration MemDisk) → HasConfiguration world w → FilesRead world.game world.innings_a_side w
@@ -232,12 +232,12 @@ module _ {game innings : ℕ} {version : FileVersion} {boards : ℕ} {events : L
         },
       )
 
--- a new world begins the match that it is of
+-- a new world begins its own match
 own_match : (world : World) → IsNew world → BeginsWorld world.game world.innings_a_side (match_version world) (boards_of world) world
 own_match world h = record { is_new = h; same_game = refl; same_innings = refl; same_version = refl; same_boards = refl }
 
 module _ {events : List Event} {world : World} (new : IsNew world) where
-  -- at the start nothing is noted
+  -- at the start no score is noted
   pub starts : {outcomes : List Seen} {seen : List Shown} → outcomes ≡ [] → seen ≡ []
       → IsNext world.game world.innings_a_side (match_version world) (boards_of world) events 0 world outcomes seen
   starts none no_scores =
@@ -253,7 +253,7 @@ module _ {events : List Event} {world : World} (new : IsNew world) where
   pub begins_taken : HasTaken world.game world.innings_a_side (match_version world) (boards_of world) events 0 world
   begins_taken = let b = begins_at world (own_match world new) in ([], b.0, [], b.1)
 
--- a world of a match ends a replay as a replay of the match ends
+-- a replay without a report, over a world at the start of a match, ends as a replay of the match may end
 pub ends_of_match : {game innings : ℕ} {version : FileVersion} {boards : ℕ} (events : List Event) {world : World}
     (r : Result Report (ℕ × WorldRefusal)) → BeginsWorld game innings version boards world → IfErr r (EndsAt world.game world.innings_a_side (match_version world) (boards_of world) events)
     → IfErr r (EndsOrNeverBegins game innings version boards events)

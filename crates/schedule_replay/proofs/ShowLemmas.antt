@@ -1,4 +1,4 @@
--- What a world's code shows is what its definitions show.
+-- The code of a world shows what the definitions show.
 use Rattle.std.proofs.Common.{◌≡◌, ◌⊎◌, ◌≤◌, ◌<◌, ◌+◌, ℕ, zero, suc, Option, Some, None, List, length, refl, sym, ap, ◌∙◌, subst, inl, inr, arith}
 use Rattle.std.proofs.lemmas.Option.{same_Some, slice_get-map, slice_get_cases}
 use Rattle.std.specs.Option.{option_map}
@@ -30,12 +30,12 @@ one_shown : (o : Option (ℕ × List Entry)) (n m : ℕ) (score other : Standing
 one_shown None n m score other p q = absurd p
 one_shown (Some b) n m score other p q = (q.0 ∙ sym p.0, one_standing other score b.0 (history_of b.1) q.1.score p.1.score)
 
--- the length and the score of a book that are noted are all that is shown of it
+-- noting the length and the score of a book notes all that the book shows
 pub adds_book : (u : Station) (o : Option (ℕ × List Entry)) (m : ℕ) (score : Standing) (old new : List Shown) → BookShows o m score
     → Adds u (λ n s. (n ≡ m) × (s ≡ score)) old new → Adds u (BookShows o) old new
 adds_book u o m score old new p h t n s = grind (arith, h t n s, one_shown o m n score s p)
 
--- what is shown is just this book, or nothing
+-- exactly this book is shown, or none
 abbrev OneBook : (List Entry → Type 0) → ℕ → Option (ℕ × List Entry) → Type 0
 OneBook ShownBy innings None = (b : List Entry) → ShownBy b → ⊥
 OneBook ShownBy innings (Some own) = (own.0 ≡ innings) × ((b : List Entry) → ShownBy b ↔ (own.1 ≡ b))
@@ -64,7 +64,7 @@ board_there : (code : World) (w : Configuration MemDisk) (i : ℕ) → HasConfig
     → slice_get w.boards i ≡ option_map board_state (slice_get code.boards.items i)
 board_there code w i h = grind (arith, h.board_states, slice_get-map board_state code.boards.items)
 
--- a station of a world shows the book that it has
+-- a station of a world shows its own book
 shows_one : (code : World) (w : Configuration MemDisk) (t : Station) → HasConfiguration code w
     → OneBook (Shows w t) code.innings_a_side (code_book code t)
 shows_one code w (Station.Desk d) h =
@@ -101,7 +101,7 @@ all_scored code n enough a b h t = grind (arith, h, slice_get_cases code.boards.
 shows_from_one : (code : World) (t : Station) (n : ℕ) (score : Standing) → CodeShows code t n score → FromOne t
 shows_from_one code t n score h = grind arith
 
--- the stations below this number are noted
+-- the scores of the stations below this number are noted
 pub record NotedBelow (code : World) (k : ℕ) (old new : List Shown) : Type 0 where
   pub noted : (t : Station) (n : ℕ) (score : Standing)
       → Contains new (t, n, score) ↔ (Contains old (t, n, score) ⊎ (CodeShows code t n score × (station_number t < k)))
@@ -109,12 +109,12 @@ pub record NotedBelow (code : World) (k : ℕ) (old new : List Shown) : Type 0 w
 pub none_noted : (code : World) (old : List Shown) → NotedBelow code 0 old old
 none_noted code old = record { noted = λ t n score. grind arith }
 
--- what is added to what was added before
+-- adding one more station's score to those of the stations below
 added_more : {Old Mid New Shows Below Here Next : Type 0} → Mid ↔ (Old ⊎ (Shows × Below)) → New ↔ (Mid ⊎ Here) → (Here → Shows × Next)
     → (Below → Next) → (Shows → Next → Below ⊎ Here) → New ↔ (Old ⊎ (Shows × Next))
 added_more h a here below either = grind (arith, h, a, here, below, either)
 
--- and the next one is, by this name
+-- the next station's scores are noted too, under its name
 pub noted_next : {code : World} {k l : ℕ} {u v : Station} {old mid new : List Shown} → FromOne u → station_number u ≡ k → l ≡ k + 1 → v ≡ u
     → NotedBelow code k old mid → Adds v (CodeShows code u) mid new → NotedBelow code l old new
 noted_next {code = code} {k = k} {u = u} f number next is h a = record {
@@ -124,7 +124,7 @@ noted_next {code = code} {k = k} {u = u} f number next is h a = record {
       (λ c less. let same = same_station t u (shows_from_one code t n score c) f in grind (arith, same, c, less, number, is, next));
 }
 
--- what stands there of a station that is to be noted has the score that it shows
+-- if the next station's length is noted already, its noted score is the one that it shows
 pub one_noted : {code : World} {w : Configuration MemDisk} {k : ℕ} {u v : Station} {old mid : List Shown} → v ≡ u → IsNotable code old w
     → NotedBelow code k old mid → (n : ℕ) (score other : Standing) → Contains mid (v, n, other) → CodeShows code u n score → other ≡ score
 one_noted {code = code} {w = w} {u = u} is h below n score other c shows = elim ((below.noted u n other).0 (rw is at c)) [
@@ -132,7 +132,7 @@ one_noted {code = code} {w = w} {u = u} is h below n score other c shows = elim 
   | inr e ↦ (one_shown (code_book code u) n n score other shows e.0).1
 ]
 
--- once both desks and all boards are noted, all is
+-- once both desks and all boards are noted, every station is
 pub all_noted : {code : World} {k : ℕ} {old new : List Shown} → length code.boards.items + 2 ≤ k → NotedBelow code k old new → Notes code old new
 all_noted {code = code} {k = k} enough h w is t n score = (
   λ c. elim ((h.noted t n score).0 c) [ inl o ↦ inl o | inr e ↦ inr ((code_shows code w t n score is).1 e.0) ],
@@ -145,7 +145,7 @@ all_noted {code = code} {k = k} enough h w is t n score = (
     small : (t : Station) → CodeShows code t n score → station_number t < k
     small t p = grind (arith, slice_get_cases code.boards.items)
 
--- a desk is noted by its own name, and a board by its number
+-- a desk is noted under its own name, and a board under its number
 pub desk_name : {code : World} {old : List Shown} {w : Configuration MemDisk} (d : DeskId) → IsNotable code old w → Station.Desk (code_site code d).name ≡ Station.Desk d
 desk_name d h = let own = h.has_configuration.named d in ap Station.Desk own.same_name
 

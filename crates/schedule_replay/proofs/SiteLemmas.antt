@@ -39,17 +39,17 @@ pub record Runs (site : Site) (k : WorldDesk) (x : Node MemDisk) : Type 0 where
 pub running_is : (site : Site) (k : WorldDesk) (x : Node MemDisk) → site.desk ≡ Some k → HasNode site x → Runs site k x
 running_is site k x here h = grind arith
 
--- the site with its desk after a call, whatever is due now
+-- the site with its desk after a call, with this fault due or none
 pub runs_again : (site : Site) (k l : WorldDesk) (due : Option Fault) (x : Node MemDisk) → site.desk ≡ Some k → HasNode site x → SameOwner k l → IsDue due (faults_of (disk_of l)).due
     → HasNode (record site { desk = Some l; due = due }) (record x { process = Running (state_of l); due = due })
 runs_again site k l due x here h o f = grind arith
 
--- after a call that didn't fail at its device
+-- after a call whose device didn't fail
 pub runs_on : (site : Site) (k l : WorldDesk) (x : Node MemDisk) → site.desk ≡ Some k → HasNode site x → SameOwner k l → faults_of (disk_of l) ≡ faults_of (disk_of k)
     → HasNode (record site { desk = Some l }) (record x { process = Running (state_of l) })
 runs_on site k l x here h o f = grind arith
 
--- messages and those that were handed out after them
+-- the messages sent before, and the ones handed out now
 pub more_bytes : (game : ℕ) (old new : List Datagram) (messages out : List Message) (bytes : List (List ℕ)) → AreBytesOf game old messages → All IsMessage out → bytes ≡ map (written game) out
     → map (λ (d : Datagram). d.bytes) new ≡ map (λ (d : Datagram). d.bytes) old ++ bytes → AreBytesOf game new (messages ++ out)
 more_bytes game old new messages out bytes b all e n =
@@ -58,7 +58,7 @@ more_bytes game old new messages out bytes b all e n =
 pub no_bytes : (game : ℕ) (sent : List Datagram) (messages : List Message) → AreBytesOf game sent messages → AreBytesOf game sent (messages ++ [])
 no_bytes game sent messages b = rw append-nil b
 
--- what a tick hands out
+-- the messages that a tick hands out
 pub ticked : (game : ℕ) (Step : List Message → Type 0) (said out before after : List Datagram) (messages : List Message) → (sent : AreSent game (map (λ (d : Datagram). d.bytes) out) Step)
     → said ≡ out → after ≡ before ++ said → AreBytesOf game before messages → (length said ≡ length sent.0) × AreBytesOf game after (messages ++ sent.0)
 ticked game Step said out before after messages sent is added b =
@@ -67,7 +67,7 @@ ticked game Step said out before after messages sent is added b =
       more_bytes game before after messages sent.0 (map bytes out) b sent.1 sent.2 (rw (added, is) (map-append bytes before out)),
     )
 
--- a disk that shows the same, with other calls to fail
+-- a disk with the same bytes and images, and another plan of failing calls
 pub sets_plan_stays : (name : DeskId) (version : FileVersion) (game : ℕ) (plan : Plan) (old new : MemDisk) → SetsPlan plan old new
     → Stays (file_view (contents (format_of version)) file_of images_of name game) old new
 sets_plan_stays name version game plan old new h = stays (contents (format_of version)) file_of images_of name game old new h.file h.images
@@ -89,7 +89,7 @@ put_down_is old new p h due put =
     let same : d.0 ≡ process_disk p = grind (arith, h.disk, d.2) in
     (d.1, d.3, rw same at d.4, grind (arith, h, put, ap (due_of (call_count d.1)) (d.4).plan))
 
--- a device call has failed, by the fault that was due: the site goes on with this process, or its desk is down
+-- a device call failed by the fault that was due: the site goes on with this process, or its desk is down
 pub broken : (old new : Site) (desk : Option WorldDesk) (disk : Option MemDisk) (before : MemDisk) (x : Node MemDisk) (p : Process MemDisk) (version : FileVersion)
     (By : Fault → Answer Refusal → Node MemDisk → Type 0) (cause : Cause) (seen : Seen) (due : Option Fault) → old.due ≡ due → HasNode old x → IsDue old.due (faults_of before).due
     → ((faults_of before).due ≡ Never → ⊥) → (IsOnce (faults_of before).due → HasNode (record old { desk = desk; disk = disk; due = None }) (record x { process = p; due = None }))
@@ -108,7 +108,7 @@ broken old new desk disk before x p version By cause seen (Some Stop) d h due ca
     let is : HasNode new y = record { version = h.version ∙ sym put.version; process = down.3; due = sym put.due } in
     (y, Answer.Stopped, ap answer_of b.0, (Stop, h.due ∙ d, stops down.0 (sets_plan_stays old.name version old.game Calm (process_disk p) down.0 down.2)), is)
 
--- so it is at a desk that runs
+-- likewise at a running desk
 pub broken_site : (old new : Site) (k l : WorldDesk) (x : Node MemDisk) (cause : Cause) (seen : Seen) → old.desk ≡ Some k → HasNode old x → SameOwner k l
     → ((faults_of (disk_of k)).due ≡ Never → ⊥) → (IsOnce (faults_of (disk_of k)).due → (faults_of (disk_of l)).due ≡ Never) → answer_of (Seen.Refused cause) ≡ Some Answer.DeviceFailed
     → BreaksDown old.due cause (record old { desk = Some l }) seen new
@@ -120,7 +120,7 @@ broken_site old new k l x cause seen here h o calm spent told b =
     cause seen old.due refl h disk.faults calm (λ once. runs_again old k l None x here h o (spent once))
     (record { disk = refl; votes = refl; cap = o.cap ∙ disk.cap }) (refl, refl) (λ left s. (left, refl, s, refl)) told b
 
--- the site after that is of the same match
+-- after a failed device call the site is of the same match
 pub broken_same : (due : Option Fault) (cause : Cause) (old new : Site) (desk : Option WorldDesk) (disk : Option MemDisk) (seen : Seen)
     → BreaksDown due cause (record old { desk = desk; disk = disk }) seen new → SameSite old new
 broken_same due cause old new desk disk seen q = grind arith

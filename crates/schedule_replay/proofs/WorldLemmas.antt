@@ -20,11 +20,11 @@ use Rattle.schedule_replay.specs.inner.Sites as sites
 use Rattle.schedule_replay.specs.CodeWorlds.{HasConfiguration, RefusesTo, StepsTo, code_site}
 use Rattle.schedule_replay.proofs.SiteLemmas.{site_disk}
 
--- as many messages as datagrams
+-- there are as many messages as datagrams
 pub sent_length : (game : ℕ) (sent : List Datagram) (messages : List Message) → AreBytesOf game sent messages → length messages ≡ length sent
 sent_length game sent messages b = sym (length-map messages (written game)) ∙ sym (ap length b.1) ∙ length-map sent (λ (d : Datagram). d.bytes)
 
--- the world has this site in the place of that desk's
+-- the world has this site for the desk, and the other site as before
 pub record Changes (d : DeskId) (old new : World) (site : Site) : Type 0 where
   pub here : code_site new d ≡ site
   pub there : code_site new (other d) ≡ code_site old (other d)
@@ -38,7 +38,7 @@ module _ (d : DeskId) (old new : World) (site : Site) (w : Configuration MemDisk
   put : (y : Node MemDisk) (out : List Message) → HasNode site y → AreBytesOf old.game new.sent.items (w.sent ++ out) → HasConfiguration new (with_node w d y out)
   put y out i b = grind (arith, h.sites, h.named)
 
-  -- the world stays
+  -- the world stays as it was
   stays : site ≡ code_site old d → new.sent.items ≡ old.sent.items → HasConfiguration new w
   stays e items = grind (arith, h.sites, h.named)
 
@@ -54,29 +54,29 @@ module _ (d : DeskId) (old new : World) (site : Site) (w : Configuration MemDisk
         put _ [] k.2 (rw (append-nil, items) h.bytes),
       )
 
-  -- what being out of memory leaves
+  -- what running out of memory leaves
   left : (event : Event) → station_of event ≡ Station.Desk d → SiteLeft event (code_site old d) site → new.sent.items ≡ old.sent.items
       → (v : Configuration MemDisk) × LeftByWant (match_of old.game old.innings_a_side) w event v × HasConfiguration new v
   left (Event.Open b) e l items = synced b (cc) l items
   left (Event.Migrate b) e l items = synced b (cc) l items
   left _ e l items = (w, refl, stays l items)
 
--- the first cause at the site is that of the world
+-- the first cause at the site is the world's first cause
 cause_is : (d : DeskId) (old : World) (w : Configuration MemDisk) (event : Event) → station_of event ≡ Station.Desk d → HasConfiguration old w
     → refusal_of w event ≡ site_cause (code_site old d) old.sent.items event
 cause_is d old w event e h = grind (arith, h.sites d, sent_length old.game old.sent.items w.sent h.bytes)
 
--- what the site plans is planned in the world
+-- the site's plan is a plan of the world
 plans : (d : DeskId) (w : Configuration MemDisk) (site : Site) (y : Node MemDisk) (out : List Message) (event : Event) → station_of event ≡ Station.Desk d → HasNode site y
     → HasPlan event (disk_at site.desk site.disk) → LeavesPlan event (with_node w d y out)
 plans d w site y out event e i h c q = grind (arith, site_disk site y i)
 
--- what stays due at the site stays so in the world
+-- a fault that stays due at the site stays due in the world
 counts : (d : DeskId) (w : Configuration MemDisk) (old new : Site) (y : Node MemDisk) (out : List Message) → HasNode old (node w d) → HasNode new y → KeepsDue old new → (c : DeskId)
     → StaysDue (node (with_node w d y out) c).due (Some (process_disk (node w c).process)) (Some (process_disk (node (with_node w d y out) c).process))
 counts d w old new y out h i keeps c fault due = grind (arith, site_disk old (node w d) h, site_disk new y i, keeps fault)
 
--- an event that a site has taken, or hasn't
+-- a site has taken an event, or refused it
 pub at_desk : (d : DeskId) (old new : World) (site : Site) (event : Event) (result : Result Seen WorldRefusal) → station_of event ≡ Station.Desk d → Changes d old new site
     → SiteTakes event (code_site old d) old.sent.items result site new.sent.items → OnOk result (HasPlan event (disk_at site.desk site.disk))
     → OnOk result (asks_fault event ≡ false → KeepsDue (code_site old d) site) → IfOk result (λ seen. StepsTo event old seen new) × IfErr result (λ why. RefusesTo event old why new)

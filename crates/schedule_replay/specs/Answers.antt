@@ -1,4 +1,4 @@
--- What is seen, and bytes that were sent, in the definitions of a run.
+-- Outcomes and datagrams of the code, in the terms of the definitions.
 use Rattle.std.specs.Prelude.{◌≡◌, ℕ, Bool, true, false, List, map, All, is_some, Option, Some, None, Err}
 use Rattle.corrections.specs.declared.refusal.Refusal.{Refusal}
 use Rattle.entry_log.specs.declared.refusal.Refusal.TheVariants as files
@@ -13,7 +13,7 @@ use Rattle.desk.specs.Answers.{open_cause, pen_answer}
 use Rattle.schedule_replay.specs.declared.seen.{Cause.Cause, Seen.Seen}
 use Rattle.headline.specs.Answers.{Answer}
 
--- what a pen answers
+-- the answer of a pen
 abbrev pub told_to_pen : PenAnswer Refusal → Answer Refusal
 told_to_pen (PenAnswer.Penned settled) = Answer.Penned settled
 told_to_pen (PenAnswer.Refused why) = Answer.NotPenned why
@@ -25,7 +25,7 @@ told_to_open (OpenRefusal.BadVotes place) = Some Answer.NoBook
 told_to_open OpenRefusal.NoMemory = None
 told_to_open OpenRefusal.DeviceFailed = Some Answer.DeviceFailed
 
--- why a file isn't migrated; being out of memory is no answer
+-- the answer to a file that isn't migrated; running out of memory is no answer
 abbrev pub told_to_migrate : VotesRefusal → Option (Answer Refusal)
 told_to_migrate VotesRefusal.NoMemory = None
 told_to_migrate (VotesRefusal.File files.Device) = Some Answer.DeviceFailed
@@ -42,7 +42,7 @@ abbrev pub is_device : DeskRefusal → Bool
 is_device DeskRefusal.Device = true
 is_device _ = false
 
--- the answer that is seen; bytes that are no message are none
+-- the answer that an outcome shows; bytes that are no message have no answer
 abbrev pub answer_of : Seen → Option (Answer Refusal)
 answer_of (Seen.Penned settled) = Some (Answer.Penned settled)
 answer_of (Seen.Refused cause) = told_by cause
@@ -57,11 +57,11 @@ answer_of (Seen.Opened n) = Some (Answer.Opened n)
 answer_of (Seen.Migrated n) = Some (Answer.Migrated n)
 answer_of Seen.Done = Some Answer.Done
 
--- these are the bytes of the messages
+-- the datagrams are the bytes of these messages
 abbrev pub AreBytesOf : ℕ → List Datagram → List Message → Type 0
 AreBytesOf game sent messages = All IsMessage messages × (map (λ d. d.bytes) sent ≡ map (written game) messages)
 
--- what is seen where a desk was given bytes, but for a failing device
+-- the outcome of a desk that was given bytes, unless its device failed
 abbrev pub given_seen : What → Option (List ℕ) → Seen
 given_seen (What.Bad fault) reply = Seen.Bad fault
 given_seen (What.Heard h) reply = Seen.Heard h
@@ -73,7 +73,7 @@ abbrev pub is_fault : What → Bool
 is_fault What.Device = true
 is_fault _ = false
 
--- why a votes file isn't found: out of memory, or its disk failed
+-- why a votes file isn't found: memory ran out, or its disk failed
 abbrev pub wants_memory : VotesRefusal → Bool
 wants_memory VotesRefusal.NoMemory = true
 wants_memory _ = false

@@ -1,4 +1,4 @@
--- The configuration that a world has.
+-- The configuration of a world.
 use Rattle.std.specs.Prelude.{◌≡◌, ℕ, length, map, All, Some, None, Result, Ok, Err}
 use Rattle.corrections.specs.Book.{Contents}
 use Rattle.corrections.specs.declared.{checked_book.CheckedBook.CheckedBook, refusal.Refusal.Refusal}
@@ -33,14 +33,14 @@ MatchBoard = Board CheckedBook book_impl.ghosts
 abbrev pub board_state : MatchBoard → BoardState
 board_state k = board.state_of (λ (b : Contents). b.entries) k
 
--- the number of its match, and the innings a side of its book
+-- the number of the board's match, and the innings a side of its book
 abbrev pub board_game : MatchBoard → ℕ
 board_game k = board.game_of k
 
 abbrev pub board_innings : MatchBoard → ℕ
 board_innings k = (λ (b : Contents). b.innings_a_side) (board.book_of k)
 
--- what is seen of a board's answer
+-- the outcome shown by a board's answer
 abbrev pub board_seen : Result What BoardRefusal → Seen
 board_seen (Ok what) = given_seen what None
 board_seen (Err why) = Seen.BadVotes
@@ -49,7 +49,7 @@ pub record IsBoardOf (game innings : ℕ) (k : MatchBoard) : Type 0 where
   pub same_game : board_game k ≡ game
   pub same_innings : board_innings k ≡ innings
 
--- the site is that of this desk in the match
+-- the site belongs to this desk in the match
 pub record IsSiteOf (name : DeskId) (game innings : ℕ) (site : Site) : Type 0 where
   pub same_name : site.name ≡ name
   pub same_game : site.game ≡ game
@@ -63,26 +63,26 @@ pub record HasConfiguration (code : World) (w : Configuration MemDisk) : Type 0 
   pub board_states : w.boards ≡ map board_state code.boards.items
   pub bytes : AreBytesOf code.game code.sent.items w.sent
 
--- it is a world of the same match
+-- the new world is of the same match as the old one
 pub record KeepsMatch (old new : World) : Type 0 where
   pub same_game : new.game ≡ old.game
   pub same_innings : new.innings_a_side ≡ old.innings_a_side
 
--- the version of desk A's file, which at the start of a match is that of both desks' files
+-- the version of desk A's file, which both desks' files have at the start of a match
 abbrev pub match_version : World → FileVersion
 match_version world = world.a.version
 
--- how many boards it has
+-- how many boards the world has
 abbrev pub boards_of : World → ℕ
 boards_of world = length world.boards.items
 
--- it is at the start of its match
+-- the world is at the start of its match
 abbrev pub IsNew : World → Type 0
 IsNew world =
     (w : Configuration MemDisk) × HasConfiguration world w
     × Begins (match_of world.game world.innings_a_side) (match_version world) (boards_of world) w
 
--- it is at the start of this match, with files of this version and so many boards
+-- the world is at the start of this match, with files of this version and this many boards
 pub record BeginsWorld (game innings : ℕ) (version : FileVersion) (boards : ℕ) (world : World) : Type 0 where
   pub is_new : IsNew world
   pub same_game : world.game ≡ game
@@ -90,8 +90,8 @@ pub record BeginsWorld (game innings : ℕ) (version : FileVersion) (boards : �
   pub same_version : match_version world ≡ version
   pub same_boards : boards_of world ≡ boards
 
--- the event is taken: it is a step of the definitions, this is what is seen of its answer, a fault that it asks for
--- is planned, none is after a kill or a power loss, and one that was due before is counted down
+-- The event is taken: it is a step of the definitions, whose answer the outcome shows. A fault that it asks for is planned, no
+-- fault is planned after a kill or a power loss, and a fault due before is counted down.
 abbrev pub StepsTo : Event → World → Seen → World → Type 0
 StepsTo event old seen new =
     (w : Configuration MemDisk) → HasConfiguration old w

@@ -1,5 +1,5 @@
--- What is claimed: Replays, over the runs of `headline`; Plans, Refusals, Answers, CodeWorlds and Lending;
--- SeenWords, of words. inner serves private functions only.
+-- What is claimed: Replays, over the runs of `headline`; Plans, Refusals, Answers, CodeWorlds and Lending; and the words of
+-- SeenWords. inner serves private functions only.
 pub mod Refusals
 pub mod Plans
 pub mod Answers

@@ -1,4 +1,4 @@
--- Which device calls are to fail, on disks in memory.
+-- Which device calls are set to fail, on disks in memory.
 use Rattle.std.specs.Prelude.{◌≡◌, ◌-◌, Bool, true, false, IfSome, option_map, Option, Some, None}
 use Rattle.entry_log.specs.Disk.{Due}
 use Rattle.entry_log.specs.MemDisk.{faults_of, plan_of}
@@ -9,8 +9,8 @@ use Rattle.headline.specs.declared.{event.Event.Event, event.Station.Station, fa
 use Rattle.headline.specs.Events.{station_of}
 use Rattle.headline.specs.Configurations.{Configuration, node, process_disk}
 
--- the plan that an event leaves on its desk's disk: n - 1 calls pass, and then one fails, or each; after a kill or a
--- power loss no call is to fail
+-- the plan that an event leaves on its desk's disk: n - 1 calls pass, and then one call fails, or all do; after a kill or a
+-- power loss no call is set to fail
 abbrev pub plan_by : Event → Option Plan
 plan_by (Event.FailAt d n) = Some (Fail (n - 1))
 plan_by (Event.StopAt d n) = Some (Stop (n - 1))
@@ -18,21 +18,21 @@ plan_by (Event.Kill d) = Some Calm
 plan_by (Event.Power d choice) = Some Calm
 plan_by _ = None
 
--- whether it asks for a fault
+-- whether the event asks for a fault
 abbrev pub asks_fault : Event → Bool
 asks_fault (Event.FailAt d n) = true
 asks_fault (Event.StopAt d n) = true
 asks_fault _ = false
 
--- where it leaves one, the disk has just this plan, by which each of its calls goes
+-- if the event leaves a plan, the disk has exactly that plan, which each of its calls follows
 abbrev pub HasPlan : Event → Option MemDisk → Type 0
 HasPlan event disk = IfSome (plan_by event) (λ plan. option_map plan_of disk ≡ Some plan)
 
--- it leaves that on the disk of the desk that it is for
+-- the event leaves its plan on the disk of its desk
 abbrev pub LeavesPlan : Event → Configuration MemDisk → Type 0
 LeavesPlan event w = (d : DeskId) → station_of event ≡ Station.Desk d → HasPlan event (Some (process_disk (node w d).process))
 
--- which call of a disk is to fail, by its number
+-- the number of the disk call that is set to fail
 abbrev pub due_on : Option MemDisk → Option Due
 due_on disk = option_map (λ (d : MemDisk). (faults_of d).due) disk
 
@@ -40,7 +40,7 @@ due_on disk = option_map (λ (d : MemDisk). (faults_of d).due) disk
 abbrev pub StaysDue : Option Fault → Option MemDisk → Option MemDisk → Type 0
 StaysDue due old new = (fault : Fault) → due ≡ Some fault → due_on new ≡ due_on old
 
--- so it is at each desk after an event that asks for no fault
+-- at each desk, after an event that asks for no fault, a due fault is counted down
 abbrev pub CountsDown : Event → Configuration MemDisk → Configuration MemDisk → Type 0
 CountsDown event w v =
     asks_fault event ≡ false

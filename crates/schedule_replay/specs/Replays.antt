@@ -23,15 +23,15 @@ use Rattle.schedule_replay.specs.Answers.{answer_of}
 abbrev pub MatchRun : Type 0
 MatchRun = List (Moment MemDisk Refusal)
 
--- just what stations have shown: a station, the length of its book and its score stand here exactly where
--- the station has shown them at the start or after some event
+-- The list has exactly what stations have shown: a station, its book's length and its score are in it exactly if the station
+-- showed them at the start or after some event.
 abbrev pub AreSeen : ℕ → Configuration MemDisk → MatchRun → List (Station × ℕ × Standing) → Type 0
 AreSeen innings w ms seen =
     (t : Station) (n : ℕ) (score : Standing)
     → Contains seen (t, n, score) ↔ AtSomeMoment w ms (λ v. ShowsScore innings v t n score)
 
--- a run of the match over these events, whose answers are seen so, and in which each fault is planned that is asked
--- for, and then counted down, and none stays planned after a kill or a power loss
+-- A run of the match over these events, with these outcomes. Each fault asked for is planned and then counted down, and none
+-- stays planned after a kill or a power loss.
 pub record IsRunOf
     (game innings : ℕ) (version : FileVersion) (boards : ℕ) (events : List Event) (outcomes : List Seen)
     (w : Configuration MemDisk) (ms : MatchRun) : Type 0 where
@@ -42,7 +42,7 @@ pub record IsRunOf
   pub planned : AtEachEvent w ms (λ v m. LeavesPlan m.event m.after)
   pub counted : AtEachEvent w ms (λ v m. CountsDown m.event v m.after)
 
--- event k, counted from 1, isn't taken after such a run over those before it
+-- event k, counted from 1, is refused after such a run over the events before it
 abbrev pub RefusedAt :
     ℕ → ℕ → FileVersion → ℕ → List Event → ℕ → WorldRefusal → Type 0
 RefusedAt game innings version boards events k why =
@@ -52,30 +52,30 @@ RefusedAt game innings version boards events k why =
     × (k ≡ before + 1)
     × (slice_get events before ≡ Some event) × RefusesEvent (match_of game innings) (last_of w ms) event why v
 
--- all the events are taken
+-- all events are taken
 abbrev pub TakesEach : ℕ → ℕ → FileVersion → ℕ → List Event → Type 0
 TakesEach game innings version boards events =
     (outcomes : List Seen) × (w : Configuration MemDisk) × (ms : MatchRun)
     × IsRunOf game innings version boards events outcomes w ms × HoldsInRun (match_of game innings) innings w ms
 
--- why a replay has no report: an event isn't taken; or all are, and it ran out of memory for the report alone
+-- why a replay has no report: an event is refused; or all are taken, and memory ran out for the report alone
 abbrev pub EndsAt : ℕ → ℕ → FileVersion → ℕ → List Event → ℕ × WorldRefusal → Type 0
 EndsAt game innings version boards events end =
     ((end.0 ≡ 0) × (end.1 ≡ NoMemory) × TakesEach game innings version boards events)
     ⊎ RefusedAt game innings version boards events end.0 end.1
 
--- the same where the replay makes its world, for which there may be no memory
+-- likewise for a replay that makes its world, for which memory may run out
 abbrev pub EndsOrNeverBegins : ℕ → ℕ → FileVersion → ℕ → List Event → ℕ × WorldRefusal → Type 0
 EndsOrNeverBegins game innings version boards events end =
     ((end.0 ≡ 0) × (end.1 ≡ NoMemory)) ⊎ EndsAt game innings version boards events end
 
--- each score that was shown is the Laws' score of its book: of so many first entries of the agreed list
+-- each score shown is the Laws' score of its book, which is the first n entries of the agreed list
 abbrev pub AreScores : ℕ → List Entry → List (Station × ℕ × Standing) → Type 0
 AreScores innings agreed seen =
     (t : Station) (n : ℕ) (score : Standing) → Contains seen (t, n, score)
     → (n ≤ length agreed) × IsScoreOf score innings (take n agreed)
 
--- no station and length stand twice
+-- no station and length are listed twice
 abbrev pub StandOnce : List (Station × ℕ × Standing) → Type 0
 StandOnce seen =
     (i j : ℕ) (t : Station) (n : ℕ) (score other : Standing) → slice_get seen i ≡ Some (t, n, score)
@@ -85,19 +85,19 @@ StandOnce seen =
 pub record IsReportOf
     (game innings : ℕ) (version : FileVersion) (boards : ℕ) (events : List Event) (report : Report)
     (w : Configuration MemDisk) (ms : MatchRun) : Type 0 where
-  -- it is a run over all the events, with these outcomes, and what holds in every run holds in it
+  -- a run over all events, with these outcomes; and what holds in every run holds in it
   pub run : IsRunOf game innings version boards events report.outcomes.items w ms
   pub holds : HoldsInRun (match_of game innings) innings w ms
-  -- the agreed list is that of the last votes
+  -- the agreed list of the last votes
   pub agreed : IsAgreedList (all_votes (last_of w ms)) report.agreed.items
-  -- each station that isn't down shows a score; a station, a length and a score are seen exactly where the run
-  -- shows them, once each; and each score is the Laws' score of so many first entries of the agreed list
+  -- Each station that isn't down shows a score. A station, length and score are listed exactly if the run shows them, once
+  -- each, and each score is the Laws' score of the first n entries of the agreed list.
   pub scored : AtEachMoment w ms (AllHaveScores innings)
   pub seen : AreSeen innings w ms report.seen.items
   pub once : StandOnce report.seen.items
   pub scores : AreScores innings report.agreed.items report.seen.items
 
--- there is a run of which it is the report
+-- the report is that of some run
 abbrev pub IsReplay : ℕ → ℕ → FileVersion → ℕ → List Event → Report → Type 0
 IsReplay game innings version boards events report =
     (w : Configuration MemDisk) × (ms : MatchRun) × IsReportOf game innings version boards events report w ms

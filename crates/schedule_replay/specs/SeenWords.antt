@@ -1,4 +1,4 @@
--- The words for what an event is answered, and the number of each refusal.
+-- The words for each outcome of an event, and the number of each refusal.
 use Rattle.std.specs.Prelude.{ℕ, Bool, true, false, List, ◌++◌, codes, decimal, Option, Some, None}
 use Rattle.agree_core.specs.declared.seat.{Heard.Heard, Settled.Settled}
 use Rattle.desk.specs.Refusal as desk
@@ -7,7 +7,7 @@ use Rattle.wire.specs.Fault as wire
 use Rattle.schedule_replay.specs.declared.seen.{Cause.Cause, Seen.Seen, WorldRefusal.WorldRefusal}
 use Rattle.schedule_replay.specs.declared.seen.WorldRefusal.TheVariants.{NoMessage, NoStation, WorldFull, Down, Up, NoMemory}
 
--- being out of memory has no number
+-- running out of memory has no number
 abbrev pub refusal_number : WorldRefusal → Option ℕ
 refusal_number NoMessage = Some 80
 refusal_number NoStation = Some 81

@@ -7,7 +7,7 @@ use crate::seen::WorldRefusal;
 use headline::Event;
 use wire::Datagram;
 
-/// How many messages leave room for what one event hands out.
+/// The largest number of sent messages that leaves room for those of one event.
 const MOST_SENT: usize = 65_534;
 
 fn asks_up(event: &Event) -> bool
@@ -40,8 +40,7 @@ fn no_message(event: &Event, sent: usize) -> bool
     }
 }
 
-/// The first cause against an event, by whether its station is missing or down and how many messages were
-/// sent.
+/// Returns the first cause against an event, by whether its station is missing or down, and by how many messages were sent.
 fn first_cause(event: &Event, missing: bool, down: bool, sent: usize) -> Option<WorldRefusal>
     ensures { result ≡ first_cause missing down sent event.now }
 {
@@ -60,7 +59,7 @@ fn first_cause(event: &Event, missing: bool, down: bool, sent: usize) -> Option<
     }
 }
 
-/// An event against which nothing stands has room for the messages that it may hand out.
+/// Refuses an event if a cause bars it; otherwise makes room for the messages that it may hand out.
 pub fn admit(
     event: &Event,
     missing: bool,

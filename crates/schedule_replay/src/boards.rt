@@ -16,14 +16,14 @@ use corrections::CheckedBook;
 use std::alloc::{AllocError, Global};
 use wire::{Datagram, What};
 
-/// Of so many boards, numbered from 1, there is none of this number.
+/// Whether none of `boards` boards, numbered from 1, has this number.
 pub fn no_board(boards: usize, number: u8) -> bool
     ensures { result ≡ no_board boards number }
 {
     number == 0 || boards < number as usize
 }
 
-/// A board of the match with an empty book.
+/// Makes a board of the match with an empty book.
 pub fn empty_board(
     alloc: Global,
     game: u64,
@@ -37,7 +37,7 @@ pub fn empty_board(
     Ok(Board::new(game, book))
 }
 
-/// So many boards of the match, each with an empty book.
+/// Makes `count` boards of the match, each with an empty book.
 pub fn empty_boards(
     alloc: Global,
     game: u64,
@@ -54,7 +54,7 @@ pub fn empty_boards(
     Ok(boards)
 }
 
-/// What is seen of a board's answer.
+/// Returns the outcome for a board's answer.
 fn seen_of(answer: Result<What, BoardRefusal>) -> Seen
     ensures { result ≡ board_seen answer }
 {
@@ -64,7 +64,7 @@ fn seen_of(answer: Result<What, BoardRefusal>) -> Seen
     }
 }
 
-/// The board is given a message that was sent.
+/// Gives the board a sent message.
 pub fn give_board(board: &mut Board<CheckedBook>, sent: &[Datagram], message: usize) -> Seen
     requires sent { message < length sent.now }
     ensures step { (t : AStation) → BoardSteps (events.Give message t)
@@ -76,7 +76,7 @@ pub fn give_board(board: &mut Board<CheckedBook>, sent: &[Datagram], message: us
     seen_of(answer)
 }
 
-/// The board sends what it has to send.
+/// Ticks the board, which sends what it has to send.
 pub fn tick_board(board: &Board<CheckedBook>, sent: &mut Vec<Datagram>) -> Seen
     requires room { vec_len sent.old + 2 ≤ vec_capacity sent.old }
     ensures step { (t : AStation) → BoardSteps (events.Tick t)
@@ -88,7 +88,7 @@ pub fn tick_board(board: &Board<CheckedBook>, sent: &mut Vec<Datagram>) -> Seen
     Seen::Ticked(said.len() as u32)
 }
 
-/// The board begins empty, or is as it was where it is out of memory.
+/// Makes the board begin empty, or leaves it as it was if memory runs out.
 pub fn wipe_board(
     board: &mut Board<CheckedBook>,
     alloc: Global,

@@ -1,4 +1,4 @@
-//! Two desks, boards and all that they have sent, run by a schedule of events.
+//! Two desks, boards and all messages that they have sent, run by a schedule of events.
 #![tactic(auto)]
 
 mod admission;

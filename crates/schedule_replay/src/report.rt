@@ -1,4 +1,4 @@
-//! A replay: a new world over a whole schedule, and what is reported of it.
+//! A replay: a new world, run over a whole schedule, and the report of that run.
 
 ghost use Rattle.std.specs.Prelude.{◌≤◌, ℕ, All, IfErr, IfOk, length};
 ghost use Rattle.schedule_replay.specs.CodeWorlds.{IsNew, boards_of, match_version};
@@ -16,18 +16,17 @@ use match_laws::Match;
 use notation::Entry;
 use std::alloc::Global;
 
-/// What a replay reports.
+/// The report of a replay.
 pub struct Report {
-    /// What each event was answered.
+    /// The outcome of each event.
     pub outcomes: Vec<Seen>,
-    /// The agreed list of all votes, as both files tell it.
+    /// The agreed list of all votes, as both files show it.
     pub agreed: Vec<Entry>,
-    /// Each station with the length of its book and its score, as it was shown at the start or after an
-    /// event; once each.
+    /// Each station with its book's length and score, as shown at the start or after an event; once each.
     pub seen: Vec<(Station, u32, Match)>,
 }
 
-// one step for whoever lets it go, in place of one a part
+// one step for a caller that drops it, instead of one for each part
 impl Drop for Report {
     fn drop(self) {
         let Report {
@@ -38,9 +37,9 @@ impl Drop for Report {
     }
 }
 
-/// Runs a new world on files of version 2, for a match with this number and innings a side (1 or 2) and so many
-/// boards (0 to 4), over these events, and reports it as `replay_in` does. It ends as that does; and with the
-/// number 0 where there was no memory for the world.
+/// Runs a new world on files of version 2 over these events, and reports the run as `replay_in` does. The match has this
+/// number, one or two innings a side and 0 to 4 boards. It ends as `replay_in` does, and also with the number 0 if there is no
+/// memory for the world.
 pub fn replay(
     alloc: Global,
     game: u64,
@@ -60,7 +59,7 @@ pub fn replay(
     }
 }
 
-/// As `replay` does, on files of version 1.
+/// Does what `replay` does, on files of version 1.
 pub fn replay_old(
     alloc: Global,
     game: u64,
@@ -80,15 +79,14 @@ pub fn replay_old(
     }
 }
 
-/// Runs a new world that is given over these events, and reports it.
+/// Runs a given new world over these events, and reports the run.
 ///
-/// Whatever the events are, in this run any books that desks or boards show at any two moments are one a
-/// prefix of the other; both scorers voted for each entry in one round; each score is the Laws' score of its
-/// book; and a running station that noted both equal votes of its position has the entry.
+/// Whatever the events are, in this run of any two books that desks or boards show at any two moments one is a prefix of the
+/// other; both scorers voted for each entry in one round; each score is the Laws' score of its book; and a running station that
+/// noted both equal votes of its position has the entry.
 ///
-/// It ends at the first event that the world doesn't take, with its number, counted from 1, and why; all
-/// this holds of the events before. The number is 0 where the world takes all the events, and memory was
-/// wanted for the report alone.
+/// It ends at the first event that the world refuses, with the event's number, counted from 1, and why; all this holds of the
+/// events before. The number is 0 if the world takes all the events, and memory runs out for the report alone.
 pub fn replay_in(
     alloc: Global,
     mut world: World,
@@ -130,11 +128,11 @@ pub fn replay_in(
     })
 }
 
-/// It ran out of memory, and no event was refused.
+/// Memory ran out, and no event was refused.
 const NO_MEMORY: (u64, WorldRefusal) = (0, WorldRefusal::NoMemory);
 
-/// Why there is no report, where it ran out of memory for it after so many events: the world takes the others
-/// too, or it doesn't take one of them.
+/// Returns why there is no report, when memory for it ran out after this many events: the world takes all later events too, or
+/// refuses one of them.
 fn end_unreported(mut world: World, events: &[Event], after: usize) -> (u64, WorldRefusal)
     requires after { after ≤ length events.now }
     requires events { All IsEvent events.now }

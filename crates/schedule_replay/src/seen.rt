@@ -1,4 +1,4 @@
-//! What an event is answered, and why a world doesn't take one.
+//! The outcomes of an event, and why a world refuses one.
 
 ghost use Rattle.std.specs.Prelude.{◌≡◌};
 
@@ -6,18 +6,18 @@ use agree_core::{Heard, Settled};
 use std::alloc::AllocError;
 use wire::WireFault;
 
-/// Why a desk doesn't do what it is told.
+/// Why a desk refuses what it is told.
 #[derive(Clone, Copy, PartialEq, Eq)]
 pub enum Cause {
-    /// It doesn't pen the entry; or its disk failed as it answered an ask.
+    /// The desk doesn't pen the entry; or its disk failed while it answered an ask.
     Desk(desk::Refusal),
-    /// It isn't opened.
+    /// The desk isn't opened.
     Open(desk::OpenRefusal),
-    /// Its file isn't migrated.
+    /// The desk's file isn't migrated.
     Migrate(vote_store::Refusal),
 }
 
-/// What an event is answered.
+/// The outcome of an event.
 #[derive(Clone, Copy, PartialEq, Eq)]
 pub enum Seen {
     Penned(Settled),
@@ -25,33 +25,33 @@ pub enum Seen {
     Refused(Cause),
     /// A stop took the desk down.
     Stopped,
-    /// So many messages were handed out.
+    /// How many messages were handed out.
     Ticked(u32),
     Heard(Heard),
-    /// An ask came, and a reply was handed out or not.
+    /// An ask was given; whether a reply was handed out.
     Asked(bool),
-    /// What came is no message of the match.
+    /// The given bytes are no message of the match.
     Bad(WireFault),
-    /// Both desks' votes are for an entry that the board's book refuses.
+    /// Both desks' votes are equal, but the board's book refuses their entry.
     BadVotes,
     /// The desk had failed before.
     Failed,
-    /// The desk is opened, with a book of so many entries.
+    /// The desk is opened; how many entries its book has.
     Opened(u32),
-    /// The desk's file is migrated, with so many votes.
+    /// The desk's file is migrated; how many votes it has.
     Migrated(u32),
     Done,
 }
 
-/// Why a world doesn't take an event. It stays as it was; after `NoMemory` of an `Open` or a `Migrate` the
-/// desk's disk may be synced.
+/// Why a world refuses an event. The world stays as it was; after `NoMemory` of an `Open` or a `Migrate` the desk's disk may be
+/// synced.
 #[derive(Clone, Copy, PartialEq, Eq)]
 pub enum WorldRefusal {
     /// 80: no message of this number was handed out yet.
     NoMessage,
     /// 81: there is no such board.
     NoStation,
-    /// 82: there is no number left for the messages that might be handed out.
+    /// 82: no number is left for the messages that might be handed out.
     WorldFull,
     /// 83: the desk is down.
     Down,

@@ -1,4 +1,4 @@
-//! The words for what an event is answered, and the numbers of refusals.
+//! The words for an event's outcome, and the numbers of refusals.
 
 ghost use Rattle.std.specs.Prelude.{◌≡◌, Some};
 ghost use Rattle.schedule_replay.specs.SeenWords.{asked_words, cause_number, heard_words, refusal_number, seen_words, settled_words};
@@ -8,7 +8,7 @@ use agree_core::{Heard, Settled};
 use std::fmt;
 
 impl Cause {
-    /// The number by which it is reported. Being out of memory has none, and is no answer of a world.
+    /// Returns the number by which the cause is reported, or `None` for running out of memory, which is no answer of a world.
     pub fn number(self) -> Option<u8>
         ensures { result ≡ cause_number self }
     {
@@ -21,7 +21,7 @@ impl Cause {
 }
 
 impl WorldRefusal {
-    /// The number by which it is reported. Being out of memory has none.
+    /// Returns the number by which the refusal is reported, or `None` for running out of memory.
     pub fn number(self) -> Option<u8>
         ensures { result ≡ refusal_number self }
     {
@@ -70,7 +70,7 @@ fn of_asked(replied: bool) -> &'static str
 impl fmt::Display for Seen {
     ghost output = { λ seen. Some (seen_words seen) };
 
-    /// Writes the words for it, as `pending`, `sent 2` or `refused 61`.
+    /// Writes the outcome in words, such as `pending`, `sent 2` or `refused 61`.
     fn fmt<W: fmt::Write>(&self, f: &mut fmt::Formatter<W>) -> fmt::Result {
         match *self {
             Seen::Penned(settled) => f.write_str(of_settled(settled)),

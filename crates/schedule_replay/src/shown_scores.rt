@@ -10,13 +10,13 @@ use headline::Station;
 use match_laws::Match;
 use std::alloc::{AllocError, Global};
 
-/// A book has from 0 to 8,192 entries.
+/// The number of lengths of a book, which has 0 to 8,192 entries.
 const LENGTHS: usize = 8_193;
 
-/// Two desks and four boards, with each length of a book.
+/// The number of marks: two desks and four boards, with each length of a book.
 const MARKS: usize = 49_158;
 
-/// Where the mark of a station and the length of its book stands.
+/// Returns the index of the mark of a station and its book's length.
 fn mark_of(station: Station, length: u32) -> usize
     requires station { IsStation station }
     requires length { length ≤ PLACES }
@@ -31,8 +31,8 @@ fn mark_of(station: Station, length: u32) -> usize
     number * LENGTHS + length as usize
 }
 
-/// Stations with a length of their book and its score. Of each station and length one is kept, so that
-/// it takes no more room however often they are shown.
+/// Stations with their book's length and score. Each station and length is kept once, so that it takes no more room however
+/// often it is shown.
 #[derive(Drop)]
 pub struct ShownScores {
     marks: Vec<bool>,
@@ -40,7 +40,7 @@ pub struct ShownScores {
 }
 
 impl ShownScores {
-    /// No scores. The room for marks is taken at once.
+    /// Makes a list without scores. The room for all marks is taken at once.
     pub fn new(alloc: Global) -> Result<ShownScores, AllocError>
         ensures empty { IfOk result (λ shown. shown.seen.items ≡ []) }
         ensures kept { IfOk result IsKept }
@@ -52,7 +52,7 @@ impl ShownScores {
         })
     }
 
-    /// Adds the score of a station's book of this length, unless it is there.
+    /// Adds the score of a station's book of this length, unless that is already noted.
     pub fn note(&mut self, station: Station, length: u32, score: &Match) -> Result<(), AllocError>
         requires station { IsStation station }
         requires length { length ≤ PLACES }

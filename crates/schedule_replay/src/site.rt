@@ -1,4 +1,4 @@
-//! A desk's place in the world.
+//! A desk's site in the world.
 
 ghost use Rattle.std.specs.Prelude.{◌≡◌, ◌+◌, ◌≤◌, ◌<◌, ◌++◌, IfOk, OnErr, OnOk, IsSome, None, Some, Err, List, length, map, vec_capacity, vec_len, false, true};
 ghost use Rattle.headline.specs.Events.{IsEvent};
@@ -29,24 +29,24 @@ use vote_store::migrate;
 use wire::{Datagram, MessageBytes, What};
 use world_desks::{AnyDesk, WorldDesk, most_bytes};
 
-/// A desk's place in the world: the desk while it runs, otherwise its disk alone.
+/// A desk's site in the world: the desk while it runs, otherwise only its disk.
 pub struct Site {
     alloc: Global,
     name: DeskId,
     game: u64,
     innings_a_side: u32,
-    /// The version of its file.
+    /// The version of the desk's file.
     version: FileVersion,
     desk: Option<WorldDesk>,
     /// The disk of a desk that is down.
     disk: Option<MemDisk>,
-    /// How many of the votes in the file of a desk that is down are its votes.
+    /// How many of the votes in the file are the desk's, if the desk is down.
     votes: u32,
-    /// The fault that was asked for last, until it is spent.
+    /// The last fault asked for, until it is spent.
     due: Option<Fault>,
 }
 
-// one step for whoever lets it go, in place of one a part
+// one step for a caller that drops it, instead of one for each part
 impl Drop for Site {
     fn drop(self) {
         let Site {
@@ -75,7 +75,7 @@ fn is_fault(what: What) -> bool
     matches!(what, What::Device)
 }
 
-/// The refusal of a file of version 2 where one of version 1 is wanted.
+/// The refusal of a file of version 2 where version 1 is needed.
 const OTHER_VERSION: vote_store::Refusal = vote_store::Refusal::File(entry_log::Refusal::Version);
 
 fn wants_memory(why: vote_store::Refusal) -> bool
@@ -90,7 +90,7 @@ fn is_failing(why: vote_store::Refusal) -> bool
     matches!(why, vote_store::Refusal::File(entry_log::Refusal::Device))
 }
 
-/// What is seen where a desk was given bytes and its device didn't fail.
+/// Returns the outcome of a desk that was given bytes, unless its device failed.
 pub fn given(what: What, reply: Option<MessageBytes>) -> Seen
     ensures { result ≡ given_seen what reply }
 {
@@ -102,7 +102,7 @@ pub fn given(what: What, reply: Option<MessageBytes>) -> Seen
     }
 }
 
-/// A reply is handed out, if there is one.
+/// Hands out the reply, if there is one.
 fn hand_out(sent: &mut Vec<Datagram>, reply: Option<MessageBytes>)
     requires { vec_len sent.old + 1 ≤ vec_capacity sent.old }
     ensures { map (λ d. d.bytes) sent.new.items
@@ -113,8 +113,7 @@ fn hand_out(sent: &mut Vec<Datagram>, reply: Option<MessageBytes>)
     }
 }
 
-/// Takes the power from a disk: what it reads then is an image of what was there, all of it synced, and no call
-/// is to fail.
+/// Takes the power from a disk: its bytes are then one of its images, all synced, and no call is set to fail.
 fn lose_power(disk: &mut MemDisk, choice: Choice)
     ensures image { IsImage (images_of disk.old) (file_of disk.new) }
     ensures images { images_of disk.new ≡ only (file_of disk.new) }
@@ -130,7 +129,7 @@ impl Site {
     ghost use Rattle.schedule_replay.specs.Plans.{HasPlan, asks_fault};
     ghost use Rattle.schedule_replay.specs.inner.Sites.{AfterRefusal, BeginsSite, BreaksDown, IsWhole, KeepsDue, NotFoundBy, PutsDown, SameSite, SiteSteps, SiteTakes, SyncsSite, disk_at};
 
-    /// A desk that is just created, on a file of this version.
+    /// Creates a desk on a new file of this version.
     pub fn new(
         alloc: Global,
         version: FileVersion,
@@ -155,7 +154,7 @@ impl Site {
         })
     }
 
-    /// The desk that runs, to be read.
+    /// Lends the running desk for reading, or returns `None` if the desk is down.
     pub fn lend(&self) -> Option<AnyDesk<'_>>
         ensures { option_map lent_desk result ≡ self.now.desk }
     {
@@ -165,7 +164,7 @@ impl Site {
         }
     }
 
-    /// An event at this desk.
+    /// Takes an event at this desk, or refuses it.
     pub fn take(&mut self, sent: &mut Vec<Datagram>, event: &Event) -> Result<Seen, WorldRefusal>
         requires event { IsEvent event.now }
         requires whole { IsWhole self.old }
@@ -194,7 +193,7 @@ impl Site {
         }
     }
 
-    /// The running desk is told to pen an entry.
+    /// Tells the running desk to pen an entry.
     pub fn pen(&mut self, sent: &mut Vec<Datagram>, entry: &Entry) -> Seen
         requires entry { IsEntry entry.now }
         requires whole { IsWhole self.old }
@@ -219,7 +218,7 @@ impl Site {
         }
     }
 
-    /// The running desk is given a message that was sent.
+    /// Gives the running desk a sent message.
     pub fn give(&mut self, sent: &mut Vec<Datagram>, message: usize) -> Seen
         requires whole { IsWhole self.old }
         requires running { IsSome self.old.desk }
@@ -243,7 +242,7 @@ impl Site {
         given(received.what, received.reply)
     }
 
-    /// The running desk sends what it has to send.
+    /// Ticks the running desk, which sends what it has to send.
     pub fn tick(&self, sent: &mut Vec<Datagram>) -> Seen
         requires running { IsSome self.now.desk }
         requires room { vec_len sent.old + 2 ≤ vec_capacity sent.old }
@@ -259,7 +258,7 @@ impl Site {
         Seen::Ticked(said.len() as u32)
     }
 
-    /// The running desk's process ends.
+    /// Ends the running desk's process.
     pub fn kill(&mut self) -> Seen
         requires whole { IsWhole self.old }
         requires running { IsSome self.old.desk }
@@ -275,7 +274,7 @@ impl Site {
         Seen::Done
     }
 
-    /// The desk loses power.
+    /// Takes the power from the desk and its disk.
     pub fn power(&mut self, choice: Choice) -> Seen
         requires whole { IsWhole self.old }
         ensures step { (sent : List Datagram) → SiteSteps (events.Power self.old.name choice)
@@ -293,7 +292,7 @@ impl Site {
         Seen::Done
     }
 
-    /// The n-th device call of the desk from now on is to fail.
+    /// Makes the desk's n-th device call from now on fail.
     pub fn fail_at(&mut self, n: u32) -> Seen
         requires n { 1 ≤ n }
         requires whole { IsWhole self.old }
@@ -312,7 +311,7 @@ impl Site {
         Seen::Done
     }
 
-    /// The n-th device call of the desk from now on and all later ones are to fail.
+    /// Makes the desk's n-th device call from now on and all later ones fail.
     pub fn stop_at(&mut self, n: u32) -> Seen
         requires n { 1 ≤ n }
         requires whole { IsWhole self.old }
@@ -331,7 +330,7 @@ impl Site {
         Seen::Done
     }
 
-    /// The desk that is down is opened from its file.
+    /// Opens the desk, which is down, from its file.
     pub fn open(&mut self) -> Result<Seen, WorldRefusal>
         requires whole { IsWhole self.old }
         requires down { self.old.desk ≡ None }
@@ -366,8 +365,8 @@ impl Site {
         }
     }
 
-    /// The file of the desk that is down is written anew as version 2, on a disk of its own. What is due
-    /// counts the calls of that disk alone.
+    /// Rewrites the file of the desk, which is down, as version 2, on a disk of its own. A due fault counts only the calls of
+    /// that disk.
     pub fn migrate(&mut self) -> Result<Seen, WorldRefusal>
         requires whole { IsWhole self.old }
         requires down { self.old.desk ≡ None }
@@ -384,7 +383,7 @@ impl Site {
         }
     }
 
-    /// The file of version 1 is written anew.
+    /// Rewrites the file of version 1.
     fn renew(&mut self) -> Result<Seen, WorldRefusal>
         requires whole { IsWhole self.old }
         requires down { self.old.desk ≡ None }
@@ -413,7 +412,8 @@ impl Site {
         }
     }
 
-    /// The votes of the desk that is down aren't found: for this cause, where memory wasn't wanted.
+    /// Answers that the votes of the desk, which is down, aren't found: by `NoMemory` if memory ran out, otherwise by this
+    /// cause; a failed device call spends the fault that was due.
     fn not_found(&mut self, why: vote_store::Refusal, cause: Cause) -> Result<Seen, WorldRefusal>
         requires whole { IsWhole self.old }
         ensures refused { NotFoundBy (wants_memory why) (is_failing why) cause self.old result self.new }
@@ -428,7 +428,7 @@ impl Site {
         }
     }
 
-    /// The running desk has refused.
+    /// Returns the outcome of a running desk's refusal.
     fn refuse(&mut self, why: Refusal) -> Seen
         requires whole { IsWhole self.old }
         ensures refused { AfterRefusal why self.old result self.new }
@@ -441,8 +441,8 @@ impl Site {
         }
     }
 
-    /// A device call has failed, for this cause, which spends the fault that was due: where that was a stop,
-    /// the desk goes down.
+    /// Spends the fault that was due, after a device call failed, and returns this cause; if the fault was a stop, the desk
+    /// goes down.
     fn fail(&mut self, cause: Cause) -> Seen
         requires whole { IsWhole self.old }
         ensures broken { BreaksDown self.old.due cause self.old result self.new }
@@ -458,7 +458,7 @@ impl Site {
         }
     }
 
-    /// The desk is down: its disk stays, and its process with the faults due there ends.
+    /// Puts the desk down: its disk stays, and its process and the due faults end.
     fn put_down(&mut self)
         requires whole { IsWhole self.old }
         ensures down { PutsDown self.old self.new }

@@ -1,4 +1,4 @@
-//! Two desks with a file each, boards, and all that they have sent.
+//! Two desks with a file each, boards, and all messages that they have sent.
 
 ghost use Rattle.std.specs.Prelude.{◌≡◌, ◌≤◌, IfErr, IfOk};
 ghost use Rattle.headline.specs.Events.{IsEvent};
@@ -21,7 +21,7 @@ use std::alloc::{AllocError, Global};
 use wire::Datagram;
 use world_desks::AnyDesk;
 
-/// Two desks with a file each, boards, and all that they have sent.
+/// Two desks with a file each, boards, and all messages that they have sent.
 #[derive(Drop)]
 pub struct World {
     alloc: Global,
@@ -40,7 +40,7 @@ impl World {
     ghost use Rattle.schedule_replay.specs.Lending.{LendsStations};
     ghost use Rattle.schedule_replay.specs.CodeWorlds.{BeginsWorld, RefusesTo, KeepsMatch, StepsTo};
 
-    /// Two desks that were just created, each on a disk of its own with a file of version 2, and so many boards.
+    /// Creates a world of two new desks, each on its own disk with a file of version 2, and this many boards.
     pub fn new(
         alloc: Global,
         game: u64,
@@ -54,7 +54,7 @@ impl World {
         World::begin(alloc, FileVersion::New, game, innings_a_side, boards)
     }
 
-    /// The same with files of version 1.
+    /// Creates such a world on files of version 1.
     pub fn old(
         alloc: Global,
         game: u64,
@@ -68,7 +68,7 @@ impl World {
         World::begin(alloc, FileVersion::Old, game, innings_a_side, boards)
     }
 
-    /// Two desks that were just created on files of this version, and so many boards.
+    /// Creates two new desks on files of this version, and this many boards.
     fn begin(
         alloc: Global,
         version: FileVersion,
@@ -93,8 +93,8 @@ impl World {
         })
     }
 
-    /// One event. The world doesn't take it, in this order, by `NoStation`, `Down`, `Up`, `NoMessage`,
-    /// `WorldFull` and `NoMemory`, and stays as it was; what a station refuses is seen.
+    /// Takes one event. The world refuses it by `NoStation`, `Down`, `Up`, `NoMessage`, `WorldFull` and `NoMemory`, in this
+    /// order, and then stays as `WorldRefusal` says; a station's own refusal is an outcome.
     pub fn step(&mut self, event: &Event) -> Result<Seen, WorldRefusal>
         requires event { IsEvent event.now }
         ensures step { IfOk result (λ seen. StepsTo event.now self.old seen self.new) }
@@ -107,7 +107,7 @@ impl World {
         }
     }
 
-    /// Desk A and desk B, where they run, and the boards, to be read.
+    /// Lends desk A and desk B, if they run, and the boards, for reading.
     pub fn stations(
         &self,
     ) -> (
@@ -120,7 +120,7 @@ impl World {
         (self.a.lend(), self.b.lend(), self.boards.as_slice())
     }
 
-    /// An event at a desk.
+    /// Takes or refuses an event at a desk.
     fn at_desk(&mut self, desk: DeskId, event: &Event) -> Result<Seen, WorldRefusal>
         requires event { IsEvent event.now }
         requires here { station_of event.now ≡ stations.Desk desk }
@@ -134,7 +134,7 @@ impl World {
         }
     }
 
-    /// An event at a board.
+    /// Takes or refuses an event at a board.
     fn at_board(&mut self, number: u8, event: &Event) -> Result<Seen, WorldRefusal>
         requires event { IsEvent event.now }
         requires here { station_of event.now ≡ stations.Board number }

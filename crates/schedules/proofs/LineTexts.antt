@@ -1,4 +1,4 @@
--- What a line of a schedule says, for each event and for each fault, and that an event's line says just that event.
+-- What a line of a schedule says, for each event and each fault, and that an event's line says only that event.
 use Rattle.std.proofs.Common.{◌≡◌, ℕ, ◌+◌, ◌≤◌, nat_lt, ◌<◌, ◌^◌, List, [], ◌∷◌, ◌++◌, length, take, true, Option, Some, None}
 use Rattle.std.proofs.Common.{Result, Ok, Err, inl, inr, refl, sym, ap, subst, ◌∙◌, arith, codes, decimal, lit<, ne_eqb}
 use Rattle.std.specs.List.{join_with_byte, list_all}
@@ -36,7 +36,7 @@ ascii_of (b ∷ bs) h = let p = and_parts (nat_lt b 128) (list_all (λ x. nat_lt
 spaced_ascii : (a b : List ℕ) → IsAscii a → IsAscii b → IsAscii (a ++ (32 ∷ b))
 spaced_ascii a b h k = IsAscii-append a (32 ∷ b) h (IsAscii-cons 32 b (lit< tt) k)
 
--- what is written is read, and what is read is written so, in ASCII
+-- what is written is read back, and what is read was written like this, in ASCII
 record Reading {X : Type 0} (read : List ℕ → Option X) (write : X → List ℕ) (Fine : X → Type 0) : Type 0 where
   again : (x : X) → Fine x → read (write x) ≡ Some x
   found : (w : List ℕ) (x : X) → read w ≡ Some x → Fine x × (w ≡ write x)
@@ -72,7 +72,7 @@ cut_desk : (d : DeskId) (rest : List ℕ) → Unit {0} → cut (desk_word d ++ (
 unfolding cut
 cut_desk d rest h = grind arith
 
--- a digit is no desk
+-- a digit names no desk
 no_desk : (n : ℕ) → n ≤ 4 → desk_at (decimal n) ≡ None
 unfolding desk_at
 no_desk n h = rw (decimal_digit n (omega arith), ne_eqb (48 + n) 97 (omega arith), ne_eqb (48 + n) 98 (omega arith)) refl
@@ -87,7 +87,7 @@ station =
       ascii = λ t h. grind (arith, desk.ascii, board.ascii);
     }
 
--- what a power loss leaves
+-- ---- what a power loss leaves
 
 abbrev choice_text : Choice → List ℕ
 choice_text c = join_with_byte 32 (choice_words c)
@@ -113,7 +113,7 @@ choice_ascii c h = grind (arith, ascii_of (codes "lost") refl, ascii_of (codes "
 power_text : (d : DeskId) (c : Choice) → codes "power" ++ (32 ∷ (desk_word d ++ (32 ∷ choice_text c))) ≡ event_text (Event.Power d c)
 power_text d c = grind arith
 
--- what stands behind the first word
+-- ---- the words behind the first one
 
 power : Reading (both_at desk_at choice_at) (λ p. desk_word p.0 ++ (32 ∷ choice_text p.1)) (λ p. Unit {0} × IsWrittenChoice p.1)
 power = both desk (record { again = choice_again; found = choice_found; ascii = choice_ascii }) cut_desk
@@ -125,7 +125,7 @@ count = both desk (number 1 1000 (lit< tt)) cut_desk
 give : Reading (both_at (found_number 0 65535) station_at) (λ p. decimal p.0 ++ (32 ∷ station_word p.1)) (λ p. ((0 ≤ p.0) × (p.0 ≤ 65535)) × IsWrittenStation p.1)
 give = both (number 0 65535 (lit< tt)) station (λ n rest h. cut_digits (decimal n) rest (digits_decimal own n (omega (arith, h.1))))
 
--- the reader of a word reads what is written behind it
+-- if the reader reads an event from the words behind its first word, both together are that event's line, in ASCII
 abbrev Reads : List ℕ × Reader → Type 0
 Reads r = (ws : List ℕ) (e : Event) → r.1 ws ≡ Some e → IsWrittenEvent e × ((r.0 ++ (32 ∷ ws)) ≡ event_text e) × IsAscii (r.0 ++ (32 ∷ ws))
 
@@ -163,7 +163,7 @@ all_read =
     let migrate = reads (codes "migrate") Event.Migrate desk refl (λ d h. tt) (λ d. refl) in
     (tick, (given, (kill, (lost, (fail, (stop, (opens, (wipe, (migrate, tt)))))))))
 
--- what is read is the line of the event, and bytes that are no text are none
+-- if a line is read as an event, it is that event's line; bytes that aren't UTF-8 are no event's
 event_found : (line : List ℕ) (e : Event) → event_at line ≡ Some e → IsWrittenEvent e × (line ≡ event_text e) × IsAscii line
 unfolding event_at
 event_found line e h =
@@ -201,7 +201,7 @@ pen_found : (line : List ℕ) (p : DeskId × List ℕ) → pen_at line ≡ Some 
 unfolding pen_at
 pen_found line p h = grind (arith, start_found (codes "pen a ") line, start_found (codes "pen b ") line)
 
--- what is said of line n: it is the line of this event, or wrong so
+-- what is said of line n: that it is this event's line, or that it has this fault
 abbrev pub IsSaid : ℕ → List ℕ → Result Event ScheduleFault → Type 0
 IsSaid n line (Ok e) = IsWrittenEvent e × (line ≡ event_text e)
 IsSaid n line (Err NoMemory) = ⊥

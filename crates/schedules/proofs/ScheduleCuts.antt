@@ -1,4 +1,4 @@
--- What stands before the first space of a line, and after it.
+-- The parts of a line before and after its first space.
 use Rattle.std.proofs.Common.{◌≡◌, ◌≢◌, ℕ, suc, ◌<◌, ◌==◌, List, [], ◌∷◌, ◌++◌, length, get_or, Bool, true, false, cond, Option, Some, None, Bor, refl, arith, lit<, ne_eqb}
 use Rattle.std.specs.Char.{is_ascii_digit}
 use Rattle.std.specs.Option.{MatchOption}
@@ -19,7 +19,7 @@ unfolding cut
 no_cut [] h = refl
 no_cut (b ∷ bs) h = rw (ne_eqb b 32 (h 0 (omega arith)), no_cut bs (λ i lt. h (suc i) (omega arith))) refl
 
--- so is a number
+-- digits are cut off at the first space too
 pub cut_digits : (ds rest : List ℕ) → all_ascii_digits ds ≡ true → cut (ds ++ (32 ∷ rest)) ≡ Some (ds, rest)
 unfolding cut
 cut_digits [] rest h = refl
@@ -28,7 +28,7 @@ cut_digits (d ∷ ds) rest h =
     let head : (d == 32) ≡ false = grind (arith, nat_tests, p.0) in
     rw (head, cut_digits ds rest p.1) refl
 
--- a split at the first space cuts so
+-- a split at the first space gives these two parts
 pub cut_split : (bs : List ℕ) (r : Option (Bor (List ℕ) × Bor (List ℕ))) → IsSplitOnceResult 32 bs r
     → MatchOption r (cut bs ≡ None) (λ p. cut bs ≡ Some (p.0.now, p.1.now))
 cut_split bs None h = no_cut bs (split_parts 32 bs None h (lit< tt))
@@ -39,7 +39,7 @@ found_go : (b : ℕ) (bs : List ℕ) (t : Bool) (o : Option (List ℕ × List �
     → (b ∷ bs) ≡ p.0 ++ (32 ∷ p.1)
 found_go b bs t o p e h k = grind (arith, eqb-true b 32)
 
--- what was cut stood so
+-- the two parts make up the line, with a space between them
 pub cut_found : (bs : List ℕ) (p : List ℕ × List ℕ) → cut bs ≡ Some p → bs ≡ p.0 ++ (32 ∷ p.1)
 unfolding cut
 cut_found [] p h = absurd (cc)

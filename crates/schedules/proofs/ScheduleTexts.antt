@@ -14,7 +14,7 @@ same_event : (e f : Event) → IsWrittenEvent e → IsWrittenEvent f → event_t
 same_event e f h k same =
     let says = says_again 0 e h in let again = says_again 0 f k in cc
 
--- and lines one list of events
+-- lines say one list of events
 pub same_events : (es fs : List Event) → All IsWrittenEvent es → All IsWrittenEvent fs → map event_text es ≡ map event_text fs → es ≡ fs
 same_events [] [] h k same = refl
 same_events (e ∷ es) (f ∷ fs) h k same =
@@ -23,7 +23,7 @@ same_events (e ∷ es) (f ∷ fs) h k same =
     rw (a, b) refl
 same_events es fs h k same = absurd (cc)
 
--- a line that says no event is none of them
+-- the lines of events have no line that says no event
 pub none_wrong : (n : ℕ) (line : List ℕ) (why : ScheduleFault) (rest : List (List ℕ)) (before others : List Event)
     → line_says n line ≡ Err why → All IsWrittenEvent others → map event_text before ++ (line ∷ rest) ≡ map event_text others → ⊥
 none_wrong n line why rest (b ∷ bs) (f ∷ fs) says h same =
@@ -32,7 +32,7 @@ none_wrong n line why rest [] (f ∷ fs) says h same =
     let ok = says_again n f (All-head IsWrittenEvent f fs h) in cc
 none_wrong n line why rest before others says h same = grind arith
 
--- the first line at fault
+-- why the first line at fault is no event's
 pub at_fault : (lines : List (List ℕ)) (n : ℕ) (line : List ℕ) (rest : List (List ℕ)) (before : List Event) (why : ScheduleFault)
     → All IsWrittenEvent before → lines ≡ map event_text before ++ (line ∷ rest) → n ≡ length before + 1 → IsSaid n line (Err why)
     → HasFault lines why

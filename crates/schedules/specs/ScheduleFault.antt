@@ -1,4 +1,4 @@
--- Why a text is no schedule: the number and the name. Being out of memory has no number.
+-- The number and the name of each reason why a text is no schedule. Running out of memory has no number.
 use Rattle.std.specs.Prelude.{ℕ, List, codes, Option, Some, None}
 use Rattle.schedules.specs.declared.schedule_fault.ScheduleFault.{ScheduleFault}
 use Rattle.schedules.specs.declared.schedule_fault.ScheduleFault.TheVariants.{NoMemory, BadEvent, BadEntry}

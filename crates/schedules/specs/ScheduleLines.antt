@@ -41,7 +41,7 @@ event_words (Event.Migrate d) = codes "migrate" ∷ desk_word d ∷ []
 abbrev pub event_text : Event → List ℕ
 event_text e = join_with_byte 32 (event_words e)
 
--- the line of a pen with this entry line, whatever stands there
+-- the line of a pen with this entry line, whatever that says
 abbrev pub pen_line : DeskId → List ℕ → List ℕ
 pen_line d entry = join_with_byte 32 (codes "pen" ∷ desk_word d ∷ entry ∷ [])
 
@@ -71,7 +71,7 @@ IsWrittenEvent (Event.StopAt d n) = IsWrittenCount n
 IsWrittenEvent (Event.Wipe n) = IsWrittenBoard n
 IsWrittenEvent _ = Unit {0}
 
--- these lines are those of these events, one after another
+-- the lines are those of these events, one after another
 pub record IsScheduleOf (lines : List (List ℕ)) (events : List Event) : Type 0 where
   pub written : All IsWrittenEvent events
   pub texts : lines ≡ map event_text events
@@ -81,12 +81,12 @@ abbrev pub HasBadEntry : LineFault → List ℕ → Type 0
 HasBadEntry fault line =
     (d : DeskId) × (entry : List ℕ) × (line ≡ pen_line d entry) × (first_fault entry ≡ Some fault)
 
--- neither the line of an event nor a pen line
+-- the line is neither an event's nor a pen's
 pub record IsNoEvent (line : List ℕ) : Type 0 where
   pub no_event : (e : Event) → IsWrittenEvent e → line ≢ event_text e
   pub no_pen : (d : DeskId) (entry : List ℕ) → line ≢ pen_line d entry
 
--- line n, counted from 1, is wrong so, and the lines before it are those of events
+-- line n, counted from 1, has this fault, and each line before it is an event's
 pub record IsFirstAtFault (lines : List (List ℕ)) (n : ℕ) (Wrong : List ℕ → Type 0) : Type 0 where
   pub before : List Event
   pub line : List ℕ
@@ -96,7 +96,7 @@ pub record IsFirstAtFault (lines : List (List ℕ)) (n : ℕ) (Wrong : List ℕ 
   pub number : n ≡ length before + 1
   pub wrong : Wrong line
 
--- why the lines are no schedule, or that it is out of memory
+-- why the lines are no schedule; or memory ran out
 abbrev pub HasFault : List (List ℕ) → ScheduleFault → Type 0
 HasFault lines NoMemory = ⊤
 HasFault lines (BadEvent n) = IsFirstAtFault lines n IsNoEvent

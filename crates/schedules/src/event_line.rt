@@ -11,7 +11,7 @@ use headline::{Event, Station};
 use notation::{number_in, read_line};
 use std::str;
 
-/// What stands before the first space, and after it.
+/// Returns the parts before and after the first space.
 fn cut(words: &str) -> Option<(&str, &str)>
     ensures { MatchOption result (cut words.now ≡ None) (λ p. cut words.now ≡ Some (p.0.now, p.1.now)) }
 {
@@ -29,7 +29,7 @@ fn desk(word: &str) -> Option<DeskId>
     }
 }
 
-/// A board's number.
+/// Reads a board's number, 1 to 4.
 fn board(word: &str) -> Option<u8>
     ensures { result ≡ found_number 1 4 word.now }
 {
@@ -50,7 +50,7 @@ fn station(word: &str) -> Option<Station>
     }
 }
 
-/// The bytes that a power loss leaves, by their value.
+/// Reads `fill v`: the value, 0 to 255, that a power loss leaves in all bytes written since the last sync.
 #[tactic(auto, unfolding(crate::specs::inner::ScheduleReading::fill_at))]
 fn fill(words: &str) -> Option<Choice>
     ensures { result ≡ fill_at words.now }
@@ -63,7 +63,7 @@ fn fill(words: &str) -> Option<Choice>
     Some(Choice::Fill(value as u8))
 }
 
-/// What a power loss leaves.
+/// Reads what a power loss leaves: `lost`, `kept` or `fill v`.
 #[tactic(auto, unfolding(crate::specs::inner::ScheduleReading::choice_at))]
 fn choice(words: &str) -> Option<Choice>
     ensures { result ≡ choice_at words.now }
@@ -75,7 +75,7 @@ fn choice(words: &str) -> Option<Choice>
     }
 }
 
-/// A message, by its number, and the station that it is given to.
+/// Reads a message's number, and the station that the message is given to.
 #[tactic(auto, unfolding(crate::specs::inner::ScheduleReading::give_at))]
 fn give(words: &str) -> Option<Event>
     ensures { result ≡ give_at words.now }
@@ -86,7 +86,7 @@ fn give(words: &str) -> Option<Event>
     Some(Event::Give(u32::from(message), to))
 }
 
-/// A desk, and what the power loss leaves.
+/// Reads a desk, and what the power loss leaves.
 #[tactic(auto, unfolding(crate::specs::inner::ScheduleReading::power_at))]
 fn power(words: &str) -> Option<Event>
     ensures { result ≡ power_at words.now }
@@ -97,7 +97,7 @@ fn power(words: &str) -> Option<Event>
     Some(Event::Power(desk, choice))
 }
 
-/// A desk, and a number of device calls.
+/// Reads a desk, and a number of device calls.
 #[tactic(auto, unfolding(crate::specs::inner::ScheduleReading::count_at))]
 fn count(words: &str) -> Option<(DeskId, u32)>
     ensures { result ≡ count_at words.now }
@@ -108,7 +108,7 @@ fn count(words: &str) -> Option<(DeskId, u32)>
     Some((desk, u32::from(calls)))
 }
 
-/// What the words after the first say, for each first word but `pen`.
+/// Reads the words behind the first one, for each first word but `pen`.
 fn event_after(first: &str, words: &str) -> Option<Event>
     ensures { result ≡ pick first.now readers words.now }
 {
@@ -147,7 +147,7 @@ fn event_after(first: &str, words: &str) -> Option<Event>
     }
 }
 
-/// The event of a line, but for pens.
+/// Returns the event of a line that isn't a pen's.
 #[tactic(auto, unfolding(crate::specs::inner::ScheduleReading::event_at))]
 fn spelled(line: &str) -> Option<Event>
     ensures { result ≡ event_at line.now }
@@ -156,7 +156,7 @@ fn spelled(line: &str) -> Option<Event>
     event_after(first, words)
 }
 
-/// The same of bytes, which may be no text.
+/// Returns the event of a line that isn't a pen's, or `None` if the bytes aren't UTF-8.
 fn event(line: &[u8]) -> Option<Event>
     ensures { result ≡ event_at line.now }
 {
@@ -166,7 +166,7 @@ fn event(line: &[u8]) -> Option<Event>
     }
 }
 
-/// The desk and the entry line of a pen line.
+/// Returns the desk and the entry line of a pen line.
 #[tactic(auto, unfolding(crate::specs::inner::ScheduleReading::pen_at))]
 fn pen(line: &[u8]) -> Option<(DeskId, &[u8])>
     ensures { MatchOption result (pen_at line.now ≡ None) (λ p. pen_at line.now ≡ Some (p.0, p.1.now)) }
@@ -178,7 +178,7 @@ fn pen(line: &[u8]) -> Option<(DeskId, &[u8])>
     Some((DeskId::B, entry))
 }
 
-/// The event of line `number`, or its fault.
+/// Returns the event of line `number`, or its fault.
 #[tactic(auto, unfolding(crate::specs::inner::ScheduleReading::line_says))]
 pub fn read_event(line: &[u8], number: u64) -> Result<Event, ScheduleFault>
     ensures { result ≡ line_says number line.now }

@@ -1,4 +1,4 @@
-//! Schedules as text, an event a line.
+//! Schedules as text, one event a line.
 #![tactic(auto)]
 
 mod event_line;

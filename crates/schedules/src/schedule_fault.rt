@@ -8,19 +8,19 @@ use std::alloc::AllocError;
 use std::error::Error;
 use std::fmt;
 
-/// Why a text is no schedule: the first line at fault, counted from 1.
+/// Why a text is no schedule: the fault of its first wrong line, counted from 1.
 #[derive(Clone, Copy, Debug)]
 pub enum ScheduleFault {
     /// An allocation failed.
     NoMemory,
-    /// 85: the line is neither an event's nor a pen's, which is `pen D ` and anything behind it.
+    /// 85: the line is neither an event's nor a pen's (`pen D ` and anything behind it).
     BadEvent { line: u64 },
-    /// 86: what stands behind `pen D ` is no entry line, for this fault.
+    /// 86: the text behind `pen D ` has this fault, so it is no entry line.
     BadEntry { line: u64, fault: LineFault },
 }
 
 impl ScheduleFault {
-    /// The number by which it is reported. Being out of memory has none.
+    /// Returns the number by which the fault is reported, or `None` for running out of memory.
     pub fn number(self) -> Option<u8>
         ensures { result ≡ number_of self }
     {
@@ -45,7 +45,7 @@ impl From<AllocError> for ScheduleFault {
 impl fmt::Display for ScheduleFault {
     ghost output = { λ fault. Some (name_of fault) };
 
-    /// Writes its name.
+    /// Writes the fault's name.
     fn fmt<W: fmt::Write>(&self, f: &mut fmt::Formatter<W>) -> fmt::Result {
         f.write_str(match self {
             ScheduleFault::NoMemory => "NoMemory",

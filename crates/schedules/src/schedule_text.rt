@@ -14,7 +14,7 @@ use headline::Event;
 use notation::Lines;
 use std::alloc::Global;
 
-/// Takes one more line.
+/// Adds the event of one more line, or returns the line's fault.
 fn take_line(events: &mut Vec<Event>, line: &[u8], number: u64) -> Result<(), ScheduleFault>
     ensures taken { OnOk result ((event : Event) × (line_says number line.now ≡ Ok event)
         × (events.new.items ≡ events.old.items ++ event ∷ [])) }
@@ -26,7 +26,7 @@ fn take_line(events: &mut Vec<Event>, line: &[u8], number: u64) -> Result<(), Sc
     Ok(())
 }
 
-/// Takes all lines of a schedule, up to the first fault.
+/// Adds the events of all lines, up to the first fault.
 fn take_lines(events: &mut Vec<Event>, bytes: &[u8]) -> Result<(), ScheduleFault>
     requires empty { events.old.items ≡ [] }
     ensures found { OnOk result (IsScheduleOf (lines_of bytes.now) events.new.items) }
@@ -46,19 +46,19 @@ fn take_lines(events: &mut Vec<Event>, bytes: &[u8]) -> Result<(), ScheduleFault
     Ok(())
 }
 
-/// The events of a schedule as text, one a line: `pen D <entry line>`, `tick X`, `give m X`, `kill D`,
-/// `power D lost`, `power D kept`, `power D fill v`, `fail D n`, `stop D n`, `open D`, `wipe X`, `migrate D`. A
-/// desk D is `a` or `b`, a station X a desk or a board from `1` to `4` (`wipe` takes a board alone); message m
-/// is 0 to 65535, v 0 to 255, n 1 to 1000. One space stands between words, and a last empty line is allowed.
+/// Reads a schedule: one event a line, as `pen D <entry line>`, `tick X`, `give m X`, `kill D`, `power D lost`, `power D kept`,
+/// `power D fill v`, `fail D n`, `stop D n`, `open D`, `wipe X`, `migrate D`. A desk D is `a` or `b`, a station X a desk or a
+/// board from `1` to `4` (`wipe` takes only a board); message m is 0 to 65535, v 0 to 255, n 1 to 1000. One space stands
+/// between words, and a last empty line is allowed.
 pub fn read_schedule(alloc: Global, bytes: &[u8]) -> Result<Vec<Event>, ScheduleFault>
-    // The lines are those of the events that were read,
+    // The lines are those of the events read,
     ensures found { IfOk result (λ events. IsScheduleOf (lines_of bytes.now) events.items) }
     // and of no others.
     ensures only { (events : List Event) → IsScheduleOf (lines_of bytes.now) events
         → MatchResult result (λ read. read.items ≡ events) (λ fault. fault ≡ NoMemory) }
-    // Which line is the first at fault, and how.
+    // Which line is the first at fault, and why.
     ensures fault { IfErr result (HasFault (lines_of bytes.now)) }
-    // The events are such as a world takes.
+    // The events are ones that a world takes.
     ensures events { IfOk result (λ events. All IsEvent events.items) }
 {
     let mut events = Vec::new(alloc);

@@ -7,7 +7,7 @@ use Rattle.agree_core.specs.Ballots.{Ballot, ComesNext}
 use Rattle.agree_core.specs.Positions.{first, next_position, position_of}
 use Rattle.vote_store.specs.VoteList.{last_vote}
 
--- it comes next after the votes of which that one is the last
+-- a vote at this position comes next after the votes that end with the last one
 pub comes_next : (agreed : Bool) (at : Position) (desk : DeskId) (votes : List Ballot)
     → MatchOption (last_vote desk votes) (at ≡ first) (λ vote. at ≡ next_position agreed (position_of vote))
     → (e : Entry) → ComesNext (record { at = at; entry = e }) votes

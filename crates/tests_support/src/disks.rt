@@ -1,11 +1,11 @@
-//! Disks in memory, and what becomes of them.
+//! Disks in memory, their faults, and what a power loss leaves.
 
 ghost use Rattle.std.specs.Prelude.{◌≤◌};
 
 use entry_log::{Choice, MemDisk};
 use std::alloc::{AllocError, Global};
 
-/// What a loss of power leaves of what wasn't synced.
+/// What a power loss may leave of unsynced bytes.
 pub const CHOICES: [Choice; 5] = [
     Choice::Lost,
     Choice::Kept,
@@ -14,7 +14,7 @@ pub const CHOICES: [Choice; 5] = [
     Choice::Fill(0xff),
 ];
 
-/// An empty disk with room for so many bytes. Where an allocation fails it is made again.
+/// Makes an empty disk of at most `cap` bytes. If an allocation fails, it tries once more.
 pub fn new_disk(alloc: Global, cap: usize) -> Result<MemDisk, AllocError> {
     match MemDisk::new(alloc, cap) {
         Ok(disk) => Ok(disk),
@@ -22,7 +22,7 @@ pub fn new_disk(alloc: Global, cap: usize) -> Result<MemDisk, AllocError> {
     }
 }
 
-/// Has the n-th call of the disk from now on fail, alone or with all later ones.
+/// Makes the disk's n-th call from now on fail, alone or with all later ones.
 pub fn set_fault(disk: &mut MemDisk, n: u32, stops: bool)
     requires { 1 ≤ n }
 {

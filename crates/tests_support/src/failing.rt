@@ -2,7 +2,7 @@
 
 use std::io::{self, Error, ErrorKind, Write};
 
-/// Takes this many writes and flushes, and fails the next.
+/// A writer that takes this many writes and flushes, and fails at the next one.
 #[derive(Drop)]
 pub struct Failing {
     pub calls: usize,

@@ -1,4 +1,4 @@
-//! What several test crates share.
+//! Helpers that several test crates share.
 #![tactic(auto)]
 
 mod disks;

@@ -12,7 +12,7 @@ use agree_core::{DeskId, Message, PLACES, Position, ROUNDS, Vote};
 use notation::{Entry, read_line};
 use wire::{MessageBytes, bytes_of};
 
-/// The entry of a line, where it is one's.
+/// Returns the entry of a line, or `None` if the line is no entry's.
 pub fn entry_in(line: &str) -> Option<Entry>
     ensures { IfSome result IsEntry }
 {
@@ -22,7 +22,7 @@ pub fn entry_in(line: &str) -> Option<Entry>
     }
 }
 
-/// A desk's vote for an entry, in the bytes of a datagram of match 7.
+/// Returns a desk's vote for an entry, as the bytes of a datagram of match 7.
 pub fn vote_of(desk: DeskId, place: u32, round: u32, entry: Entry) -> MessageBytes
     requires place { place < PLACES }
     requires round { round < ROUNDS }
@@ -37,7 +37,7 @@ pub fn vote_of(desk: DeskId, place: u32, round: u32, entry: Entry) -> MessageByt
     bytes_of(7, &Message::Vote(vote))
 }
 
-/// Where the vote after this one is cast: at the next place, or in the next round of its own.
+/// Returns the position of the vote after this one: the next place, or the next round of the same place.
 pub fn next_position(last: &Option<Vote>, agreed: bool) -> Position
     requires { IfSome last.now (λ vote. InRange (position_of vote)) }
     ensures value { MatchOption last.now (result ≡ first) (λ vote. result ≡ next_position agreed (position_of vote)) }

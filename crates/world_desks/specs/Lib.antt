@@ -1,4 +1,4 @@
--- What is claimed: of desks of a world, WorldDesks and Lent; of the votes in their files, VotesFiles.
+-- What is claimed: WorldDesks and Lent, of the desks of a world; VotesFiles, of the votes in their files.
 pub mod WorldDesks
 pub mod Lent
 pub mod VotesFiles

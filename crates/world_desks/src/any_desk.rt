@@ -20,14 +20,14 @@ pub enum AnyDesk<'a> {
 impl<'a> AnyDesk<'a> {
     ghost use Rattle.world_desks.specs.Lent.{lent_desk};
 
-    /// Its book: the entries that are agreed.
+    /// Returns the desk's book: its agreed entries.
     pub fn book(self) -> &'a CheckedBook
         ensures { result.now ≡ book_of (lent_desk self.entry) }
     {
         whichever!(AnyDesk, self, desk => desk.book())
     }
 
-    /// The score of its book: the Laws' score of the book's clean list.
+    /// Returns the score of the desk's book: the Laws' score of the book's clean list.
     pub fn shown(self) -> &'a Match
         ensures { IsScoreOf result.now (innings_of (lent_desk self.entry))
             (state_of (lent_desk self.entry)).book }

@@ -1,4 +1,4 @@
-//! Desks of a world, with files of either version on disks in memory, and the votes that these files have.
+//! Desks of a world, with files of either version on disks in memory, and the votes in these files.
 #![tactic(auto)]
 
 mod any_desk;

@@ -1,6 +1,6 @@
-//! What is done with a file of either version, said once for both.
+//! Code that serves files of both versions.
 
-/// Does the same with what has a file of version 1 and with what has one of version 2.
+/// Runs the same code on a value with a file of version 1 or of version 2.
 macro_rules! whichever {
     ($kind:ident, $value:expr, $it:ident => $done:expr) => {
         match $value {

@@ -1,5 +1,5 @@
-//! Copies of both kinds of book, how many steps a check makes, and a course of corrections that both take alike.
-//! What takes memory is done again where an allocation failed, so that the tests pass with any one refused.
+//! Copies of both kinds of book, the number of steps of a check, and commands that both kinds answer alike. After a failed
+//! allocation each test tries once more, so that it passes with any one refused.
 
 use super::enter;
 use corrections::{Book, BookOf, CheckedBook};
@@ -18,7 +18,7 @@ const FOUR_BALLS: [&str; 7] = [
     "ball 7 bat 0 four",
 ];
 
-/// How many entries a book has, and the total of the home side.
+/// Returns how many entries a book has, and the home side's total.
 fn standing<B: BookOf>(book: &B) -> (u32, u32) {
     (book.len(), home_total(book.score()))
 }
@@ -27,7 +27,7 @@ fn home_total(score: &Match) -> u32 {
     score.side_total(Side::Home)
 }
 
-/// The single at place 3 becomes a two, in the book and not in its copy.
+/// Corrects the single at place 3 to a two, in the book and not in its copy.
 fn correct<B: BookOf>(rt: &impl Abort, book: &mut B, copy: &B) {
     enter(rt, book, &["fix 3 ball 7 bat 2"]);
     assert!(rt; standing(book) == (8, 7) && standing(copy) == (7, 6));
@@ -56,7 +56,7 @@ fn copies(rt: HostRuntime) {
     assert!(rt; copy_a_checked_book(&rt, alloc).is_ok() || copy_a_checked_book(&rt, alloc).is_ok());
 }
 
-/// How many steps each check makes after 500 plain places, the last checkpoint being that of place 448.
+/// How many steps each check makes after 500 plain places; the last checkpoint is that of place 448.
 const STEPS: [(&str, u32); 9] = [
     ("penalty away 41 3", 1),
     ("void", 0),
@@ -69,7 +69,7 @@ const STEPS: [(&str, u32); 9] = [
     ("late 500 void", 0),
 ];
 
-/// The same after a late entry at place 500, which belongs to place 3.
+/// How many steps each check makes after a late entry at place 500, which belongs to place 3.
 const STEPS_OF_A_LATE_ENTRY: [(&str, u32); 2] = [
     ("fix 500 penalty home 41 3", 501),
     ("late 500 void", 0),
@@ -101,7 +101,7 @@ fn steps_of_a_check(rt: HostRuntime) {
     assert!(rt; count_steps(&rt, alloc).is_ok() || count_steps(&rt, alloc).is_ok());
 }
 
-/// Deliveries that count or not, behind the bowler, and what may stand between any two of them.
+/// What follows the bowler in a delivery, whether or not the ball counts.
 const DELIVERIES: [&str; 8] = [
     "bat 0",
     "bat 1",
@@ -117,7 +117,7 @@ const OTHERS: [&str; 3] = ["swap", "void", "penalty away 41 3"];
 
 const OPENED: [&str; 3] = ["innings home", "in 1", "in 2"];
 
-/// A delivery of this bowler, or three times of eleven something else.
+/// Returns a delivery of this bowler, or, three times in eleven, another item.
 fn item(alloc: Global, bowler: u32, dice: u32) -> Result<String, AllocError> {
     let kind = (dice % 11) as usize;
     if kind < 8 {
@@ -128,20 +128,20 @@ fn item(alloc: Global, bowler: u32, dice: u32) -> Result<String, AllocError> {
     }
 }
 
-/// What was entered so far: who bowled at each place, and how many overs ended. Four bowlers bowl in turn.
+/// What was entered so far: who bowled at each place, and how many overs ended. Four bowlers take the overs in turn.
 #[derive(Drop)]
 struct Course {
     bowlers: Vec<u32>,
     overs: u32,
-    /// Whether the last delivery was refused, since the over had its six.
+    /// Whether the last delivery was refused, because the over had its six balls.
     is_over: bool,
 }
 
-/// What a command is, by its number.
+/// The kind of a command, by the command's number.
 #[derive(Clone, Copy)]
 enum Aim {
     Item,
-    /// A correction or a late entry of place 63, 64 or 65.
+    /// A correction of, or a late entry at, place 63, 64 or 65.
     FixNear,
     LateNear,
     FixAny,
@@ -167,12 +167,12 @@ impl Course {
         }
     }
 
-    /// Who bowls now.
+    /// Returns who bowls now.
     fn bowler(&self) -> u32 {
         7 + self.overs % 4
     }
 
-    /// An item for a place that was entered, by who bowled there.
+    /// Returns an item for an earlier place, by the bowler of that place.
     fn item_at(&self, alloc: Global, place: u32, dice: u32) -> Result<String, AllocError> {
         let bowler = match self.bowlers.get(place as usize) {
             Some(bowler) => *bowler,
@@ -181,8 +181,8 @@ impl Course {
         item(alloc, bowler, dice)
     }
 
-    /// The opening; then, of 500 commands, 60 are corrections and 60 late entries, a third of each of the places 63,
-    /// 64 or 65.
+    /// Returns a command: first the opening; then, of 500 commands, 60 are corrections and 60 late entries, a third of each at
+    /// the places 63 to 65.
     fn command(&self, alloc: Global, number: u32, dice: u32) -> Result<String, AllocError> {
         if number < 3 {
             return String::from_str(alloc, OPENED[number as usize]);
@@ -209,7 +209,7 @@ impl Course {
         }
     }
 
-    /// A command of this aim was taken or refused.
+    /// Notes that a command of this kind was taken or refused.
     fn note(&mut self, aim: Aim, is_taken: bool) -> Result<(), AllocError> {
         if is_taken {
             let bowler = self.bowler();
@@ -225,7 +225,7 @@ impl Course {
     }
 }
 
-/// Whether both books take the line. They answer alike, and then have one score and the same clean items.
+/// Whether both books take the line. They must answer alike, and then have one score and the same clean items.
 fn enter_in_both(rt: &impl Abort, book: &mut Book, checked: &mut CheckedBook, line: &str) -> bool {
     assert!(rt; book.len() < 8192 && checked.len() < 8192);
     let (answer, by_points) = match read_line(line.as_bytes()) {
@@ -238,7 +238,7 @@ fn enter_in_both(rt: &impl Abort, book: &mut Book, checked: &mut CheckedBook, li
     answer.is_ok()
 }
 
-/// How many commands were taken: all, and corrections and late entries of the places 63 to 65.
+/// How many commands were taken: all, and the corrections and late entries at the places 63 to 65.
 #[derive(Clone, Copy)]
 struct Taken {
     all: u32,
@@ -247,7 +247,7 @@ struct Taken {
 }
 
 impl Taken {
-    /// With one more of this aim.
+    /// Counts one more command of this kind.
     fn and(self, aim: Aim) -> Taken {
         let fix = if aim == Aim::FixNear { 1 } else { 0 };
         let late = if aim == Aim::LateNear { 1 } else { 0 };
@@ -259,7 +259,7 @@ impl Taken {
     }
 }
 
-/// Both books answer each command alike, and then have one score.
+/// Checks that both books answer each command alike, and then have one score.
 fn compare_books(rt: &impl Abort, alloc: Global) -> Result<(), AllocError> {
     let mut book = Book::new(alloc, 2)?;
     let mut checked = CheckedBook::new(alloc, 2)?;

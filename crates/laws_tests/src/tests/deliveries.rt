@@ -1,4 +1,4 @@
-//! The calls of an innings by single items.
+//! The calls of an innings, item by item.
 
 use ball_laws::{BallRefusal, Crease, Ends};
 use notation::{Ball, Bound, Kind, Leave, Player};

@@ -1,5 +1,5 @@
-//! The whole text of a desk's state, over a match with a late delivery, a correction, a batter who is hurt, and a result.
-//! What takes memory is done again where an allocation failed, so that the test passes with any one refused.
+//! The whole text of a desk's state, over a match with a late delivery, a correction, a batter who is hurt, and a result. After
+//! a failed allocation the test tries once more, so that it passes with any one refused.
 
 use super::enter;
 use agree_core::{DeskId, Position};
@@ -27,14 +27,14 @@ overs = 20
 overs_a_bowler = 1
 ";
 
-/// Of desk B, which stands at place 18 in round 2, has cast no vote there, and holds nothing.
+/// The first part of the state of desk B, at place 18 in round 2, with no vote cast there and no held line.
 const BEGIN: &str =
     "{\"format\":\"yermudosh desk 1\",\"match\":\"2026\",\"title\":\"A \\\"state\\\"\",\"desk\":\"b\",\"place\":18,\"round\":2,\"pending\":null,\"held\":[],";
 
 const SIDES: &str =
     ",\"sides\":{\"home\":{\"name\":\"Alder\",\"players\":[\"Ames\",\"Boyd\",\"Carr\",\"Dean\",\"Eves\",\"Ford\",\"Gray\",\"Hill\",\"Ives\",\"King\",\"Lund\"]},\"away\":{\"name\":\"Birch\",\"players\":[\"Moss\",\"Nash\",\"Orr\",\"Pike\",\"Quin\",\"Rowe\",\"Sage\",\"Tate\",\"Usher\",\"Vale\",\"Wade\"]}},\"board\":";
 
-/// Steps of a match: lines, and what the state says of what comes next, and of what is new in the book.
+/// Steps of a match: the lines, and what the state says of the next entry and of what is new in the book.
 const STEPS: [(&[&str], &str, &str); 5] = [
     (
         &[
@@ -88,7 +88,7 @@ const STEPS: [(&[&str], &str, &str); 5] = [
     ),
 ];
 
-/// What is left of the text behind this.
+/// Returns the rest of the text behind this front.
 fn behind<'a>(rt: &impl Abort, text: &'a [u8], front: &str) -> &'a [u8] {
     match text.strip_prefix(front.as_bytes()) {
         Some(rest) => rest,
@@ -96,16 +96,17 @@ fn behind<'a>(rt: &impl Abort, text: &'a [u8], front: &str) -> &'a [u8] {
     }
 }
 
-/// When the board's desks were heard, which a desk doesn't tell; nor does it tell what keeps a board from going on.
+/// When a board heard the desks. A desk's state has neither that nor what keeps a board from going on.
 const HEARD: LastHeard = LastHeard {
     a: Some(7),
     b: None,
 };
 
-/// What ends a board's state then.
+/// The end of a board's state with those times.
 const END: &str = ",\"heard\":{\"a\":7,\"b\":null},\"trouble\":null}\n";
 
-/// The text begins so, says this of what comes next and of what is new, and then has both sides and the board's state.
+/// Checks that the text begins with these parts, of what comes next and what is new, and then has both sides and the board's
+/// state.
 fn expect_state(rt: &impl Abort, text: &[u8], begin: &str, next: &str, news: &str, board: &[u8]) {
     let mut left = text;
     for front in [begin, next, news, SIDES] {
@@ -118,11 +119,11 @@ fn expect_state(rt: &impl Abort, text: &[u8], begin: &str, next: &str, news: &st
     );
 }
 
-/// All that stands in the book behind the first step.
+/// The whole book after the first step.
 const FIRST_BOOK: &str =
     "{\"entries\":6,\"items\":[{\"place\":0,\"line\":\"innings home\",\"by\":null},{\"place\":1,\"line\":\"in 1\",\"by\":null},{\"place\":2,\"line\":\"in 2\",\"by\":null},{\"place\":3,\"line\":\"ball 7 bat 1\",\"innings\":1,\"over\":1,\"ball\":1,\"batter\":1,\"bowler\":7,\"mark\":\"1\",\"by\":null},{\"place\":5,\"line\":\"ball 7 bat 0\",\"innings\":1,\"over\":1,\"ball\":2,\"batter\":2,\"bowler\":7,\"mark\":\".\",\"by\":null},{\"place\":4,\"line\":\"ball 7 wide 0\",\"innings\":1,\"over\":1,\"ball\":3,\"batter\":2,\"bowler\":7,\"mark\":\"1wd\",\"by\":null}]}\n";
 
-/// The same as anybody is given it.
+/// Checks that text, as anyone is given it.
 fn stands(rt: &impl Abort, alloc: Global) -> Result<(), AllocError> {
     let mut book = Book::new(alloc, 1)?;
     let (lines, _, _) = STEPS[0];
@@ -132,7 +133,7 @@ fn stands(rt: &impl Abort, alloc: Global) -> Result<(), AllocError> {
     Ok(())
 }
 
-/// Each step's state, at a desk that has cast no vote.
+/// Checks the state after each step, at a desk that has cast no vote.
 fn follow(rt: &impl Abort, alloc: Global, sheet: &MatchSheet) -> Result<(), AllocError> {
     let mut book = Book::new(alloc, 1)?;
     for (lines, next, news) in &STEPS {
@@ -148,7 +149,7 @@ fn follow(rt: &impl Abort, alloc: Global, sheet: &MatchSheet) -> Result<(), Allo
     Ok(())
 }
 
-/// The state of desk A, which has cast its first vote and holds three lines.
+/// Checks the state of desk A, which has cast its first vote and holds three lines.
 fn wait(rt: &impl Abort, alloc: Global, sheet: &MatchSheet) -> Result<(), AllocError> {
     let book = Book::new(alloc, 1)?;
     let own = Some(Entry::Write(Plain::Innings(Side::Home)));
@@ -166,7 +167,7 @@ fn wait(rt: &impl Abort, alloc: Global, sheet: &MatchSheet) -> Result<(), AllocE
     Ok(())
 }
 
-/// All, by the sheet; nothing where memory was refused.
+/// Checks all states, by the sheet; returns `None` if memory was refused.
 fn all(rt: &impl Abort, alloc: Global) -> Option<()> {
     let sheet = match read_sheet(alloc, SHEET.as_bytes()) {
         Ok(sheet) => sheet,

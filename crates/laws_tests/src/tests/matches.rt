@@ -1,4 +1,4 @@
-//! A match, which a board or a desk copies at each line, and the calls that answer with another one.
+//! A match, which a board or a desk copies at each line, and the calls that return another match.
 
 use corrections::Tally;
 use match_laws::{Match, start, step};

@@ -1,4 +1,4 @@
-//! The lines of plans. What takes memory is done again where an allocation failed, so that the tests pass with any one refused.
+//! The lines of plans. After a failed allocation each test tries once more, so that it passes with any one refused.
 
 ghost use Rattle.notation.specs.Written.{IsEntry};
 
@@ -8,7 +8,7 @@ use plans::{Plan, plan_of};
 use std::alloc::{AllocError, Global};
 use std::process::Abort;
 
-/// The entry of a line.
+/// Returns the entry of a line.
 fn entry(rt: &impl Abort, line: &str) -> Entry
     ensures { IsEntry result }
 {
@@ -32,7 +32,7 @@ fn enter(rt: &impl Abort, book: &mut Book, lines: &[&str]) {
     }
 }
 
-/// The plan has these lines.
+/// Checks that the plan has these lines.
 fn expect(rt: &impl Abort, plan: &Plan, lines: &[&str]) {
     match plan {
         Plan::Lines(planned) => {
@@ -47,7 +47,7 @@ fn expect(rt: &impl Abort, plan: &Plan, lines: &[&str]) {
     }
 }
 
-/// The book of these lines has such a plan, where such corrections are wanted.
+/// Checks that the book of these lines has this plan for the wanted corrections.
 fn find(
     rt: &impl Abort,
     alloc: Global,
@@ -63,7 +63,7 @@ fn find(
     Ok(())
 }
 
-/// Once the runs of one ball alone are others, the wrong batter is bowled at place 5, and can't retire at place 7.
+/// If the runs of only one ball change, the wrong batter is bowled at place 5, who then can't retire at place 7.
 const OUT_AND_RETIRED: [&str; 9] = [
     "innings home",
     "in 1",
@@ -76,7 +76,7 @@ const OUT_AND_RETIRED: [&str; 9] = [
     "in 4",
 ];
 
-/// A 1 and a 0 that were 2 and 1.
+/// A 1 and a 0 that should be 2 and 1.
 fn two_runs(rt: &impl Abort, alloc: Global) -> Result<(), AllocError> {
     find(
         rt,
@@ -94,7 +94,7 @@ fn two_runs(rt: &impl Abort, alloc: Global) -> Result<(), AllocError> {
     )
 }
 
-/// A single that was written as none, and put right by `swap`.
+/// A single that was written as no run, and then mended by `swap`.
 fn swapped(rt: &impl Abort, alloc: Global) -> Result<(), AllocError> {
     let mut lines = OUT_AND_RETIRED;
     lines[3] = "ball 7 bat 0";
@@ -115,7 +115,7 @@ fn swapped(rt: &impl Abort, alloc: Global) -> Result<(), AllocError> {
     )
 }
 
-/// Two bowlers that were exchanged for two overs.
+/// Two bowlers who were exchanged for two overs.
 fn exchanged(rt: &impl Abort, alloc: Global) -> Result<(), AllocError> {
     find(
         rt,
@@ -141,7 +141,7 @@ fn exchanged(rt: &impl Abort, alloc: Global) -> Result<(), AllocError> {
     )
 }
 
-/// A wicket that was left out, and who came in.
+/// A wicket that was left out, with the batter who came in.
 fn left_out(rt: &impl Abort, alloc: Global) -> Result<(), AllocError> {
     find(
         rt,
@@ -163,7 +163,7 @@ fn left_out(rt: &impl Abort, alloc: Global) -> Result<(), AllocError> {
     )
 }
 
-/// Corrections that are legal one after another are given as they are.
+/// Corrections that are legal one after another are planned as they are.
 fn direct(rt: &impl Abort, alloc: Global) -> Result<(), AllocError> {
     find(
         rt,

@@ -1,10 +1,11 @@
-//! What a desk's scorer is told of the other desk by the clock: that it has written, that it isn't heard, and that it is again.
+//! What the clock makes a desk tell its scorer of the other desk: that it has written, that it isn't heard, and that it is
+//! heard again.
 
 use super::*;
 use wire::SIZE;
 
-/// What the scorer of a new desk A is told, who types these lines, and to which this comes, and by which times: a text and
-/// then the next.
+/// Checks what a new desk A, which is given these datagrams, tells its scorer, who types these lines: each text in its turn, up
+/// to its time.
 fn is_told(rt: &impl Abort, alloc: Global, keys: &[Key], brings: &[Bring], texts: &[(u64, &str)]) {
     let world = World::new();
     let link = Timed::new(alloc, &world, brings);
@@ -32,7 +33,7 @@ const ALL_OF_THESE: &str = "No play\n0 next\n0 the other has written\nthe other 
 
 const DIFFERS: &str = "0 differs: you innings home,\n  the other void\n";
 
-// 5 seconds after the other's vote came, unless the own one is cast, and once a position.
+// The other desk's vote is told 5 seconds after it came, once for a position, unless the scorer's own vote is cast.
 #[test]
 fn the_other_has_written(rt: HostRuntime) {
     let brings = [
@@ -60,7 +61,7 @@ fn the_other_has_written(rt: HostRuntime) {
     is_told(&rt, rt.alloc(), &keys, &brings, &texts);
 }
 
-// The two differ: in the next round it is told once more.
+// The two votes differ: in the next round it is told once more.
 #[test]
 fn in_each_round(rt: HostRuntime) {
     let brings = [
@@ -82,8 +83,8 @@ fn in_each_round(rt: HostRuntime) {
     is_told(&rt, rt.alloc(), &keys, &brings, &texts);
 }
 
-// A board's asks, those of a laptop that was started as the same desk, and bytes that are no message are nothing of the
-// other desk's.
+// None of these counts as hearing the other desk: a board's asks, those of a laptop that was started as the same desk, and
+// bytes that are no message.
 #[test]
 fn the_other_desk_is_missed(rt: HostRuntime) {
     let texts = [(4900, GREETING), (5500, MISSED), (60_000, "")];
@@ -107,8 +108,8 @@ fn the_other_desk_is_missed(rt: HostRuntime) {
     is_told(&rt, rt.alloc(), &[], &brings, &texts);
 }
 
-// An ask or a vote of the other desk for the position ends it, and both are told in turns. One for another position may be
-// a repeat.
+// An ask or a vote of the other desk for the position ends its silence; silence and end are told in turns. An ask or a vote for
+// another position may be a repeat.
 #[test]
 fn the_other_desk_is_heard_again(rt: HostRuntime) {
     let brings = [
@@ -137,7 +138,7 @@ fn the_other_desk_is_heard_again(rt: HostRuntime) {
     is_told(&rt, rt.alloc(), &[], &brings, &texts);
 }
 
-// An empty line tells where the scorer stands with the other desk.
+// An empty line asks where the scorer stands with the other desk.
 #[test]
 fn an_empty_line(rt: HostRuntime) {
     let brings = [
@@ -179,7 +180,7 @@ fn an_empty_line(rt: HostRuntime) {
     is_told(&rt, rt.alloc(), &keys, &brings, &texts);
 }
 
-// Nor does it tell of the other's vote where the own one is cast.
+// An empty line doesn't tell of the other desk's vote either, once the scorer's own vote is cast.
 #[test]
 fn an_empty_line_of_a_desk_alone(rt: HostRuntime) {
     let keys = [(1000, "void"), (2000, ""), (6000, "")];

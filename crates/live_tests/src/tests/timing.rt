@@ -1,4 +1,4 @@
-//! When stations ask, how long they wait, and that they have handed on by then what they have told.
+//! When stations ask, how long they wait, and that they have handed on by then all that they have told.
 
 use super::*;
 use board::{Board, Trouble, Witness};
@@ -24,7 +24,7 @@ impl Notices for Notes {
     }
 }
 
-/// What a board has shown.
+/// The states that a board has shown.
 #[derive(Drop)]
 struct States {
     log: SightLog<Book>,
@@ -56,7 +56,7 @@ impl Shows<Book> for States {
     }
 }
 
-/// A board's turns.
+/// Runs a board for some turns.
 fn show(rt: &impl Abort, alloc: Global, world: &World, link: &mut Timed<'_>, turns: u64) {
     let sheet = sheet(rt, alloc);
     let mut board = Board::new(7, empty_book(rt, alloc));
@@ -85,8 +85,8 @@ fn show(rt: &impl Abort, alloc: Global, world: &World, link: &mut Timed<'_>, tur
     assert!(rt; answer.is_ok());
 }
 
-/// In so many turns a desk sends at these times, whose scorer types these lines, and to which this comes. It has handed on
-/// what it has told before it waits.
+/// Checks that a desk sends at these times, in this many turns, while its scorer types these lines and these datagrams come;
+/// and that it has handed on what it has told before it waits.
 fn sends(
     rt: &impl Abort,
     alloc: Global,
@@ -103,7 +103,8 @@ fn sends(
     assert!(rt; !world.was_held.get());
 }
 
-/// So does a board to which this comes.
+/// Checks that a board asks at these times, in this many turns, while these datagrams come; and that it has handed on what it
+/// has told before it waits.
 fn asks(rt: &impl Abort, alloc: Global, brings: &[Bring], turns: u64, times: &[u64]) {
     let world = World::new();
     let mut link = Timed::new(alloc, &world, brings);
@@ -112,21 +113,21 @@ fn asks(rt: &impl Abort, alloc: Global, brings: &[Bring], turns: u64, times: &[u
     assert!(rt; !world.was_held.get());
 }
 
-/// When a station asks that nobody answers: at once, after 20 ms, and after twice that and so on.
+/// When a station asks if nobody answers: at once, after 20 ms, after 40 ms, and so on, up to 500 ms.
 const UNANSWERED: [u64; 10] = [0, 20, 60, 140, 300, 620, 1120, 1620, 2120, 2620];
 
-// Each turn lasts until the next ask is due: so a station at rest is woken twice a second.
+// Each turn lasts until the next ask is due, so a station at rest is woken twice a second.
 #[test]
 fn stations_at_rest(rt: HostRuntime) {
     sends(&rt, rt.alloc(), &[], &[], 10, &UNANSWERED);
     asks(&rt, rt.alloc(), &[], 10, &UNANSWERED);
 }
 
-/// The same after 810 ms, where it asks sooner than it would have.
+/// When a station asks that is told something at 810 ms: sooner than it would have.
 const SOONER: [u64; 10] = [0, 20, 60, 140, 300, 620, 830, 850, 890, 970];
 
-// The first vote of a board's position, and a vote of a station that is further ahead, tell that more may come: it asks
-// soon. An ask, and bytes of another match, don't.
+// The first vote for a board's position, or a vote of a station that is further ahead, tells that more may come: the board asks
+// soon. An ask, or bytes of another match, doesn't.
 #[test]
 fn what_promises_more(rt: HostRuntime) {
     let alloc = rt.alloc();
@@ -138,7 +139,7 @@ fn what_promises_more(rt: HostRuntime) {
     }
 }
 
-// The second vote of a place is B's, or the scorer's own: the desk asks for the next place at once, and then 20 ms later.
+// The second vote for a place is B's, or the scorer's own: the desk asks for the next place at once, and again 20 ms later.
 #[test]
 fn a_new_position_of_a_desk(rt: HostRuntime) {
     let theirs = [once(10, void(&rt, 0, 0))];
@@ -169,7 +170,7 @@ fn a_new_position_of_a_board(rt: HostRuntime) {
     asks(&rt, rt.alloc(), &votes, 3, &[0, 10, 30]);
 }
 
-// Where lines were typed ahead, nothing is waited for.
+// While lines are typed ahead, the desk waits for nothing.
 #[test]
 fn lines_typed_ahead(rt: HostRuntime) {
     let world = World::new();

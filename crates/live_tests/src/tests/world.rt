@@ -1,4 +1,4 @@
-//! Clocks, links, keyboards and screens of one world.
+//! The clock, link, keyboard and screen of one world.
 ghost use Rattle.std.specs.Prelude.{◌≡◌};
 
 use links::{
@@ -10,7 +10,7 @@ use std::cell::Cell;
 use std::io::{self, Write};
 use wire::{MessageBytes, SIZE};
 
-/// A clock, and what was written but not handed on.
+/// A clock, and whether something is written but not handed on.
 #[derive(Drop)]
 pub struct World {
     pub now: Cell<u64>,
@@ -56,7 +56,7 @@ impl Clock for Hand<'_> {
     }
 }
 
-/// What was written, and how much of it by when.
+/// The bytes written, and how many of them by which time.
 #[derive(Drop)]
 pub struct Screen<'a> {
     world: &'a World,
@@ -73,7 +73,7 @@ impl<'a> Screen<'a> {
         }
     }
 
-    /// What was written up to this time.
+    /// Returns the bytes written up to this time.
     pub fn by(&self, at: u64) -> &[u8] {
         let mut count = 0;
         for mark in self.marks.as_slice() {
@@ -99,7 +99,7 @@ impl Write for Screen<'_> {
     }
 }
 
-/// A datagram, when it comes first, and how often: once a second.
+/// A datagram, the time at which it first comes, and how often it comes, once a second.
 #[derive(Clone, Copy)]
 pub struct Bring {
     at: u64,
@@ -107,7 +107,7 @@ pub struct Bring {
     bytes: MessageBytes,
 }
 
-/// It comes once.
+/// Returns a datagram that comes once.
 pub fn once(at: u64, bytes: MessageBytes) -> Bring {
     Bring {
         at,
@@ -116,7 +116,7 @@ pub fn once(at: u64, bytes: MessageBytes) -> Bring {
     }
 }
 
-/// It comes at each of these seconds but the last.
+/// Returns a datagram that comes at each of these seconds but the last.
 pub fn each_second(from: u64, to: u64, bytes: MessageBytes) -> Bring {
     Bring {
         at: from.saturating_mul(1000),
@@ -125,13 +125,13 @@ pub fn each_second(from: u64, to: u64, bytes: MessageBytes) -> Bring {
     }
 }
 
-/// A link to which datagrams come at their times. It notes when it was asked to send.
+/// A link whose datagrams come at their times. It notes when it was asked to send.
 #[derive(Drop)]
 pub struct Timed<'a> {
     world: &'a World,
     brings: &'a [Bring],
     taken: usize,
-    /// How often the next one has come.
+    /// How often the next datagram has come.
     came: u64,
     pub sends: Vec<u64>,
     log: Log,
@@ -149,7 +149,7 @@ impl<'a> Timed<'a> {
         }
     }
 
-    /// The datagram that comes up to this time.
+    /// Returns the datagram that comes up to this time.
     fn due(&mut self, until: u64) -> Option<Bring>
         ensures { self.new.log ≡ self.old.log }
     {
@@ -166,7 +166,7 @@ impl<'a> Timed<'a> {
         Some(bring)
     }
 
-    /// The datagram that comes in so many milliseconds, which pass.
+    /// Returns the datagram that comes within `wait` milliseconds, and lets the time until then pass.
     fn next(&mut self, wait: u64) -> Option<Bring>
         ensures { self.new.log ≡ self.old.log }
     {
@@ -215,7 +215,7 @@ impl Link for Timed<'_> {
     }
 }
 
-/// When a line is typed, and the line.
+/// The time at which a line is typed, and the line.
 pub type Key = (u64, &'static str);
 
 /// A keyboard at which lines are typed at their times.
@@ -224,7 +224,7 @@ pub struct Keyboard<'a> {
     world: &'a World,
     keys: &'a [Key],
     typed: usize,
-    /// Whether more were typed ahead.
+    /// Whether more lines are typed ahead.
     is_ahead: bool,
     log: InputLog,
 }

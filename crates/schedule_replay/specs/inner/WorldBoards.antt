@@ -12,17 +12,17 @@ use Rattle.headline.specs.Match.{match_of}
 use Rattle.schedule_replay.specs.Answers.{AreBytesOf, answer_of}
 use Rattle.schedule_replay.specs.CodeWorlds.{IsBoardOf, MatchBoard, board_game, board_innings, board_state}
 
--- it is a board of the same match
+-- the new board is of the old one's match
 abbrev pub SameBoard : MatchBoard → MatchBoard → Type 0
 SameBoard old new = IsBoardOf (board_game old) (board_innings old) new
 
--- so many boards of the match, each without an entry
+-- this many boards of the match, each without an entry
 pub record AreFresh (game innings count : ℕ) (boards : List MatchBoard) : Type 0 where
   pub states : map board_state boards ≡ fresh_boards count
   pub of_match : All (IsBoardOf game innings) boards
 
--- an event at a board is a step of the definitions there: the answer is seen, and the messages that it hands
--- out are added to those that were sent
+-- An event at a board is a step of the definitions: the outcome shows the answer, and the messages handed out are added to
+-- those sent.
 abbrev pub BoardSteps : Event → MatchBoard → List Datagram → Seen → MatchBoard → List Datagram → Type 0
 BoardSteps event old sent seen new sent' =
     (messages : List Message) → AreBytesOf (board_game old) sent messages

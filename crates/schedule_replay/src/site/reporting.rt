@@ -1,4 +1,4 @@
-//! What is reported of a site: the score that it shows, and the votes of its file.
+//! What a site reports: the score that it shows, and the votes of its file.
 
 ghost use Rattle.std.specs.Prelude.{◌≡◌, ◌≤◌, ℕ, Contains, IfOk, OnOk, length};
 ghost use Rattle.entry_log.specs.declared.mem_disk.MemDisk.{MemDisk};
@@ -35,8 +35,8 @@ impl Site {
         }
     }
 
-    /// The desk's process ends, and its file is read, which is sound: all votes of the file, and how many of
-    /// them are the desk's.
+    /// Ends the desk's process and reads its file, which is sound: returns all votes of the file, and how many of them are the
+    /// desk's.
     pub fn into_votes(mut self) -> Result<(VotesFile, u32), AllocError>
         requires whole { IsWhole self }
         requires read { (x : Node MemDisk) × HasNode self x

@@ -1,4 +1,4 @@
-//! What is reported of a world: the scores that it shows, and the agreed list.
+//! What a world reports: the scores that it shows, and the agreed list.
 
 ghost use Rattle.std.specs.Prelude.{◌≡◌, ◌≤◌, IfOk, OnOk};
 ghost use Rattle.agree_core.specs.Books.{IsAgreedByFiles};
@@ -34,7 +34,7 @@ impl World {
         Ok(())
     }
 
-    /// The agreed list of all votes, as both files tell it.
+    /// Returns the agreed list of all votes, as both files show it.
     pub fn agreed(self) -> Result<Vec<Entry>, AllocError>
         requires read { (w : Configuration MemDisk) × HasConfiguration self w
             × FilesRead self.game self.innings_a_side w }

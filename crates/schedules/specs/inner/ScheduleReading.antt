@@ -1,5 +1,4 @@
--- Reading a line of a schedule from the left. Only private functions cite this: what a line is stands in
--- ScheduleLines.
+-- Reading a line of a schedule from the left, for private functions only: what a line means is said in ScheduleLines.
 use Rattle.std.specs.Prelude.{ℕ, ◌==◌, if◌then◌else◌, List, [], ◌∷◌, codes, drop, take, length, Option, Some, None, Result, Ok, Err}
 use Rattle.std.specs.Str.{bytes_eq}
 use Rattle.notation.specs.declared.{entry.Entry.Entry, fault.LineFault.LineFault}
@@ -21,7 +20,7 @@ abbrev pub with_first : ℕ → Option (List ℕ × List ℕ) → Option (List �
 with_first b None = None
 with_first b (Some p) = Some (b ∷ p.0, p.1)
 
--- what stands before the first space, and after it
+-- the parts before and after the first space
 unfoldable pub cut : List ℕ → Option (List ℕ × List ℕ)
 cut [] = None
 cut (b ∷ bs) = if b == 32 then Some ([], bs) else with_first b (cut bs)
@@ -68,7 +67,7 @@ power_at ws = both_at desk_at choice_at ws >>= λ p. Some (Event.Power p.0 p.1)
 unfoldable pub count_at : List ℕ → Option (DeskId × ℕ)
 count_at ws = both_at desk_at (found_number 1 1000) ws
 
--- what the first word says of the others
+-- a reader of the words behind the first one
 abbrev pub Reader : Type 0
 Reader = List ℕ → Option Event
 
@@ -94,7 +93,7 @@ event_at line = do
   p ← cut line
   pick p.0 readers p.1
 
--- what follows this start
+-- the rest of the line behind this start
 abbrev pub after_start : List ℕ → List ℕ → Option (List ℕ)
 after_start start line =
     if bytes_eq (take (length start) line) start then Some (drop (length start) line) else None

@@ -1,4 +1,4 @@
-//! What a world answers, event by event, on files of either version. Where memory is refused once, the second try has it.
+//! What a world answers, event by event, on files of either version. If memory is refused once, a second try has it.
 
 ghost use Rattle.headline.specs.Events.{IsEvent};
 
@@ -10,7 +10,7 @@ use std::process::Abort;
 
 const HOME: Entry = Entry::Write(Plain::Innings(Side::Home));
 
-/// A world of match 7, of two innings a side, with a board.
+/// Makes a world of match 7, with two innings a side and one board.
 fn begun(alloc: Global, version: FileVersion) -> Result<World, AllocError> {
     match version {
         FileVersion::Old => World::old(alloc, 7, 2, 1),
@@ -18,7 +18,7 @@ fn begun(alloc: Global, version: FileVersion) -> Result<World, AllocError> {
     }
 }
 
-/// What the world answers to an event.
+/// Returns what the world answers to an event.
 fn told(world: &mut World, event: &Event) -> Result<Seen, WorldRefusal>
     requires { IsEvent event.now }
 {
@@ -28,7 +28,7 @@ fn told(world: &mut World, event: &Event) -> Result<Seen, WorldRefusal>
     }
 }
 
-/// Both desks pen the line, and each hears the other.
+/// Checks that both desks pen the line, and each hears the other.
 fn goes_on(rt: &impl Abort, alloc: Global, version: FileVersion) {
     let mut world = match begun(alloc, version) {
         Ok(world) => world,

@@ -35,7 +35,7 @@ returns-clause-only c = λ others h.
     let m = c.loop-line.invariant in
     same_events c.loop-line.events.items others m.written h.written (sym (rw (c.in_default.ensures.0, append-nil) at m.texts) ∙ h.texts)
 
--- out of memory, or the line is at fault
+-- memory ran out, or the line is at fault
 pub returns-in-Err-clause-fault : goal.returns-in-Err-clause-fault
 returns-in-Err-clause-fault c =
     let m = c.loop-line.invariant in

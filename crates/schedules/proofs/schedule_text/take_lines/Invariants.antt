@@ -5,7 +5,7 @@ use Rattle.notation.specs.Lines.{lines_of}
 use Rattle.schedules.specs.ScheduleLines.{event_text, IsWrittenEvent}
 use Rattle.schedules.proofs.schedule_text.take_lines.Given as goal
 
--- the events so far are those of the lines before those that are left
+-- the events so far are those of the lines already taken
 pub record Midway (bytes : List ℕ) (lines : List (List ℕ)) (number : ℕ) (events : List Event) : Type 0 where
   pub numbered : number ≡ length events
   pub short : number + length lines ≤ length bytes
