@@ -15,6 +15,8 @@ pub struct Rows {
     rows: Vec<Vec<u8>>,
     /// The row that isn't ended yet.
     begun: Vec<u8>,
+    /// Whether memory for that row was refused: then it is left out.
+    is_cut: bool,
     is_new: bool,
 }
 
@@ -25,15 +27,15 @@ impl Rows {
             alloc,
             rows: Vec::new(alloc),
             begun: Vec::new(alloc),
+            is_cut: false,
             is_new: false,
         }
     }
 
-    /// Ends the current row. Drops the oldest row if there are more than are kept.
-    fn end_row(&mut self) -> Result<(), AllocError> {
+    /// Keeps the current row. Drops the oldest row if there are more than are kept.
+    fn keep_row(&mut self) -> Result<(), AllocError> {
         let mut row = Vec::new(self.alloc);
         row.extend_from_slice(self.begun.as_slice())?;
-        self.begun.clear();
         self.rows.push(row)?;
         if self.rows.len() > MOST_ROWS {
             let _oldest = self.rows.remove(0);
@@ -42,19 +44,23 @@ impl Rows {
         Ok(())
     }
 
-    /// Takes a byte of what was printed.
-    fn take_byte(&mut self, byte: u8) -> Result<(), AllocError> {
-        if byte == b'\n' {
-            return self.end_row();
+    /// Ends the current row. One for which memory was refused is left out.
+    fn end_row(&mut self) {
+        if !self.is_cut {
+            let _ = self.keep_row();
         }
-        self.begun.push(byte)?;
-        Ok(())
+        self.begun.clear();
+        self.is_cut = false;
     }
 
-    /// Takes what was printed, as far as memory allows.
+    /// Takes what was printed. A row for which memory is refused is left out.
     pub fn take(&mut self, told: &[u8]) {
         for byte in told {
-            let _ = self.take_byte(*byte);
+            if *byte == b'\n' {
+                self.end_row();
+            } else if self.begun.push(*byte).is_err() {
+                self.is_cut = true;
+            }
         }
     }
 
