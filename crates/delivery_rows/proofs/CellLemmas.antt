@@ -1,4 +1,4 @@
--- What a spreadsheet and a reader make of cells.
+-- How spreadsheets and CSV readers take cells.
 use Rattle.std.proofs.Common.{◌≡◌, ℕ, Bool, true, false, cond, List, [], ◌∷◌, ◌++◌, length, refl, ap, ◌∙◌, arith, inl, inr}
 use Rattle.std.proofs.lemmas.Bool.{cases_Bool}
 use Rattle.std.proofs.lemmas.Bool.Decides.{nat_tests}
@@ -9,7 +9,7 @@ use Rattle.csv.proofs.RoundTrip as csv
 use Rattle.delivery_rows.specs.Cells.{cell, is_formula, rows_text}
 use Rattle.delivery_rows.specs.Laws.{ReadsBack, begins_formula}
 
--- what is no formula doesn't begin as one
+-- a text that is no formula doesn't begin like one
 begins_plain : (text : List ℕ) → is_formula text ≡ false → begins_formula text ≡ false
 begins_plain [] plain = refl
 begins_plain (c ∷ cs) plain = grind (arith, plain, nat_tests)
@@ -20,7 +20,7 @@ cell_is_plain text = elim (cases_Bool (is_formula text)) [
   | inr plain ↦ rw plain (begins_plain text plain)
 ]
 
--- a quote more before a formula is one again
+-- one more quote before a text leaves it a formula, or none
 quoted_again : (text : List ℕ) → is_formula (39 ∷ text) ≡ is_formula text
 quoted_again text = refl
 

@@ -1,4 +1,4 @@
--- Cells behind those of a row, rows behind a text, and what stands for the elements of a list.
+-- Cells added to a row, rows added to a text, and texts of the elements of a list.
 use Rattle.std.proofs.Common.{◌≡◌, ℕ, ◌+◌, ◌≤◌, List, [], ◌++◌, length, take, Some, Result, sym, ◌∙◌, add-one, append-nil, append_assoc}
 use Rattle.std.specs.Prelude.{OnOk, slice_get}
 use Rattle.std.specs.List.{flat_map}
@@ -11,7 +11,7 @@ use Rattle.csv.specs.Writing.{default_writer, row_text}
 use Rattle.json_fields.specs.Values.{up_to}
 use Rattle.delivery_rows.specs.Cells.{rows_text}
 
--- what is put behind what was put before
+-- two additions are one
 pub adds : {X : Type 0} (old mid new xs ys : List X) → mid ≡ old ++ xs → new ≡ mid ++ ys → new ≡ old ++ (xs ++ ys)
 adds old mid new xs ys a b = rw (b, a) (append_assoc old xs ys)
 
@@ -31,7 +31,7 @@ pub ends_rows : {T E : Type 0} (r : Result T E) (old mid new : List ℕ) (rs qs 
     OnOk r (new ≡ mid ++ rows_text qs) → OnOk r (new ≡ old ++ rows_text (rs ++ qs))
 ends_rows r old mid new rs qs a b = on_ok_weaker r (adds_rows old mid new rs qs a) b
 
--- what is put of what is due leaves the rest due
+-- rows that are written leave the other rows due
 pub rows_due : (mid new all : List ℕ) (rs qs : List (List (List ℕ))) → new ≡ mid ++ rows_text rs → mid ++ rows_text (rs ++ qs) ≡ all →
     new ++ rows_text qs ≡ all
 rows_due mid new all rs qs put e = rw put (append_assoc mid (rows_text rs) (rows_text qs) ∙ (rw (rows_text-append rs qs) at e))
@@ -44,7 +44,7 @@ pub begins_up_to : (old : List ℕ) (f : ℕ → List (List (List ℕ))) → old
 unfolding up_to
 begins_up_to old f = no_rows old
 
--- what f makes of one number more
+-- the rows that f makes of each number below n grow by those of one number
 pub adds_up_to : (old mid new : List ℕ) (f : ℕ → List (List (List ℕ))) (n : ℕ) → mid ≡ old ++ rows_text (up_to f n) →
     new ≡ mid ++ rows_text (f n) → new ≡ old ++ rows_text (up_to f (n + 1))
 unfolding up_to
@@ -54,7 +54,7 @@ pub ends_up_to : (old new : List ℕ) (f : ℕ → List (List (List ℕ))) (k n 
     new ≡ old ++ rows_text (up_to f n)
 ends_up_to old new f k n a all = rw (← all) a
 
--- what f makes of the elements of a list, one more
+-- a text of what f makes of each element of a list grows by one element
 pub adds_each : {X : Type 0} (old mid new : List ℕ) (f : X → List ℕ) (xs : List X) (k : ℕ) (x : X) →
     mid ≡ old ++ flat_map f (take k xs) → slice_get xs k ≡ Some x → new ≡ mid ++ f x → new ≡ old ++ flat_map f (take (k + 1) xs)
 adds_each old mid new f xs k x a here b =

@@ -39,18 +39,18 @@ map_if : {X Y Z : Type 0} (f : X → Z) (g : Y → Z) (b : Bool) (xs more : List
 map_if f g true xs more ys others p q = p
 map_if f g false xs more ys others p q = q
 
--- ---- what is looked up in a delivery
+-- ---- the facts of an exported delivery
 
 batter_told : (s : Sheet) (side : Side) (o : Option ℕ) → batter_cell s side o ≡ name_in (batter_value s side o)
 batter_told s side None = refl
 batter_told s side (Some p) = refl
 
--- what stands there, where the delivery has no extras at all
+-- the value of a kind of extras, or null if the delivery has no extras at all
 extras_read : (key : List ℕ) (w e : Bool) (v x : Json) →
     at key (member_at (codes "extras") (members_of (cond w ((codes "wickets", v) ∷ []) [] ++ cond e [] ((codes "extras", x) ∷ [])))) ≡ cond e null (at key x)
 extras_read key w e v x = grind arith
 
--- each kind of extras is found, whatever else stands there
+-- each kind of extras is found, whatever other kinds the delivery has
 module _ (w n b l p : Bool) (ws ns bs ls ps : Json) where
   abbrev kinds : Members
   kinds =
@@ -86,7 +86,7 @@ module _ (s : Sheet) (day : List ℕ) (side : Side) (i penalty : ℕ) (early lat
   abbrev delivery : Json
   delivery = delivery_of s side penalty early ends b late
 
-  -- a kind of which n runs are extras
+  -- a kind of extras with n runs
   kind_told : (key : List ℕ) (n : ℕ) → ((extra_runs (split_of_ball b) + penalty == 0) ≡ true → n ≡ 0)
       → at key ((extras_field (split_of_ball b) penalty).1) ≡ cond (n == 0) null (number_value n)
       → figure_in (at key (at (codes "extras") delivery)) ≡ decimal n
@@ -95,7 +95,7 @@ module _ (s : Sheet) (day : List ℕ) (side : Side) (i penalty : ℕ) (early lat
       ap figure_in (extras_read key (has_wickets early b late) e _ ((extras_field (split_of_ball b) penalty).1))
       ∙ any_told e _ n none (ap figure_in there ∙ figure_told n (n == 0) refl)
 
-  -- nothing is an extra, where all are none
+  -- each kind has 0 runs if all extras together have 0
   none_of : (n : ℕ) → n ≤ extra_runs (split_of_ball b) + penalty → (extra_runs (split_of_ball b) + penalty == 0) ≡ true → n ≡ 0
   none_of n part e = let all = eqb-true (extra_runs (split_of_ball b) + penalty) 0 e in omega (arith, part, all)
 
@@ -116,7 +116,7 @@ module _ (s : Sheet) (day : List ℕ) (side : Side) (i penalty : ℕ) (early lat
       (cons_same (sym (kind_told (codes "legbyes") x.legs (none_of x.legs (omega arith)) (legs_there w n y l p _ _ _ _ _)))
       (cons_same (sym (kind_told (codes "penalty") penalty (none_of penalty (omega arith)) (penalty_there w n y l p _ _ _ _ _))) refl))))))))))
 
--- ---- all of an innings
+-- ---- all rows of an innings
 
 abbrev figure : ℕ → List (List ℕ)
 figure k = decimal k ∷ []

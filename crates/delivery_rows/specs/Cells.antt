@@ -3,25 +3,25 @@ use Rattle.std.specs.Prelude.{◌≡◌, ℕ, ◌==◌, Bool, false, ◌||◌, i
 use Rattle.std.specs.List.{flat_map}
 use Rattle.csv.specs.Writing.{default_writer, row_text}
 
--- what a spreadsheet takes at the front of a cell for the begin of a formula, = + - @, and what it passes over before that, a
--- tab or the end of a line
+-- what a spreadsheet takes at the front of a cell as the start of a formula (= + - @), or skips before it (a tab, a line feed
+-- or a carriage return)
 abbrev pub is_sign : ℕ → Bool
 is_sign c = (((c == 61) || (c == 43)) || ((c == 45) || (c == 64))) || (((c == 9) || (c == 10)) || (c == 13))
 
--- behind quotes of its own, if any, a text begins with such a sign
+-- a text begins with such a sign, after any quotes of its own
 abbrev pub is_formula : List ℕ → Bool
 is_formula [] = false
 is_formula (c ∷ cs) = if c == 39 then is_formula cs else is_sign c
 
--- the cell of a text: one quote more stands before such a text, which no spreadsheet runs then
+-- the cell of a text: such a text has one more quote before it, so that no spreadsheet runs it
 abbrev pub cell : List ℕ → List ℕ
 cell text = if is_formula text then 39 ∷ text else text
 
--- the text of rows, by RFC 4180 but for the end of a line, which is a line feed alone
+-- rows as CSV text by RFC 4180, except that a line ends with a line feed alone
 unfoldable pub rows_text : List (List (List ℕ)) → List ℕ
 rows_text rows = flat_map (row_text default_writer) rows
 
--- ---- for private functions: cells behind those of a row, and rows behind a text
+-- ---- for private functions: a call adds cells to a row, or rows to a text, if it succeeds
 
 abbrev pub PutsCells : {T E : Type 0} → Result T E → List (List ℕ) → List (List ℕ) → List (List ℕ) → Type 0
 PutsCells answer old new cells = OnOk answer (new ≡ old ++ cells)

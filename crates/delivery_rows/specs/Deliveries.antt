@@ -1,5 +1,5 @@
--- The rows of deliveries. s is the sheet, day the day of the match, side the side that bats in innings i, and f which innings each
--- side began first. early are the items before the first delivery of the innings, and late those up to the next one.
+-- The rows of deliveries. s is the sheet, day the day of the match, side the side that bats in innings i, f the innings that
+-- each side began first and last, early the items before the first delivery of the innings, and late those up to the next one.
 use Rattle.std.specs.Prelude.{ℕ, ◌+◌, ◌==◌, ◌&&◌, not, Bool, if◌then◌else◌, List, [], ◌∷◌, ◌++◌, drop, Option, Some, None, codes, decimal}
 use Rattle.std.specs.List.{flat_map}
 use Rattle.notation.specs.declared.entry.{Side.Side, Ball.Ball, Out.Out, Plain.Plain}
@@ -28,7 +28,7 @@ columns =
     ++ codes "wicket_type,player_dismissed,fielders,other_wicket_type,other_player_dismissed,"
     ++ codes "innings_runs,innings_wickets\n"
 
--- the match, and the innings from 1
+-- the match, its day, the innings from 1, and the sides
 abbrev pub innings_cells : Sheet → List ℕ → Side → ℕ → List (List ℕ)
 innings_cells s day side i =
     decimal s.game ∷ cell day ∷ decimal (i + 1) ∷ cell (name_of s side) ∷ cell (name_of s (opponent side)) ∷ []
@@ -37,7 +37,7 @@ innings_cells s day side i =
 abbrev pub place_cells : Standing → ℕ → List (List ℕ)
 place_cells now place = decimal now.over ∷ decimal now.ball ∷ decimal place ∷ []
 
--- the name of who is at an end
+-- the name of the batter at an end
 abbrev pub batter_cell : Sheet → Side → Option ℕ → List ℕ
 batter_cell s side None = []
 batter_cell s side (Some p) = cell (player_of s side p)
@@ -46,23 +46,23 @@ abbrev pub players_cells : Sheet → Side → Ends → ℕ → List (List ℕ)
 players_cells s side ends bowler =
     batter_cell s side ends.striker ∷ batter_cell s side ends.other ∷ cell (player_of s (opponent side) bowler) ∷ []
 
--- the runs of a delivery, with the penalty runs that it carries
+-- the runs of a delivery, counting the penalty runs that it carries
 abbrev pub runs_cells : Split → ℕ → List (List ℕ)
 runs_cells x penalty = decimal x.striker ∷ decimal (extra_runs x + penalty) ∷ decimal (all_runs x + penalty) ∷ []
 
 abbrev pub kinds_cells : Split → ℕ → List (List ℕ)
 kinds_cells x penalty = decimal x.wides ∷ decimal x.noballs ∷ decimal x.byes ∷ decimal x.legs ∷ decimal penalty ∷ []
 
--- four or six off the bat, unless they were run
+-- four or six for a boundary off the bat, where run tells that the runs were no boundary
 abbrev pub boundary_cell : ℕ → Bool → List ℕ
 boundary_cell n run =
     if (n == 4) && not run then codes "4" else (if (n == 6) && not run then codes "6" else [])
 
--- the fielder, where one is recorded
+-- the fielder, if one is recorded
 abbrev pub fielder_cell : Sheet → Side → ℕ → List ℕ
 fielder_cell s side fielder = if fielder == 0 then [] else cell (fielder_name s (opponent side) fielder)
 
--- out off the delivery: how, who, and by which fielder
+-- a dismissal off the delivery: how, who was out, and the fielder
 abbrev pub wicket_cells : Sheet → Side → Ends → ℕ → Out → List (List ℕ)
 wicket_cells s side ends bowler out =
     cell (how_words (out.fielder == bowler) out.how) ∷ batter_cell s side (batter_at out.who ends) ∷ fielder_cell s side out.fielder ∷ []
@@ -71,7 +71,7 @@ abbrev pub out_cells : Sheet → Side → Ends → ℕ → Option Out → List (
 out_cells s side ends bowler None = [] ∷ [] ∷ [] ∷ []
 out_cells s side ends bowler (Some out) = wicket_cells s side ends bowler out
 
--- who went between deliveries, and how, each behind a bar
+-- how batters left between deliveries, and who they were, each after a bar
 abbrev pub gone_way : Plain → List ℕ
 gone_way (Plain.Gone way p) = 124 ∷ leave_words way
 gone_way _ = []
@@ -80,14 +80,14 @@ abbrev pub gone_name : Sheet → Side → Plain → List ℕ
 gone_name s side (Plain.Gone way p) = 124 ∷ player_of s side p
 gone_name s side _ = []
 
--- what an item tells, of these items in a row, without the first bar
+-- what `tells` says of each of these items, one after another, without the first bar
 abbrev pub barred : (Plain → List ℕ) → List Noted → List Noted → List ℕ
 barred tells early late = drop 1 (flat_map (λ x. tells x.item) early ++ flat_map (λ x. tells x.item) late)
 
 abbrev pub others_cells : Sheet → Side → List Noted → List Noted → List (List ℕ)
 others_cells s side early late = cell (barred gone_way early late) ∷ cell (barred (gone_name s side) early late) ∷ []
 
--- how the innings stands after it
+-- the runs and wickets of the innings after the delivery
 abbrev pub standing_cells : Standing → List (List ℕ)
 standing_cells now = decimal now.runs ∷ decimal now.wickets ∷ []
 
@@ -100,7 +100,7 @@ ball_cells s side penalty ends b =
     ++ boundary_cell (split_of_ball b).striker (is_run b) ∷ []
     ++ out_cells s side ends b.bowler b.out
 
--- the row of a delivery, after which the innings stands so
+-- the row of a delivery, where now is the score after it
 abbrev pub delivery_row : Sheet → List ℕ → Side → ℕ → Standing → ℕ → List Noted → ℕ → Ends → Ball → List Noted → List (List ℕ)
 delivery_row s day side i now penalty early place ends b late =
     innings_cells s day side i
@@ -109,7 +109,7 @@ delivery_row s day side i now penalty early place ends b late =
     ++ others_cells s side early late
     ++ standing_cells now
 
--- how the innings stands after an item, before which it stood so
+-- the score after an item, where now is the score before it
 abbrev pub next_of : Begun → ℕ → Standing → List Noted → ℕ → Plain → List Noted → Standing
 next_of f i now early over (Plain.Ball b) late = after now (penalties f i late) early over b late
 next_of f i now early over _ late = now
@@ -118,7 +118,7 @@ abbrev pub next : Begun → ℕ → Standing → List Noted → Noted → List N
 next f i now early x late = next_of f i now early x.over x.item late
 
 module _ (s : Sheet) (day : List ℕ) (side : Side) (f : Begun) (i : ℕ) where
-  -- the rows of an item, after which the innings stands so: one, of a delivery
+  -- the rows of an item, where now is the score after it: one row for a delivery, or none
   abbrev pub rows_of_item : Standing → List Noted → ℕ → Plain → Ends → List Noted → List (List (List ℕ))
   rows_of_item now early place (Plain.Ball b) ends late = delivery_row s day side i now (penalties f i late) early place ends b late ∷ []
   rows_of_item now early place _ ends late = []
@@ -126,22 +126,22 @@ module _ (s : Sheet) (day : List ℕ) (side : Side) (f : Begun) (i : ℕ) where
   abbrev pub item_rows : Standing → List Noted → Noted → List Noted → List (List (List ℕ))
   item_rows now early x late = rows_of_item now early x.place x.item x.ends late
 
-  -- the rows of these items, before which the innings stands so
+  -- the rows of these items, where now is the score before them
   abbrev pub rows_from : Standing → List Noted → List Noted → List (List (List ℕ))
   rows_from now early [] = []
   rows_from now early (x ∷ xs) =
       let then_so = next f i now early x (carried xs) in
       if is_ball x.item then item_rows then_so early x (carried xs) ++ rows_from then_so [] xs else rows_from now early xs
 
-  -- the rows of an innings with these items, before whose first delivery so many penalty runs were awarded
+  -- the rows of an innings with these items, where before are the penalty runs awarded before its first delivery
   abbrev pub rows_of : ℕ → List Noted → List (List (List ℕ))
   rows_of before xs = rows_from (beginning before) (carried xs) xs
 
-  -- the rows of the innings, of the items of all innings
+  -- the rows of innings i, from the items of all innings
   abbrev pub side_rows : List Noted → List (List (List ℕ))
   side_rows xs = rows_of (runs_before f i xs) (items_in i xs)
 
--- the rows of innings i, of the items xs of the match with history h
+-- the rows of innings i, from the items xs of the match with history h
 abbrev pub innings_rows : Sheet → List ℕ → History → List Noted → ℕ → List (List (List ℕ))
 innings_rows s day h xs i = side_rows s day (side_of h i) (begun_of h) i xs
 

@@ -1,4 +1,4 @@
--- What the rows of deliveries tell, against the exported value.
+-- The rows of deliveries, compared with the exported value.
 use Rattle.std.specs.Prelude.{◌≡◌, ℕ, ◌+◌, Bool, false, List, [], ◌∷◌, ◌++◌, length, map, take, drop, codes, decimal}
 use Rattle.notation.specs.declared.entry.Entry.{Entry}
 use Rattle.ball_laws.specs.Sums.{tally}
@@ -15,19 +15,19 @@ use Rattle.delivery_rows.specs.Cells.{cell, is_sign, rows_text}
 use Rattle.delivery_rows.specs.Deliveries.{innings_rows}
 use Rattle.delivery_rows.specs.Penalties.{award_rows, innings_penalties}
 
--- ---- a row for each delivery of the exported value, and no other
+-- ---- a row for each delivery of the exported value, and no other row
 
--- the cell of a name that stands there: empty, where none does
+-- the cell of a name, or an empty cell if the value is no text
 abbrev pub name_in : Json → List ℕ
 name_in (string name) = cell name
 name_in _ = []
 
--- the figure that stands there: 0, where none does
+-- a figure, or 0 if the value is no number
 abbrev pub figure_in : Json → List ℕ
 figure_in (number text) = text
 figure_in _ = codes "0"
 
--- what is looked up in a delivery: who bats and bowls, its runs, and its extras by their kinds
+-- the facts of an exported delivery: the batters, the bowler, its runs, and its extras by kind
 abbrev pub told_in : Json → List (List ℕ)
 told_in delivery =
     let runs = at (codes "runs") delivery in
@@ -37,7 +37,7 @@ told_in delivery =
     ∷ figure_in (at (codes "wides") extras) ∷ figure_in (at (codes "noballs") extras)
     ∷ figure_in (at (codes "byes") extras) ∷ figure_in (at (codes "legbyes") extras) ∷ figure_in (at (codes "penalty") extras) ∷ []
 
--- the same of a row: its columns from `striker` to `penalty`
+-- the columns of a row with these facts, from `striker` to `penalty`
 abbrev pub told_by : List (List ℕ) → List (List ℕ)
 told_by row = take 11 (drop 8 row)
 
@@ -45,7 +45,7 @@ told_by row = take 11 (drop 8 row)
 abbrev pub rows_at : Sheet → List ℕ → List Entry → ℕ → List (List (List ℕ))
 rows_at s day book i = innings_rows s day (history_of book) (noted_items book) i
 
--- one by one, in order
+-- the rows are the exported deliveries, one by one and in order
 abbrev pub RowsAreDeliveries : Sheet → List ℕ → List Entry → Type 0
 RowsAreDeliveries s day book = (i : ℕ) → map told_by (rows_at s day book i) ≡ map told_in (deliveries_in (innings_at s book i))
 
@@ -70,12 +70,12 @@ pub record RowsAddUpTo (s : Sheet) (day : List ℕ) (book : List Entry) (i n : �
 abbrev pub RowsAddUp : Sheet → List ℕ → List Entry → Type 0
 RowsAddUp s day book = (i : ℕ) → RowsAddUpTo s day book i (total (history_of book) i)
 
--- ---- what a spreadsheet and a reader make of cells
+-- ---- how spreadsheets and CSV readers take cells
 
 abbrev pub begins_formula : List ℕ → Bool
 begins_formula [] = false
 begins_formula (c ∷ cs) = is_sign c
 
--- what a reader of CSV reads in the text of rows
+-- a CSV reader reads the rows back from their text
 abbrev pub ReadsBack : List (List (List ℕ)) → Type 0
 ReadsBack rows = records_from default_config (length rows) st.StartRecord (rows_text rows) ≡ map read_back rows

@@ -1,4 +1,4 @@
--- What the public calls claim: Table with all that it cites (Cells, Day, Standing, Deliveries, Innings, Penalties), and Laws.
+-- What the public functions ensure: Table with all it cites (Cells, Day, Standing, Deliveries, Innings, Penalties), and Laws.
 pub mod Cells
 pub mod Day
 pub mod Standing

@@ -1,5 +1,5 @@
--- The rows of penalty runs that no delivery carries. s is the sheet, day the day of the match, h the history, xs the items of all
--- innings with where they stand, and i the innings.
+-- The rows of penalty runs that no delivery carries. s is the sheet, day the day of the match, h the history, i the innings,
+-- and xs the items of all innings with the state of play before each.
 use Rattle.std.specs.Prelude.{ℕ, ◌==◌, if◌then◌else◌, List, [], ◌∷◌, ◌++◌, codes, decimal}
 use Rattle.notation.specs.declared.entry.Side.{Side}
 use Rattle.ball_laws.specs.History.{History}
@@ -15,7 +15,8 @@ use Rattle.delivery_rows.specs.Deliveries.{innings_cells}
 abbrev pub columns : List ℕ
 columns = codes "match_id,start_date,innings,batting_team,bowling_team,awarded,penalty\n"
 
--- awarded at this time, where there are any: `pre`, before the first delivery of the innings, or `post`, after a later one had begun
+-- the row of the runs awarded at this time, if there are any: `pre`, before the first delivery of the innings, or `post`, after
+-- a later innings had begun
 abbrev pub award_rows : Sheet → List ℕ → Side → ℕ → List ℕ → ℕ → List (List (List ℕ))
 award_rows s day side i awarded runs =
     if runs == 0 then [] else (innings_cells s day side i ++ awarded ∷ decimal runs ∷ []) ∷ []

@@ -1,4 +1,4 @@
--- The tables of a match: s is the sheet, and document the table that its text is.
+-- The tables of a match: s is the sheet, and document the sheet's text as a TOML table.
 use Rattle.std.specs.Prelude.{ℕ, List, ◌++◌}
 use Rattle.notation.specs.declared.entry.Entry.{Entry}
 use Rattle.ball_laws.specs.History.{History}
@@ -16,7 +16,7 @@ use Rattle.delivery_rows.specs.Deliveries.{all_rows}
 use Rattle.delivery_rows.specs.Penalties as penalties
 use Rattle.delivery_rows.specs.Penalties.{all_penalties}
 
--- the names of its columns
+-- the names of the table's columns
 abbrev pub columns_of : Table → List ℕ
 columns_of Deliveries = deliveries.columns
 columns_of Penalties = penalties.columns
@@ -25,7 +25,7 @@ abbrev pub rows_of : Table → Sheet → List ℕ → History → List Noted →
 rows_of Deliveries s day h xs = all_rows s day h xs
 rows_of Penalties s day h xs = all_penalties s day h xs
 
--- the names of the columns, and the rows
+-- a line with the names of the columns, and the rows
 abbrev pub table_text : Table → Sheet → Members → List Entry → List ℕ
 table_text table s document book =
     columns_of table ++ rows_text (rows_of table s (day_of document) (history_of book) (noted_items book))

@@ -12,7 +12,7 @@ use itoa::Buffer;
 use std::alloc::{AllocError, Global};
 use std::marker::Model;
 
-/// The cells of a row, in their order.
+/// The cells of a row, in order.
 #[derive(Drop)]
 pub struct Cells {
     row: ByteRecord,
@@ -29,7 +29,7 @@ impl Model for Cells {
     ghost invariant = { λ cells. partial_of cells.row ≡ [] };
 }
 
-/// Whether a spreadsheet takes this at the front of a cell for the begin of a formula, or passes over it.
+/// Whether a spreadsheet takes this byte at the front of a cell as the start of a formula, or skips it.
 fn is_sign(byte: u8) -> bool
     ensures { result ≡ cells.is_sign byte }
 {
@@ -48,7 +48,7 @@ fn is_quote(byte: u8) -> bool
     byte == b'\''
 }
 
-/// The byte at an index.
+/// Returns the byte at an index.
 fn byte_at(text: &[u8], index: usize) -> u8
     requires { index < length text.now }
     ensures { slice_get text.now index ≡ Some result }
@@ -56,7 +56,7 @@ fn byte_at(text: &[u8], index: usize) -> u8
     text[index]
 }
 
-/// Whether a text begins with such a sign, behind quotes of its own.
+/// Whether a text begins with such a sign, after any quotes of its own.
 fn is_formula(text: &[u8]) -> bool
     ensures { result ≡ cells.is_formula text.now }
 {
@@ -69,7 +69,7 @@ fn is_formula(text: &[u8]) -> bool
     false
 }
 
-/// The text of a row of these cells.
+/// Returns a row of cells as CSV text.
 fn row_text(alloc: Global, row: &ByteRecord) -> Result<Vec<u8>, csv::Error>
     ensures { IfOk result (λ text. text.items ≡ writing.row_text default_writer (fields_of row.now)) }
 {
@@ -82,7 +82,7 @@ fn row_text(alloc: Global, row: &ByteRecord) -> Result<Vec<u8>, csv::Error>
 }
 
 impl Cells {
-    /// None yet.
+    /// Returns a row without cells.
     pub fn new(alloc: Global) -> Cells
         ensures { result ≡ [] }
     {
@@ -91,7 +91,7 @@ impl Cells {
         }
     }
 
-    /// Puts a cell as it is.
+    /// Adds a cell as it is.
     pub fn put(&mut self, cell: &[u8]) -> Result<(), AllocError>
         ensures { PutsCells result self.old self.new (cell.now ∷ []) }
     {
@@ -104,14 +104,14 @@ impl Cells {
         }
     }
 
-    /// Puts a cell of which nothing is known.
+    /// Adds an empty cell.
     pub fn put_nothing(&mut self) -> Result<(), AllocError>
         ensures { PutsCells result self.old self.new ([] ∷ []) }
     {
         self.put("".as_bytes())
     }
 
-    /// Puts a figure.
+    /// Adds a figure.
     pub fn put_figure(&mut self, figure: u64) -> Result<(), AllocError>
         ensures { PutsCells result self.old self.new (decimal figure ∷ []) }
     {
@@ -119,7 +119,7 @@ impl Cells {
         self.put(buffer.format(figure).as_bytes())
     }
 
-    /// Puts a text with a quote before it.
+    /// Adds a text with a quote before it.
     fn put_quoted(&mut self, alloc: Global, text: &[u8]) -> Result<(), AllocError>
         ensures { PutsCells result self.old self.new ((39 ∷ text.now) ∷ []) }
     {
@@ -129,7 +129,7 @@ impl Cells {
         self.put(cell.as_slice())
     }
 
-    /// Puts a text: with a quote before it, where a spreadsheet would run it.
+    /// Adds a text, with a quote before it if a spreadsheet would run it as a formula.
     pub fn put_text(&mut self, alloc: Global, text: &[u8]) -> Result<(), AllocError>
         ensures { PutsCells result self.old self.new (cells.cell text.now ∷ []) }
     {
@@ -140,13 +140,13 @@ impl Cells {
         }
     }
 
-    /// Puts the row behind a text.
+    /// Writes the row at the end of a text.
     pub fn print(&self, alloc: Global, out: &mut Vec<u8>) -> Result<(), AllocError>
         ensures { PutsRows result out.old.items out.new.items (self.now ∷ []) }
     {
         match row_text(alloc, &self.row) {
             Ok(text) => out.extend_from_slice(text.as_slice()),
-            // A writer to memory fails for want of it alone.
+            // A writer to memory fails only for lack of memory.
             Err(_) => Err(AllocError),
         }
     }

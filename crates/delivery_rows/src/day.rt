@@ -8,7 +8,7 @@ use export::info_or;
 use std::alloc::{AllocError, Global};
 use toml::{Table, Value};
 
-/// A text, or the text of a date.
+/// Returns a text, or a date as text, and nothing for any other value.
 fn data_text(alloc: Global, value: &Value) -> Result<String, AllocError>
     ensures { IfOk result (λ text. string_bytes text ≡ days.data_text (view value.now)) }
 {
@@ -23,7 +23,7 @@ fn data_text(alloc: Global, value: &Value) -> Result<String, AllocError>
     }
 }
 
-/// The first of a list, as its text.
+/// Returns the first value of a list as text, or nothing.
 fn first_text(alloc: Global, dates: &Value) -> Result<String, AllocError>
     ensures { IfOk result (λ text. string_bytes text ≡ days.first_text (Some (view dates.now))) }
 {
@@ -33,7 +33,7 @@ fn first_text(alloc: Global, dates: &Value) -> Result<String, AllocError>
     }
 }
 
-/// The first of the `dates` in the table `[info]` of a sheet's document, as its text.
+/// Returns the first of the `dates` in the table `[info]` of a sheet's document as text, or nothing if it has none.
 pub fn day_of(alloc: Global, document: &Table) -> Result<String, AllocError>
     ensures { IfOk result (λ day. string_bytes day ≡ days.day_of (table_view document.now)) }
 {

@@ -22,7 +22,7 @@ use match_laws::opponent;
 use notation::{Ball, Out, Plain, Player, Side};
 use std::alloc::{AllocError, Global};
 
-/// Puts the match, and the innings.
+/// Adds the cells of the match and the innings.
 pub fn put_innings(
     alloc: Global,
     out: &mut Cells,
@@ -43,7 +43,7 @@ pub fn put_innings(
     out.put_text(alloc, sheet.name(opponent(side)).as_bytes())
 }
 
-/// Puts where a delivery stands.
+/// Adds the over from 0, the delivery in it from 1, and the place in the book.
 fn put_place(out: &mut Cells, now: &Standing, place: u32) -> Result<(), AllocError>
     ensures { PutsCells result out.old out.new (rows.place_cells now.now place) }
 {
@@ -52,7 +52,7 @@ fn put_place(out: &mut Cells, now: &Standing, place: u32) -> Result<(), AllocErr
     out.put_figure(u64::from(place))
 }
 
-/// Puts the name of who is at an end.
+/// Adds the name of the batter at an end, or an empty cell.
 fn put_batter(
     alloc: Global,
     out: &mut Cells,
@@ -68,7 +68,7 @@ fn put_batter(
     }
 }
 
-/// Puts who bats and who bowls.
+/// Adds the striker, the non-striker and the bowler.
 fn put_players(
     alloc: Global,
     out: &mut Cells,
@@ -84,7 +84,7 @@ fn put_players(
     out.put_text(alloc, sheet.player(opponent(side), bowler).as_bytes())
 }
 
-/// Puts the runs of a delivery, with the penalty runs that it carries.
+/// Adds the runs of a delivery, counting the penalty runs that it carries.
 fn put_runs(out: &mut Cells, ball: &Ball, penalty: u64) -> Result<(), AllocError>
     ensures { PutsCells result out.old out.new (rows.runs_cells (split_of_ball ball.now) penalty) }
 {
@@ -94,7 +94,7 @@ fn put_runs(out: &mut Cells, ball: &Ball, penalty: u64) -> Result<(), AllocError
     out.put_figure(whole_total(&split, penalty)?)
 }
 
-/// Puts the extras of a delivery by their kinds.
+/// Adds the extras of a delivery by kind.
 fn put_kinds(out: &mut Cells, ball: &Ball, penalty: u64) -> Result<(), AllocError>
     ensures { PutsCells result out.old out.new (rows.kinds_cells (split_of_ball ball.now) penalty) }
 {
@@ -106,7 +106,7 @@ fn put_kinds(out: &mut Cells, ball: &Ball, penalty: u64) -> Result<(), AllocErro
     out.put_figure(penalty)
 }
 
-/// Four or six off the bat, unless they were run.
+/// Returns `4` or `6` for a boundary off the bat, or else an empty text. `run` tells that the runs were no boundary.
 fn boundary(runs: u32, run: bool) -> &'static str
     ensures { result.now ≡ rows.boundary_cell runs run }
 {
@@ -119,7 +119,7 @@ fn boundary(runs: u32, run: bool) -> &'static str
     }
 }
 
-/// Puts whether a delivery is a boundary.
+/// Adds whether a delivery is a boundary.
 fn put_boundary(out: &mut Cells, ball: &Ball) -> Result<(), AllocError>
     ensures { PutsCells result out.old out.new
         (rows.boundary_cell (split_of_ball ball.now).striker (is_run ball.now) ∷ []) }
@@ -129,7 +129,7 @@ fn put_boundary(out: &mut Cells, ball: &Ball) -> Result<(), AllocError>
     out.put(text.as_bytes())
 }
 
-/// Puts the fielder, where one is recorded.
+/// Adds the fielder, or an empty cell if none is recorded.
 fn put_fielder(
     alloc: Global,
     out: &mut Cells,
@@ -146,7 +146,7 @@ fn put_fielder(
     out.put_text(alloc, name.as_bytes())
 }
 
-/// Puts a dismissal off a delivery.
+/// Adds a dismissal off a delivery: how, who was out, and the fielder.
 fn put_wicket(
     alloc: Global,
     out: &mut Cells,
@@ -164,7 +164,7 @@ fn put_wicket(
     put_fielder(alloc, out, sheet, side, dismissal.fielder)
 }
 
-/// Puts the dismissal off a delivery, where there is one.
+/// Adds the dismissal off a delivery, or three empty cells if there is none.
 fn put_out(
     alloc: Global,
     out: &mut Cells,
@@ -186,7 +186,7 @@ fn put_out(
     }
 }
 
-/// Puts what happened off a delivery, with the penalty runs that it carries.
+/// Adds what happened off a delivery, with the penalty runs that it carries.
 fn put_ball(
     alloc: Global,
     out: &mut Cells,
@@ -205,7 +205,7 @@ fn put_ball(
     put_out(alloc, out, sheet, side, ends, ball.bowler, ball.out)
 }
 
-/// Puts how the innings stands after a delivery.
+/// Adds the runs and wickets of the innings after a delivery.
 fn put_standing(out: &mut Cells, now: &Standing) -> Result<(), AllocError>
     ensures { PutsCells result out.old out.new (rows.standing_cells now.now) }
 {
@@ -213,7 +213,7 @@ fn put_standing(out: &mut Cells, now: &Standing) -> Result<(), AllocError>
     out.put_figure(now.wickets)
 }
 
-/// The cells of a delivery, after which the innings stands so.
+/// Returns the cells of a delivery. `now` is the score after it.
 fn delivery_cells(
     alloc: Global,
     innings: TableInnings<'_>,
@@ -236,7 +236,7 @@ fn delivery_cells(
     Ok(row)
 }
 
-/// Puts the row of a delivery, with the penalty runs that it carries, and gives how the innings stands after it.
+/// Writes the row of a delivery, with the penalty runs that it carries, and returns the score after the delivery.
 fn put_delivery(
     alloc: Global,
     out: &mut Vec<u8>,
@@ -263,7 +263,7 @@ fn put_delivery(
     Ok(now)
 }
 
-/// Puts the row of an item, where it is a delivery, and gives how the innings stands after it.
+/// Writes the row of an item, if it is a delivery, and returns the score after the item.
 pub fn put_item(
     alloc: Global,
     out: &mut Vec<u8>,

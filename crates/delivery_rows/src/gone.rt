@@ -1,4 +1,4 @@
-//! Who went between deliveries, each behind a bar.
+//! The batters who left between deliveries, with bars between them.
 
 ghost use Rattle.std.specs.Prelude.{◌≡◌, ◌++◌, ◌∷◌, [], drop, OnOk};
 ghost use Rattle.std.specs.List.{flat_map};
@@ -10,7 +10,7 @@ use archive_deliveries::{NamedSheet, Noted, leave_words, noted_at};
 use notation::{Plain, Side};
 use std::alloc::{AllocError, Global};
 
-/// Puts a text behind a bar.
+/// Writes a bar and a text.
 fn put_barred(out: &mut Vec<u8>, text: &[u8]) -> Result<(), AllocError>
     ensures { OnOk result (out.new.items ≡ out.old.items ++ (124 ∷ text.now)) }
 {
@@ -18,7 +18,7 @@ fn put_barred(out: &mut Vec<u8>, text: &[u8]) -> Result<(), AllocError>
     out.extend_from_slice(text)
 }
 
-/// Puts how somebody went, where an item says so.
+/// Writes a bar and how a batter left, if an item says that one did.
 fn put_way(out: &mut Vec<u8>, item: &Plain) -> Result<(), AllocError>
     ensures { OnOk result (out.new.items ≡ out.old.items ++ rows.gone_way item.now) }
 {
@@ -36,7 +36,7 @@ fn put_way(out: &mut Vec<u8>, item: &Plain) -> Result<(), AllocError>
     }
 }
 
-/// Puts who went, where an item says so.
+/// Writes a bar and the batter who left, if an item says that one did.
 fn put_name(
     out: &mut Vec<u8>,
     sheet: &NamedSheet<'_>,
@@ -59,7 +59,7 @@ fn put_name(
     }
 }
 
-/// Puts how they went, of these items.
+/// Writes how each batter left, from these items.
 fn put_ways(out: &mut Vec<u8>, items: &[Noted]) -> Result<(), AllocError>
     ensures { OnOk result (out.new.items ≡ out.old.items ++ flat_map (λ x. rows.gone_way x.item) items.now) }
 {
@@ -70,7 +70,7 @@ fn put_ways(out: &mut Vec<u8>, items: &[Noted]) -> Result<(), AllocError>
     Ok(())
 }
 
-/// Puts who went, of these items.
+/// Writes each batter who left, from these items.
 fn put_names(
     out: &mut Vec<u8>,
     sheet: &NamedSheet<'_>,
@@ -86,14 +86,14 @@ fn put_names(
     Ok(())
 }
 
-/// A text without its first bar.
+/// Returns a text without its first bar.
 fn without_bar(text: &[u8]) -> &[u8]
     ensures { result.now ≡ drop 1 text.now }
 {
     if text.is_empty() { text } else { &text[1..] }
 }
 
-/// Puts the cell of how they went.
+/// Adds the cell of how the batters left.
 fn put_ways_cell(
     alloc: Global,
     out: &mut Cells,
@@ -108,7 +108,7 @@ fn put_ways_cell(
     out.put_text(alloc, without_bar(text.as_slice()))
 }
 
-/// Puts the cell of who went.
+/// Adds the cell of the batters who left.
 fn put_names_cell(
     alloc: Global,
     out: &mut Cells,
@@ -125,7 +125,7 @@ fn put_names_cell(
     out.put_text(alloc, without_bar(text.as_slice()))
 }
 
-/// Puts the cells of who went between deliveries, and how.
+/// Adds the cells of how batters left between deliveries, and of who they were.
 pub fn put_others(
     alloc: Global,
     out: &mut Cells,

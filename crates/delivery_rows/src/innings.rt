@@ -18,15 +18,14 @@ use export::runs_before;
 use match_laws::Match;
 use std::alloc::{AllocError, Global};
 
-/// The items of an innings behind one of them, from this index on.
+/// The items of an innings that follow one of its items: those from the index `next` on.
 #[derive(Clone, Copy)]
 struct ItemsBehind<'m> {
     items: &'m [Noted],
     next: usize,
 }
 
-/// Puts the row of a delivery with what it carries, the items behind it up to the next one, and gives how the innings stands
-/// after it.
+/// Writes the row of a delivery with the items that it carries, those up to the next delivery, and returns the score after it.
 fn put_carrier(
     alloc: Global,
     out: &mut Vec<u8>,
@@ -50,7 +49,7 @@ fn put_carrier(
     put_item(alloc, out, innings, before, carrier)
 }
 
-/// Puts the rows of these items, of which the first delivery carries those too, and before which the innings stands so.
+/// Writes the rows of these items. The first delivery also carries the items `first`, and `start` is the score before it.
 fn put_rows(
     alloc: Global,
     out: &mut Vec<u8>,
@@ -77,7 +76,7 @@ fn put_rows(
     Ok(())
 }
 
-/// Puts the rows of an innings with these items, before whose first delivery so many penalty runs were awarded.
+/// Writes the rows of an innings with these items. `before` are the penalty runs awarded before its first delivery.
 fn put_items(
     alloc: Global,
     out: &mut Vec<u8>,
@@ -92,7 +91,7 @@ fn put_items(
     put_rows(alloc, out, innings, start, first.as_slice(), items)
 }
 
-/// Puts the rows of an innings. notes are the items of all innings.
+/// Writes the rows of an innings. `notes` are the items of all innings.
 fn put_innings(
     alloc: Global,
     out: &mut Vec<u8>,
@@ -107,7 +106,7 @@ fn put_innings(
     put_items(alloc, out, innings, before, items.as_slice())
 }
 
-/// Puts the rows of each innings that has begun.
+/// Writes the rows of each innings that has begun.
 pub fn put_all<'m>(
     alloc: Global,
     out: &mut Vec<u8>,

@@ -1,5 +1,5 @@
-//! The deliveries of a match as rows of CSV, for spreadsheets and databases: a row for each delivery of the export, and a table
-//! of the penalty runs that no delivery carries.
+//! The deliveries of a match as CSV, for spreadsheets and databases: a row for each delivery of the export, and a second table
+//! for the penalty runs that no delivery carries.
 #![tactic(auto, unfolding(crate::specs::Cells::rows_text))]
 
 mod cells;

@@ -15,7 +15,7 @@ use export::{runs_after, runs_before};
 use match_laws::Match;
 use std::alloc::{AllocError, Global};
 
-/// Puts the row of penalty runs that were awarded at this time, where there are any.
+/// Writes the row of the penalty runs that were awarded at this time (`pre` or `post`), if there are any.
 fn put_award(
     alloc: Global,
     out: &mut Vec<u8>,
@@ -36,7 +36,7 @@ fn put_award(
     row.print(alloc, out)
 }
 
-/// Puts the rows of an innings. notes are the items of all innings.
+/// Writes the rows of an innings' penalty runs. `notes` are the items of all innings.
 fn put_awards(
     alloc: Global,
     out: &mut Vec<u8>,
@@ -53,7 +53,7 @@ fn put_awards(
     put_award(alloc, out, innings, "post", after)
 }
 
-/// Puts the rows of each innings that has begun.
+/// Writes the rows of the penalty runs of each innings that has begun.
 pub fn put_all<'m>(
     alloc: Global,
     out: &mut Vec<u8>,

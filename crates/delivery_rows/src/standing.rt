@@ -1,4 +1,4 @@
-//! How an innings stands after a delivery.
+//! The score of an innings after a delivery.
 
 ghost use Rattle.std.specs.Prelude.{◌≡◌, IfOk, is_some};
 ghost use Rattle.ball_laws.specs.Sums.{one_if};
@@ -9,7 +9,7 @@ use ball_laws::runs_of;
 use notation::{Ball, Leave, Plain};
 use std::alloc::AllocError;
 
-/// How an innings stands after a delivery: its over from 0, its number in it from 1, and runs and wickets.
+/// The score of an innings after a delivery: the over from 0, the delivery's number in it from 1, runs and wickets.
 #[derive(Clone, Copy)]
 pub struct Standing {
     pub over: u32,
@@ -18,7 +18,7 @@ pub struct Standing {
     pub wickets: u64,
 }
 
-/// Whether somebody who went between deliveries is out.
+/// Whether a batter left between deliveries and is out.
 fn is_out(item: &Plain) -> bool
     ensures { result ≡ standings.is_out item.now }
 {
@@ -37,7 +37,7 @@ fn is_out(item: &Plain) -> bool
     }
 }
 
-/// The wickets that fell between deliveries.
+/// Returns how many wickets these items between deliveries are.
 fn fallen(items: &[Noted]) -> usize
     ensures { result ≡ standings.fallen items.now }
 {
@@ -53,7 +53,7 @@ fn own_wicket(ball: &Ball) -> u64
     }
 }
 
-/// The wickets that a delivery carries.
+/// Returns the wickets that a delivery carries: its own, and those of the items that it carries.
 fn wickets_of(early: &[Noted], ball: &Ball, late: &[Noted]) -> Result<u64, AllocError>
     ensures { IfOk result (λ count. count ≡ standings.wickets_of early.now ball.now late.now) }
 {
@@ -64,7 +64,7 @@ fn wickets_of(early: &[Noted], ball: &Ball, late: &[Noted]) -> Result<u64, Alloc
 }
 
 impl Standing {
-    /// Before the first delivery, with these penalty runs.
+    /// Returns the score before the first delivery, with these penalty runs.
     pub fn beginning(before: u64) -> Standing
         ensures { result ≡ standings.beginning before }
     {
@@ -76,14 +76,14 @@ impl Standing {
         }
     }
 
-    /// The deliveries so far of an over.
+    /// Returns how many deliveries an over has had so far.
     fn balls_of(self, over: u32) -> u64
         ensures { result ≡ standings.balls_of self over }
     {
         if over == self.over { self.ball } else { 0 }
     }
 
-    /// After a delivery of this over, with the penalty runs that it carries.
+    /// Returns the score after a delivery of this over, with the penalty runs that it carries.
     pub fn after(
         self,
         penalty: u64,

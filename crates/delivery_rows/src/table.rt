@@ -1,4 +1,4 @@
-//! A match as tables of CSV.
+//! A match as CSV tables.
 
 ghost use Rattle.std.specs.Prelude.{◌≡◌, string_bytes, IfOk};
 ghost use Rattle.match_laws.specs.Stands.{ForEachHistory};
@@ -17,7 +17,7 @@ use match_laws::Match;
 use std::alloc::{AllocError, Global};
 use toml::Table as Document;
 
-/// What the rows of a table are of.
+/// The kind of a table's rows.
 #[derive(Clone, Copy)]
 pub enum Table {
     /// Deliveries.
@@ -33,7 +33,7 @@ const DELIVERIES: &str = "match_id,start_date,innings,batting_team,bowling_team,
 
 const PENALTIES: &str = "match_id,start_date,innings,batting_team,bowling_team,awarded,penalty\n";
 
-/// The names of a table's columns.
+/// Returns the line with the names of a table's columns.
 fn columns_of(table: Table) -> &'static str
     ensures { result.now ≡ tables.columns_of table }
 {
@@ -43,14 +43,14 @@ fn columns_of(table: Table) -> &'static str
     }
 }
 
-/// A match's sheet, and its day.
+/// The sheet and the day of a match.
 #[derive(Clone, Copy)]
 struct DatedSheet<'m> {
     sheet: &'m NamedSheet<'m>,
     day: &'m str,
 }
 
-/// Puts the rows of a table.
+/// Writes the rows of a table.
 fn put_rows<'m>(
     alloc: Global,
     out: &mut Vec<u8>,
@@ -70,8 +70,8 @@ fn put_rows<'m>(
     }
 }
 
-/// The bytes of a table of a book: a line with the names of its columns, and a line for each row. The sides are told apart, as
-/// in an export, and the day is the first that the sheet's document tells.
+/// Returns a table of a book as bytes: a line with the names of its columns, and a line for each row. Two sides with one name
+/// are marked `(home)` and `(away)`, as in an export, and the day is the first date in the sheet's document.
 fn bytes_of<B: BookOf>(
     alloc: Global,
     table: Table,
@@ -105,8 +105,8 @@ fn bytes_of<B: BookOf>(
     Ok(out)
 }
 
-/// A table of a book as text: a line with the names of its columns, and a line for each row. The sides are told apart, as in an
-/// export, and the day is the first that the sheet's document tells.
+/// Returns a table of a book as text: a line with the names of its columns, and a line for each row. Two sides with one name
+/// are marked `(home)` and `(away)`, as in an export, and the day is the first date in the sheet's document.
 pub fn table_of<B: BookOf>(
     alloc: Global,
     table: Table,
@@ -120,7 +120,7 @@ pub fn table_of<B: BookOf>(
 {
     match String::from_utf8(bytes_of(alloc, table, sheet, document, book)?) {
         Ok(text) => Ok(text),
-        // Names, days and figures are text, and quotes leave them text.
+        // Names, days and figures are UTF-8, and the quotes added to them are too.
         Err(_) => Err(AllocError),
     }
 }

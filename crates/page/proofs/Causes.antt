@@ -1,4 +1,4 @@
--- Why an innings ended: the first of its items that ends it says so.
+-- Why an innings ended: as the first item that ends it says.
 use Rattle.std.proofs.Common.{◌≡◌, ℕ, ◌+◌, true, false, List, Option, Some, None, sym, ◌∙◌, drop}
 use Rattle.std.specs.Prelude.{is_some, slice_get}
 use Rattle.notation.specs.declared.entry.Cause.{Cause}

@@ -1,4 +1,4 @@
--- Texts put behind one another, of which the last may fail.
+-- Texts written one after another, of which the last may fail.
 use Rattle.std.proofs.Common.{◌≡◌, List, ℕ, ◌++◌}
 use Rattle.std.specs.Prelude.{Result, Ok, Err, OnOk, String, if◌then◌else◌, is_ok, string_bytes}
 use Rattle.std.specs.declared.alloc.Global.{Global}

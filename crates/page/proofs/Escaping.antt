@@ -1,4 +1,4 @@
--- No byte of what stands for a text is markup.
+-- No byte of an escaped text is markup.
 use Rattle.std.proofs.Common.{◌≡◌, ◌<◌, ◌≤◌, ℕ, suc, false, List, [], ◌∷◌, ◌++◌, length, get_or, inl, inr, refl, sym, arith, append-nil, chars, flat_map, encode_utf8, ne_eqb}
 use Rattle.std.specs.List.{list_any}
 use Rattle.std.proofs.lemmas.Bool.{cases_lt, cases_eq}
@@ -6,7 +6,7 @@ use Rattle.std.proofs.lemmas.List.Folds.{list_any-append}
 use Rattle.std.proofs.lemmas.Str.{encode_ascii, inside_one}
 use Rattle.page.specs.Escapes.{escaped, escaped_char, is_markup}
 
--- bytes from 128 on are none
+-- bytes from 128 on are not markup
 high : (xs : List ℕ) → ((k : ℕ) → k < length xs → 128 ≤ get_or xs k 0) → list_any is_markup xs ≡ false
 high [] h = refl
 high (x ∷ xs) h =

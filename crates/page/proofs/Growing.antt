@@ -1,4 +1,4 @@
--- What is put behind a text, part by part.
+-- A text that grows part by part.
 use Rattle.std.proofs.Common.{◌≡◌, ℕ, ◌+◌, ◌≤◌, List, ◌++◌, length, take, sym, ap, ◌∙◌, append-nil, append_assoc, Some}
 use Rattle.std.specs.Prelude.{slice_get}
 use Rattle.std.specs.List.{flat_map}
@@ -19,7 +19,7 @@ grows_both o p q ts us a b = b ∙ (ap (λ u. u ++ us) a ∙ append_assoc o ts u
 pub growing : InRow Grows
 growing = record { none = λ o. sym (append-nil o); both = grows_both }
 
--- what f makes of the elements of a list, one more
+-- a text of what f makes of each element of a list grows by one element
 pub grows_each : {X : Type 0} (old mid new : List ℕ) (f : X → List ℕ) (xs : List X) (k : ℕ) (x : X) →
     mid ≡ old ++ flat_map f (take k xs) → slice_get xs k ≡ Some x → new ≡ mid ++ f x → new ≡ old ++ flat_map f (take (k + 1) xs)
 grows_each old mid new f xs k x a here b =
@@ -30,6 +30,6 @@ pub grows_all : {X : Type 0} (old new : List ℕ) (f : X → List ℕ) (xs : Lis
     new ≡ old ++ flat_map f (take k xs) → length xs ≤ k → new ≡ old ++ flat_map f xs
 grows_all old new f xs k a all = rw (← take_all k xs all) a
 
--- what f makes of one number more
+-- a text of what f makes of each number below n grows by one number
 pub grows_up_to : (mid new : List ℕ) (f : ℕ → List ℕ) (n : ℕ) → mid ≡ up_to f n → new ≡ mid ++ f n → new ≡ up_to f (n + 1)
 grows_up_to mid new f n a b = b ∙ (ap (λ u. u ++ f n) a ∙ sym (up_to-more f n))

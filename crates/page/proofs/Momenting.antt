@@ -12,7 +12,7 @@ use Rattle.corrections.proofs.ScoringLemmas.{first_refused-cons}
 use Rattle.page.specs.declared.{moments.OverSoFar.OverSoFar, moments.Moment.Moment}
 use Rattle.page.specs.Moments.{last, moment, moments, over_so_far}
 
--- what was told of what stands up to what is left of it, none of which is refused, with the match and the over there
+-- the moments of the items before those left, none of which is refused, with the match and the over at that point
 pub record Telling (all left : List Placed) (n : ℕ) (score : Standing) (over : OverSoFar) (told : List Moment) : Type 0 where
   pub history : History
   pub stands : StandsFor score n history
@@ -36,7 +36,7 @@ module _ {T : Type 0} {all left : List Placed} {n : ℕ} {score later : Standing
     pub taken_one : StandsFor later n (x.item ∷ m.history)
     taken_one = stepped r n m.history x.item later (first_refused-cons n m.history x left m.taken).0 step
 
-    -- one item more
+    -- one more item
     pub tells_one : {over_now : OverSoFar} {more : List Moment} {y : Moment} → y ≡ moment m.history x.item → over_now ≡ over_so_far (x.item ∷ m.history) →
         more ≡ told ++ y ∷ [] → Telling all left n later over_now more
     tells_one y_so over_now_so added = record {
@@ -47,7 +47,7 @@ module _ {T : Type 0} {all left : List Placed} {n : ℕ} {score later : Standing
       whole = rw added (rw y_so (rw (append_assoc told) m.whole));
     }
 
--- nothing is left but the end
+-- only the end is left
 pub tells_all : {all : List Placed} {n : ℕ} {score : Standing} {over : OverSoFar} {told more : List Moment} {y : Moment} (m : Telling all [] n score over told) →
     y ≡ last m.history → more ≡ told ++ y ∷ [] → more ≡ moments [] all
 tells_all m y_so added = added ∙ rw y_so m.whole

@@ -1,5 +1,5 @@
--- The chart of the runs of each over of an innings: s is the sheet, n the innings a side, h the history, i the innings, ms the items
--- of the match. A chart is drawn upward from its lower edge, and an over is ten units wide.
+-- The chart of the runs of each over of an innings: s is the sheet, n the innings a side, h the history, i the innings, ms the
+-- items of the match. A chart's y axis points up, and an over is ten units wide.
 use Rattle.std.specs.Prelude.{ℕ, zero, suc, ◌+◌, ◌*◌, ◌==◌, ◌&&◌, nat_lt, Bool, true, false, is_some, if◌then◌else◌, List, [], ◌++◌, length, slice_get, Option, Some, None, codes, decimal}
 use Rattle.std.specs.List.{flat_map}
 use Rattle.notation.specs.declared.entry.{Plain.Plain, Side.Side}
@@ -12,7 +12,7 @@ use Rattle.json_fields.specs.Values.{up_to}
 use Rattle.page.specs.Innings.{title_html}
 use Rattle.page.specs.declared.moments.Moment.{Moment}
 
--- ---- which items end an over: its call, and the end of the innings or the book in an over that has a delivery
+-- ---- which items end an over: its call, and the end of the innings or the book, if the over has a delivery
 
 abbrev pub ends_at : Plain → Bool → Bool
 ends_at Plain.Over bowled = true
@@ -37,7 +37,7 @@ bar_svg called runs = rect_svg (called * 10) (runs * 6)
 abbrev pub ring_svg : ℕ → ℕ → List ℕ
 ring_svg x y = codes "<circle class='wicket' cx='" ++ (decimal x ++ (codes "' cy='" ++ (decimal y ++ codes "' r='3'/>")))
 
--- behind k others of the over
+-- the ring of a wicket, after k others of the over
 abbrev pub wicket_svg : ℕ → ℕ → ℕ → List ℕ
 wicket_svg called runs k = ring_svg (called * 10 + 4) (runs * 6 + (k * 7 + 5))
 
@@ -70,7 +70,7 @@ most_runs i ms = largest (λ k. runs_in i (slice_get ms k)) (length ms)
 abbrev pub most_overs : History → ℕ
 most_overs h = largest (overs h) (begun h)
 
--- for so many overs that were called, and one more
+-- the width for this many called overs, and one more
 abbrev pub width_of : ℕ → ℕ
 width_of called = called * 10 + 10
 
@@ -87,7 +87,7 @@ picture_front number width height =
 abbrev pub most_html : ℕ → List ℕ
 most_html runs = codes ", " ++ (decimal runs ++ codes " at most</figcaption>")
 
--- a side has its own colour, and each of its innings its own line
+-- the CSS class of an innings: each side has a colour, and each of its innings a line style
 abbrev pub line_class : Side → ℕ → List ℕ
 line_class Home i = if nat_lt i 2 then codes "s0" else codes "s2"
 line_class Away i = if nat_lt i 2 then codes "s1" else codes "s3"

@@ -1,4 +1,4 @@
--- The batting card of an innings, as a table: s is the sheet, h the history and i the innings. Each figure is the card's.
+-- The batting card of an innings, as a table: s is the sheet, h the history and i the innings. The figures are those of `card`.
 use Rattle.std.specs.Prelude.{ℕ, List, [], ◌++◌, Option, Some, None, codes, decimal}
 use Rattle.notation.specs.declared.entry.Side.{Side}
 use Rattle.ball_laws.specs.History.{History}
@@ -15,7 +15,7 @@ use Rattle.page.specs.declared.batting.TheConstants.{HEADINGS}
 use Rattle.page.specs.Dismissals.{fate_html}
 use Rattle.page.specs.Escapes.{name_html}
 
--- words below the first cell, where a telephone has no room beside it, and in a cell of their own
+-- words twice: under the name in the first cell, for the narrow screen of a telephone, and in a cell of their own
 abbrev pub words_cells : List ℕ → List ℕ
 words_cells words =
     codes "<span class='under'>" ++ (words ++ (codes "</span></th><td class='words how'>" ++ (words ++ codes "</td>")))
@@ -53,12 +53,12 @@ foot_row label words n = codes "<tr><th scope='row'>" ++ label ++ words_cells wo
 abbrev pub extras_row : Extras → List ℕ
 extras_row x = foot_row (codes "Extras") (kinds_text x) (all_extras x)
 
--- runs for each over, as a board tells them
+-- the run rate, as a board shows it
 abbrev pub rate_text : Option ℕ → List ℕ
 rate_text None = []
 rate_text (Some x) = codes ", " ++ (two_places x ++ codes " an over")
 
--- so many wickets, in so many overs and balls of another
+-- the wickets, the overs called, and the balls since
 abbrev pub down_text : ℕ → ℕ → ℕ → List ℕ
 down_text down called since = codes "for " ++ (decimal down ++ (codes " (" ++ (decimal called ++ (codes "." ++ (decimal since ++ codes " overs")))))
 

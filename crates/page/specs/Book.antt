@@ -10,7 +10,7 @@ use Rattle.page.specs.declared.book_part.TheConstants.{BOOK, CORRECTIONS}
 abbrev pub line_html : Entry → List ℕ
 line_html e = codes "<code>" ++ escaped (text_of e) ++ codes "</code>"
 
--- the line of a place, as it was penned
+-- the line at a place, as it was penned
 abbrev pub line_at : Option Entry → List ℕ
 line_at None = []
 line_at (Some e) = line_html e
@@ -18,7 +18,7 @@ line_at (Some e) = line_html e
 abbrev pub place_html : ℕ → List ℕ
 place_html place = codes "<tr><th scope='row'>" ++ (decimal place ++ codes "</th><td class='words'>")
 
--- a correction or a late entry, with what it does to the line of a place
+-- the row of a correction or a late entry: its place and line, and the line that it names
 abbrev pub row_html : List Entry → ℕ → Entry → List ℕ → ℕ → List ℕ
 row_html book place e words named =
     place_html place ++ line_html e ++ words ++ line_at (slice_get book named) ++ codes "</td></tr>\n"
@@ -31,7 +31,7 @@ correction_html book place (Late p x) = row_html book place (Late p x) (codes "<
 abbrev pub rows_html : List ℕ → List ℕ
 rows_html rows = CORRECTIONS.now ++ rows ++ codes "</tbody></table></details>\n"
 
--- in a fold, where there are any
+-- these rows as a table that can be folded, or that there is no correction
 abbrev pub fold_html : List ℕ → List ℕ
 fold_html [] = codes "<p>None of them is a correction.</p>\n"
 fold_html (b ∷ bs) = rows_html (b ∷ bs)

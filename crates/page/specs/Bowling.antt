@@ -1,4 +1,4 @@
--- The bowling card of an innings, as a table: s is the sheet, h the history and i the innings. Each figure is the card's.
+-- The bowling card of an innings, as a table: s is the sheet, h the history and i the innings. The figures are those of `card`.
 use Rattle.std.specs.Prelude.{ℕ, List, ◌++◌, codes, decimal}
 use Rattle.notation.specs.declared.entry.Side.{Side}
 use Rattle.ball_laws.specs.History.{History}
@@ -11,13 +11,13 @@ use Rattle.cards.specs.Sheet.{Sheet, name_of, player_of}
 use Rattle.page.specs.declared.bowling.TheConstants.{HEADINGS}
 use Rattle.page.specs.Escapes.{name_html}
 
--- overs and balls of others, maidens and runs debited
+-- the overs bowled alone, the balls in other overs, the maidens, and the runs debited
 abbrev pub figures_front : BowlingRow → List ℕ
 figures_front row =
     codes "</th><td>" ++ (decimal row.overs ++ (codes "." ++ (decimal row.balls ++ (codes "</td><td>" ++ (decimal row.maidens
     ++ (codes "</td><td>" ++ (decimal row.runs ++ codes "</td>")))))))
 
--- wickets, wides and no balls
+-- the wickets, the runs of wides, and the no balls
 abbrev pub figures_back : BowlingRow → List ℕ
 figures_back row =
     codes "<td>" ++ (decimal row.wickets ++ (codes "</td><td>" ++ (decimal row.wides ++ (codes "</td><td>" ++ (decimal row.noballs

@@ -14,6 +14,6 @@ figures_html s n h ms = CHARTS.now ++ all_bars s n h ms ++ growth_html s n h ms 
 abbrev pub charts_html : Sheet → ℕ → History → List Moment → List ℕ
 charts_html s n h ms = if begun h == 0 then [] else figures_html s n h ms
 
--- how a match went: each over, and its charts
+-- the course of a match: each over, and then the charts
 abbrev pub course_html : Sheet → ℕ → History → List Moment → List ℕ
 course_html s n h ms = in_section (all_overs s n h ms) ++ charts_html s n h ms

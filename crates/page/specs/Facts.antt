@@ -1,4 +1,4 @@
--- What a sheet tells of its match beside the sides: its table [info], in which nothing is checked.
+-- The facts of a match beside its sides: the sheet's table [info], whose values are not checked.
 use Rattle.std.specs.Prelude.{ℕ, zero, suc, List, [], ◌∷◌, ◌++◌, Option, Some, None, codes}
 use Rattle.std.specs.Fmt.{signed_decimal}
 use Rattle.toml.specs.Data as toml
@@ -9,7 +9,7 @@ use Rattle.page.specs.Escapes.{escaped}
 
 -- ---- the words of a value
 
--- a text, a whole number, or a day
+-- a text, a whole number or a date as text, and nothing for any other value
 abbrev pub word_of : Data → List ℕ
 word_of (toml.string text) = text
 word_of (toml.integer z) = signed_decimal z
@@ -20,18 +20,18 @@ abbrev pub word_at : Option Data → List ℕ
 word_at None = []
 word_at (Some d) = word_of d
 
--- one word behind another, where both are told
+-- two words, with a text between them if neither is empty
 abbrev pub joined : List ℕ → List ℕ → List ℕ → List ℕ
 joined [] between word = word
 joined (b ∷ bs) between [] = b ∷ bs
 joined (b ∷ bs) between (c ∷ cs) = (b ∷ bs) ++ between ++ (c ∷ cs)
 
--- of a list the first so many
+-- the first words of a list, up to this many
 abbrev pub first_of : Data → ℕ → List ℕ
 first_of d zero = []
 first_of d (suc k) = joined (first_of d k) (codes ", ") (word_at (at k d))
 
--- a word, or those of a list of twelve at most
+-- the word of a value, or the first twelve words of a list
 abbrev pub words_of : Option Data → List ℕ
 words_of None = []
 words_of (Some d) = joined (word_of d) (codes ", ") (first_of d 12)
@@ -46,7 +46,7 @@ told_in (Some ms) key = told key ms
 
 -- ---- the head of the page
 
--- something that is told, where it is
+-- a fact with its label, or nothing if its words are empty
 abbrev pub fact : List ℕ → List ℕ → List ℕ
 fact label [] = []
 fact label (b ∷ bs) = codes "<span>" ++ label ++ escaped (b ∷ bs) ++ codes "</span> "
@@ -66,6 +66,6 @@ who_html info =
     ++ fact (codes "Umpires: ") (told_in (table_in (codes "officials") info) (codes "umpires"))
     ++ fact (codes "Player of the match: ") (told (codes "player_of_match") info)
 
--- days, ground, toss, umpires and the player of the match
+-- the dates, the ground, the toss, the umpires and the player of the match
 abbrev pub facts_html : Members → List ℕ
 facts_html info = where_html info ++ who_html info

@@ -10,7 +10,7 @@ use Rattle.page.specs.Bars.{figure_front, is_drawn, largest, line_class, most_ov
 use Rattle.page.specs.Innings.{title_html}
 use Rattle.page.specs.declared.moments.Moment.{Moment}
 
--- ---- a line through the total behind each over, with a ring where a wicket fell in it
+-- ---- a line through the total after each over, with a ring if a wicket fell in the over
 
 abbrev pub point_svg : Moment → List ℕ
 point_svg m = codes "L" ++ (decimal (width_of m.overs) ++ (codes " " ++ decimal m.total))
@@ -34,7 +34,7 @@ line_of h ms i = line_svg (line_class (side_of h i) i) (flat_map (point_in i) ms
 abbrev pub all_lines : History → List Moment → List ℕ
 all_lines h ms = up_to (line_of h ms) (begun h)
 
--- ---- which line is that of an innings
+-- ---- the legend: a sample of the line of each innings
 
 abbrev pub stroke_svg : List ℕ → List ℕ
 stroke_svg class = codes "<li><svg viewBox='0 0 36 10' aria-hidden='true'><path class='growth " ++ (class ++ codes "' d='M1 5L35 5'/></svg>")

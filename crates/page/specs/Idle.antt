@@ -1,4 +1,4 @@
--- Who of a side didn't bat: s is the sheet, n the innings a side, h the history and i the innings.
+-- The players of a side who didn't bat: s is the sheet, n the innings a side, h the history and i the innings.
 use Rattle.std.specs.Prelude.{ℕ, ◌+◌, ◌==◌, ◌&&◌, Bool, true, false, is_none, if◌then◌else◌, List, [], ◌∷◌, ◌++◌, codes}
 use Rattle.notation.specs.declared.entry.Side.{Side}
 use Rattle.ball_laws.specs.History.{History}
@@ -11,7 +11,7 @@ use Rattle.cards.specs.Sheet.{Sheet, player_of}
 use Rattle.json_fields.specs.Values.{up_to}
 use Rattle.page.specs.Escapes.{name_html}
 
--- nothing became of the player in the innings: he neither came in nor was timed out
+-- the player, if he neither came in nor was timed out in the innings
 abbrev pub idle_at : History → ℕ → ℕ → List ℕ
 idle_at h i p = if is_none (fate h i p) then p ∷ [] else []
 
@@ -26,7 +26,7 @@ abbrev pub is_undecided : Outcome → Bool
 is_undecided Undecided = true
 is_undecided _ = false
 
--- the innings is in play, in a match that isn't decided
+-- the innings is in play, in a match without a result
 abbrev pub goes_on : ℕ → History → ℕ → Bool
 goes_on n h i = is_undecided (outcome n h) && (is_open h && (begun h == i + 1))
 

@@ -25,12 +25,12 @@ end_of _ = None
 abbrev pub end_in : ℕ → Moment → Option Cause
 end_in i x = if x.innings == i then end_of x.item else None
 
--- why innings i ended, where it has
+-- why innings i ended, if it has
 abbrev pub cause_in : ℕ → List Moment → Option Cause
 cause_in i [] = None
 cause_in i (x ∷ xs) = or_else (end_in i x) (cause_in i xs)
 
--- so many runs for so many wickets
+-- the runs for the wickets, and then these words
 abbrev pub runs_for : ℕ → ℕ → List ℕ → List ℕ
 runs_for runs down words = decimal runs ++ (codes " for " ++ (decimal down ++ words))
 
@@ -46,11 +46,11 @@ score_text None runs down = runs_for runs down []
 abbrev pub overs_text : ℕ → ℕ → List ℕ
 overs_text called since = codes " (" ++ (decimal called ++ (codes "." ++ (decimal since ++ codes " overs)")))
 
--- which of the side's innings it is, where each side has two
+-- which of the side's innings it is, if each side has two
 abbrev pub nth_text : ℕ → ℕ → List ℕ
 nth_text n earlier = if n == 1 then [] else codes ", innings " ++ decimal (1 + earlier)
 
--- the side that bats
+-- the name of the side that bats, and which of its innings it is
 abbrev pub title_html : Sheet → ℕ → History → ℕ → List ℕ
 title_html s n h i =
     codes "<span class='name'>" ++ escaped (name_of s (side_of h i)) ++ nth_text n (earlier_innings h (side_of h i) i) ++ codes "</span>"
@@ -63,7 +63,7 @@ abbrev pub side_word : Side → List ℕ
 side_word Home = codes "home"
 side_word Away = codes "away"
 
--- where the part of a side begins
+-- the front of an innings' section, with its number from 1
 abbrev pub section_front : ℕ → List ℕ → List ℕ
 section_front number side =
     codes "<section class='innings " ++ (side ++ (codes "' aria-labelledby='innings-" ++ (decimal number ++ (codes "'>\n<h2 id='innings-"
@@ -73,22 +73,22 @@ abbrev pub heading_html : Sheet → ℕ → History → ℕ → List Moment → 
 heading_html s n h i xs =
     section_front (i + 1) (side_word (side_of h i)) ++ title_html s n h i ++ codes " " ++ score_html h i (cause_in i xs)
 
--- the last innings of a match
+-- the last innings that the match can have
 abbrev pub is_last : Sheet → ℕ → Bool
 is_last s i = i + 1 == 2 * s.innings
 
 abbrev pub needed_html : Bool → ℕ → List ℕ
 needed_html last needed = if last then codes "<p class='target'><b>Target: </b>" ++ (decimal needed ++ codes "</p>\n") else []
 
--- what has to be reached, in the last innings
+-- the target, in the last innings only
 abbrev pub target_html : Sheet → History → ℕ → List ℕ
 target_html s h i = needed_html (is_last s i) (needed_in h i)
 
--- what the side that bats has
+-- the batting side's part: the target, the card, who didn't bat, and the falls
 abbrev pub batting_part : Sheet → ℕ → History → ℕ → List ℕ
 batting_part s n h i = target_html s h i ++ batting_html s h i ++ idle_html s n h i ++ falls_html s h i
 
--- what the side that fields has, and the partnerships
+-- the bowling card and the partnerships
 abbrev pub bowling_part : Sheet → History → List Moment → ℕ → List ℕ
 bowling_part s h xs i = codes "</div><div>\n" ++ bowling_html s h i ++ partnerships_html i xs ++ codes "</div></div></section>\n"
 

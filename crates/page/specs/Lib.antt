@@ -1,4 +1,4 @@
--- What the public calls claim: Escapes and Page, with its parts.
+-- What the public functions ensure: Escapes, and Page with its parts.
 pub mod Bars
 pub mod Batting
 pub mod Book

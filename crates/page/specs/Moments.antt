@@ -1,4 +1,4 @@
--- Each item of a match with what stood before it, and the score behind it. h is a history, the newest item first.
+-- Each item of a match, with the state of play before it and the score after it. h is a history, the newest item first.
 use Rattle.std.specs.Prelude.{ℕ, ◌+◌, ◌==◌, Bool, is_some, Some, if◌then◌else◌, List, [], ◌∷◌}
 use Rattle.notation.specs.declared.entry.{Ball.Ball, Plain.Plain}
 use Rattle.ball_laws.specs.History.{History, open_over}
@@ -14,7 +14,7 @@ use Rattle.page.specs.declared.{moments.OverSoFar.OverSoFar, moments.Moment.Mome
 abbrev pub is_out : Ball → Bool
 is_out b = is_some b.out
 
--- with a delivery more
+-- the over with one more delivery
 abbrev pub over_with : OverSoFar → Ball → OverSoFar
 over_with over b = record {
   bowler = Some b.bowler;
@@ -22,7 +22,7 @@ over_with over b = record {
   down = if is_out b then over.down + 1 else over.down;
 }
 
--- the over that is on: who bowled its last delivery, the runs of all of them, and how many wickets fell off them
+-- the over in progress: who bowled its last delivery, the runs of all its deliveries, and the wickets that fell off them
 abbrev pub over_so_far : History → OverSoFar
 over_so_far h = record {
   bowler = newest_bowler (open_over h);
@@ -37,7 +37,7 @@ total_now h = if begun h == 0 then 0 else total h (current h)
 abbrev pub wickets_now : History → ℕ
 wickets_now h = if begun h == 0 then 0 else wickets h (current h)
 
--- an item behind the history, without the score behind it
+-- an item with the state of play before it, without the score after it
 abbrev pub before : History → Plain → Moment
 before h x = record {
   innings = 0;
@@ -50,18 +50,18 @@ before h x = record {
   item = x;
 }
 
--- the same with the score of the history that it makes
+-- the item with the score after it, that of the history h
 abbrev pub behind : Moment → History → Moment
 behind m h = record m { innings = current h; total = total_now h; wickets = wickets_now h }
 
 abbrev pub moment : History → Plain → Moment
 moment h x = behind (before h x) (x ∷ h)
 
--- the end of a clean list, for which a `void` stands
+-- the end of a clean list, which has a `void` as its item
 abbrev pub last : History → Moment
 last h = behind (before h Plain.Void) h
 
--- the items of a clean list behind the history, and its end
+-- the items of a clean list that follow the history, and then its end
 abbrev pub moments : History → List Placed → List Moment
 moments h [] = last h ∷ []
 moments h (x ∷ xs) = moment h x.item ∷ moments (x.item ∷ h) xs

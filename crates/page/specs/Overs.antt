@@ -21,29 +21,29 @@ abbrev pub is_bat : Kind → Bool
 is_bat Bat = true
 is_bat _ = false
 
--- a boundary's runs or more, or extras, stand out
+-- deliveries that stand out: four runs or more, or extras
 abbrev pub is_more : Ball → Bool
 is_more b = nat_le 4 (runs_of b) || not (is_bat b.kind)
 
 abbrev pub ball_front : Ball → List ℕ
 ball_front b = if is_some b.out then codes "<li class='wicket'>" else (if is_more b then codes "<li class='more'>" else codes "<li>")
 
--- its mark, in which a dot is a bullet
+-- the mark of a delivery, with a bullet for a dot ball
 abbrev pub mark_html : Ball → List ℕ
 mark_html b = if (runs_of b == 0) && not (is_some b.out) then codes "&bull;" else mark_of b
 
 abbrev pub ball_html : Ball → List ℕ
 ball_html b = ball_front b ++ mark_html b ++ dead_mark b.dead ++ codes "</li>"
 
--- who bowls from here on
+-- who bowls the deliveries that follow
 abbrev pub bowler_html : List ℕ → List ℕ
 bowler_html name = codes "<span class='bowlers'>" ++ name_html name ++ codes "</span> <ol class='marks'>"
 
--- the row of an over begins
+-- the front of an over's row, with its number from 1
 abbrev pub row_front : ℕ → List ℕ
 row_front number = codes "<tr><th scope='row'>" ++ (decimal number ++ codes "</th><td class='words'>")
 
--- before a delivery: its over begins, or another bowler goes on
+-- before a delivery: the front of the over if it is the first, or else the bowler if he has changed
 abbrev pub before_ball : Option ℕ → ℕ → ℕ → List ℕ → List ℕ
 before_ball None overs bowler name = row_front (overs + 1) ++ bowler_html name
 before_ball (Some last) overs bowler name = if last == bowler then [] else codes "</ol> " ++ bowler_html name
@@ -59,19 +59,19 @@ balls_word balls = if balls == 1 then codes " ball)</span>" else codes " balls)<
 abbrev pub counted_html : ℕ → List ℕ → List ℕ
 counted_html balls word = codes "</ol> <span class='note'>(" ++ (decimal balls ++ word)
 
--- how many deliveries of an over count, unless they are six
+-- how many deliveries of an over count, unless there are six
 abbrev pub count_html : ℕ → List ℕ
 count_html balls = if balls == 6 then codes "</ol>" else counted_html balls (balls_word balls)
 
--- the runs of its deliveries, and the score
+-- the runs of the over's deliveries, and the score after it
 abbrev pub row_end : Moment → List ℕ
 row_end m = codes "</td><td>" ++ decimal m.over.runs ++ score_html m.total m.wickets
 
--- one that wasn't called ends with the innings, or stands open
+-- the end of an over that wasn't called, if it has a delivery
 abbrev pub open_end : Moment → List ℕ
 open_end m = if is_some m.over.bowler then codes "</ol>" ++ row_end m else []
 
--- ---- what happens beside deliveries: among those of an over, or in a row of its own
+-- ---- events other than deliveries: within the over if one is on, or else in a row of their own
 
 abbrev pub among_html : List ℕ → List ℕ
 among_html text = codes "<li class='aside'>" ++ text ++ codes "</li>"
@@ -96,11 +96,11 @@ item_html s side m (Plain.End cause) = open_end m
 item_html s side m Plain.Void = open_end m
 item_html s side m _ = []
 
--- while the innings is open
+-- an item, if it belongs to innings i and the innings was open before it
 abbrev pub moment_html : Sheet → Side → ℕ → Moment → List ℕ
 moment_html s side i m = if (m.innings == i) && m.on then item_html s side m m.item else []
 
--- ---- an innings, and all of them: nothing, where there is no row
+-- ---- the table of an innings, and those of all: nothing if there are no rows
 
 abbrev pub caption_html : List ℕ → List ℕ
 caption_html title = codes "<table><caption>" ++ title ++ HEADINGS.now

@@ -21,7 +21,7 @@ use Rattle.page.specs.Moments.{moments}
 use Rattle.page.specs.Charts.{course_html}
 use Rattle.page.specs.declared.template.TheConstants.{FRONT, STYLE, MAIN, END}
 
--- a result in words, or that there is none yet
+-- a result in words, or `no result yet`
 abbrev pub result_or_none : Option (List ℕ) → List ℕ
 result_or_none None = codes "no result yet"
 result_or_none (Some words) = words
@@ -29,7 +29,7 @@ result_or_none (Some words) = words
 abbrev pub result_html : Sheet → ℕ → History → List ℕ
 result_html s n h = escaped (result_or_none (result_text s (outcome n h)))
 
--- the head of the file, with the words of a window
+-- the head of the file, with the title of the window
 abbrev pub front_html : List ℕ → List ℕ → List ℕ
 front_html title result = FRONT.now ++ title ++ codes ": " ++ result ++ STYLE.now
 
@@ -39,7 +39,7 @@ result_line words = codes "<p id='result'>" ++ (words ++ codes "</p>\n")
 abbrev pub laws_line : List ℕ → List ℕ
 laws_line words = codes "<p id='by-laws'>By the Laws: " ++ (words ++ codes "</p>\n")
 
--- the result: what the umpires said, where they did, and then what follows by the Laws
+-- the result: what the umpires said, if anything, and then the result by the Laws
 abbrev pub ruling_html : List ℕ → List ℕ → List ℕ
 ruling_html [] laws = result_line laws
 ruling_html (b ∷ bs) laws = result_line (b ∷ bs) ++ laws_line laws
@@ -47,22 +47,22 @@ ruling_html (b ∷ bs) laws = result_line (b ∷ bs) ++ laws_line laws
 abbrev pub title_html : List ℕ → List ℕ → List ℕ
 title_html title facts = title ++ (codes "</h1>\n<p id='facts'>" ++ (facts ++ codes "</p>\n"))
 
--- what stands at the head of the page
+-- the head of the page
 abbrev pub header_html : List ℕ → List ℕ → List ℕ → List ℕ → List ℕ
 header_html title facts ruled laws = title_html title facts ++ ruling_html ruled laws ++ MAIN.now
 
--- what the umpires said, unless the Laws say the same
+-- what the umpires said, or nothing if the result by the Laws is the same
 abbrev pub unless_same : List ℕ → List ℕ → List ℕ
 unless_same ruled laws = if bytes_eq ruled laws then [] else ruled
 
 abbrev pub window_html : List ℕ → List ℕ → List ℕ → List ℕ
 window_html title ruled laws = front_html title (or_words ruled laws)
 
--- both heads
+-- the head of the file and the head of the page
 abbrev pub heads_html : List ℕ → List ℕ → List ℕ → List ℕ → List ℕ
 heads_html title facts ruled laws = window_html title ruled laws ++ header_html title facts ruled laws
 
--- the same, by the sheet's table [info]
+-- both heads; an umpires' result that equals the result by the Laws appears only once
 abbrev pub head_html : List ℕ → List ℕ → List ℕ → List ℕ → List ℕ
 head_html title facts ruled laws = heads_html title facts (unless_same ruled laws) laws
 
@@ -82,7 +82,7 @@ main_html s n book = cards_html s n (history_of book) (moments [] (clean book))
     ++ book_html book
     ++ END.now
 
--- both heads by the sheet's table [info], with the result by the Laws in these words
+-- both heads, from the sheet's table [info], with these words as the result by the Laws
 abbrev pub top_with : Sheet → Members → List ℕ → List ℕ
 top_with s info laws = head_html (escaped (title_text s info)) (facts_html info) (escaped (ruled_text info)) laws
 

@@ -1,11 +1,11 @@
--- What the umpires said of a result: the `outcome` of the sheet's table [info].
+-- The result as the umpires gave it: the `outcome` of the sheet's table [info].
 use Rattle.std.specs.Prelude.{ℕ, bytes_eq, if◌then◌else◌, List, [], ◌∷◌, ◌++◌, Option, Some, None, codes}
 use Rattle.toml.specs.Data.{Members}
 use Rattle.export.specs.Given.{table_in}
 use Rattle.page.specs.Facts.{joined, told, told_in}
 use Rattle.page.specs.Title.{or_words}
 
--- so many of these, where it is told
+-- a number with its unit, or nothing if there is no number
 abbrev pub counted_text : List ℕ → List ℕ → List ℕ → List ℕ
 counted_text [] one many = []
 counted_text (b ∷ bs) one many = (b ∷ bs) ++ (if bytes_eq (b ∷ bs) (codes "1") then one else many)
@@ -14,7 +14,7 @@ abbrev pub innings_text : List ℕ → List ℕ
 innings_text [] = []
 innings_text (b ∷ bs) = codes "an innings"
 
--- by an innings, runs and wickets
+-- the margin: an innings, runs and wickets
 abbrev pub margin_text : Option Members → List ℕ
 margin_text by =
     joined
@@ -25,20 +25,20 @@ abbrev pub behind_words : List ℕ → List ℕ → List ℕ → List ℕ
 behind_words before [] after = []
 behind_words before (b ∷ bs) after = before ++ (b ∷ bs) ++ after
 
--- penalty runs, where the method is theirs, are the margin
+-- the method if it is penalty runs, which are a margin
 abbrev pub penalty_in : List ℕ → List ℕ
 penalty_in method = if bytes_eq method (codes "penalty runs") then method else []
 
 abbrev pub method_in : List ℕ → List ℕ
 method_in method = if bytes_eq method (codes "penalty runs") then [] else method
 
--- a result in a match's words
+-- a draw and a tie in words, and any other result as it is
 abbrev pub result_word : List ℕ → List ℕ
 result_word word =
     if bytes_eq word (codes "draw") then codes "match drawn"
     else (if bytes_eq word (codes "tie") then codes "match tied" else word)
 
--- who won, by how much, and by which method; or that nobody did
+-- who won, by how much and by which method, or nothing if there is no winner
 abbrev pub won_text : List ℕ → List ℕ → List ℕ → List ℕ
 won_text [] margin method = []
 won_text (b ∷ bs) margin method =
@@ -56,6 +56,6 @@ abbrev pub ruled_or_none : Option Members → List ℕ
 ruled_or_none None = []
 ruled_or_none (Some outcome) = ruled_by outcome
 
--- what the table [info] has of it
+-- what the umpires said, from the table [info]
 abbrev pub ruled_text : Members → List ℕ
 ruled_text info = ruled_or_none (table_in (codes "outcome") info)

@@ -6,7 +6,7 @@ use Rattle.match_laws.specs.Figures.{runs_of, faced_of}
 use Rattle.cards.specs.Columns.{lines_from}
 use Rattle.page.specs.declared.{moments.Moment.Moment, stands.Stand.Stand, stands.Partnership.Partnership, stands.TheConstants.HEADINGS}
 
--- ---- what came since the last wicket: all runs but penalty runs, and balls that were faced
+-- ---- since the last wicket: all runs but penalty runs, and the balls faced
 
 abbrev pub no_stand : Stand
 no_stand = record { runs = 0; balls = 0 }
@@ -17,7 +17,7 @@ stand_with b s = record { runs = s.runs + runs_of b; balls = s.balls + faced_of 
 abbrev pub stand_behind : Ball → Stand → Stand
 stand_behind b s = if is_some b.out then no_stand else stand_with b s
 
--- who is retired hurt may come in again
+-- a batter who retired hurt may come in again, so the stand goes on
 abbrev pub stand_left : Leave → Stand → Stand
 stand_left RetiredHurt s = s
 stand_left way s = no_stand
@@ -27,7 +27,7 @@ stand_after (Plain.Ball b) s = stand_behind b s
 stand_after (Plain.Gone way p) s = stand_left way s
 stand_after x s = s
 
--- ---- the partnership that an item ends, by what came before it
+-- ---- the partnership that an item ends, from the stand before the item
 
 abbrev pub ending : Bool → Stand → Partnership
 ending broken s = record { broken = broken; runs = s.runs; balls = s.balls }
@@ -39,7 +39,7 @@ abbrev pub ended_left : Leave → Stand → Option Partnership
 ended_left RetiredHurt s = None
 ended_left way s = Some (ending true s)
 
--- where the innings or the book ends
+-- the unbroken partnership at the end of the innings or the book
 abbrev pub unbroken : Stand → Option Partnership
 unbroken s = if (s.runs == 0) && (s.balls == 0) then None else Some (ending false s)
 
@@ -50,9 +50,9 @@ ended (Plain.End cause) s = unbroken s
 ended Plain.Void s = unbroken s
 ended x s = None
 
--- ---- those of an innings
+-- ---- the partnerships of an innings
 
--- while the innings is open
+-- an item belongs to innings i, and the innings was open before it
 abbrev pub is_within : ℕ → Moment → Bool
 is_within i m = (m.innings == i) && m.on
 
@@ -73,7 +73,7 @@ partnerships_from i s (m ∷ ms) = in_list (ended_in i m s) ++ partnerships_from
 abbrev pub partnerships : ℕ → List Moment → List Partnership
 partnerships i ms = partnerships_from i no_stand ms
 
--- ---- as a table: nothing, where there is none
+-- ---- the partnerships as a table, or nothing if there are none
 
 abbrev pub star : Bool → List ℕ
 star broken = if broken then [] else codes "*"

@@ -1,4 +1,4 @@
-//! The chart of the runs of each over of an innings. A chart is drawn upward from its lower edge, and an over is ten units wide.
+//! The chart of the runs of each over of an innings. A chart's y axis points up, and an over is ten units wide.
 
 ghost use Rattle.std.specs.Prelude.{◌≡◌, ◌+◌, ◌<◌, IfOk, Some, length, slice_get, string_bytes};
 ghost use Rattle.std.specs.List.{flat_map};
@@ -14,7 +14,7 @@ use match_laws::Match;
 use notation::{Plain, Side};
 use std::alloc::{AllocError, Global};
 
-/// Whether an over ends at an item: it is called, or its innings or the book ends with it.
+/// Whether an over ends at an item: its call, or the end of the innings or the book, if the over has a delivery.
 fn ends_over(moment: &Moment) -> bool
     ensures { result ≡ laws.ends_over moment.now }
 {
@@ -32,28 +32,28 @@ pub fn is_drawn(innings: usize, moment: &Moment) -> bool
     moment.innings == innings && (moment.on && ends_over(moment))
 }
 
-/// Puts a bar that stands there, so high.
+/// Writes a bar of this height at x.
 fn put_rect(out: &mut String, x: u64, height: u64) -> Result<(), AllocError>
     ensures { Puts result out.old out.new (laws.rect_svg x height) }
 {
     write!(out, "<rect x='{x}' y='0' width='8' height='{height}'/>")
 }
 
-/// Puts the bar of an over behind so many others, of so many runs.
+/// Writes the bar of an over with these runs, after this many overs.
 fn put_bar(out: &mut String, overs: u32, runs: u32) -> Result<(), AllocError>
     ensures { Puts result out.old out.new (laws.bar_svg overs runs) }
 {
     put_rect(out, u64::from(overs) * 10, u64::from(runs) * 6)
 }
 
-/// Puts a ring.
+/// Writes a ring with this centre.
 pub fn put_ring(out: &mut String, x: u64, y: u64) -> Result<(), AllocError>
     ensures { Puts result out.old out.new (laws.ring_svg x y) }
 {
     write!(out, "<circle class='wicket' cx='{x}' cy='{y}' r='3'/>")
 }
 
-/// Puts the ring of a wicket behind so many others of its over, above the bar.
+/// Writes the ring of a wicket above the bar, after this many others of the over.
 fn put_wicket(out: &mut String, overs: u32, runs: u32, others: u32) -> Result<(), AllocError>
     ensures { Puts result out.old out.new (laws.wicket_svg overs runs others) }
 {
@@ -62,7 +62,7 @@ fn put_wicket(out: &mut String, overs: u32, runs: u32, others: u32) -> Result<()
     put_ring(out, x, y)
 }
 
-/// Puts a ring for each wicket of an over.
+/// Writes a ring for each wicket of an over.
 fn put_wickets(out: &mut String, overs: u32, runs: u32, down: u32) -> Result<(), AllocError>
     ensures { Puts result out.old out.new (laws.wickets_svg overs runs down) }
 {
@@ -72,7 +72,7 @@ fn put_wickets(out: &mut String, overs: u32, runs: u32, down: u32) -> Result<(),
     Ok(())
 }
 
-/// Puts the bar of an over, with its rings.
+/// Writes the bar of an over, with its rings.
 fn put_over(out: &mut String, moment: &Moment) -> Result<(), AllocError>
     ensures { Puts result out.old out.new (laws.over_svg moment.now) }
 {
@@ -80,7 +80,7 @@ fn put_over(out: &mut String, moment: &Moment) -> Result<(), AllocError>
     put_wickets(out, moment.overs, moment.over.runs, moment.over.down)
 }
 
-/// Puts it, if an over of the innings ends there.
+/// Writes the bar of an over, if an over of the innings ends at the item.
 fn put_over_in(out: &mut String, innings: usize, moment: &Moment) -> Result<(), AllocError>
     ensures { Puts result out.old out.new (laws.over_in innings moment.now) }
 {
@@ -91,7 +91,7 @@ fn put_over_in(out: &mut String, innings: usize, moment: &Moment) -> Result<(), 
     }
 }
 
-/// The one at an index.
+/// Returns the item at an index.
 pub fn moment_at(moments: &[Moment], index: usize) -> Moment
     requires { index < length moments.now }
     ensures { slice_get moments.now index ≡ Some result }
@@ -99,7 +99,7 @@ pub fn moment_at(moments: &[Moment], index: usize) -> Moment
     moments[index]
 }
 
-/// The bars of an innings.
+/// Returns the bars of an innings.
 fn bars_of(alloc: Global, innings: usize, moments: &[Moment]) -> Result<String, AllocError>
     ensures { IfOk result (λ bars. string_bytes bars ≡ flat_map (laws.over_in innings) moments.now) }
 {
@@ -111,14 +111,14 @@ fn bars_of(alloc: Global, innings: usize, moments: &[Moment]) -> Result<String, 
     Ok(out)
 }
 
-/// The larger of two numbers.
+/// Returns the larger of two numbers.
 pub fn larger(one: u32, other: u32) -> u32
     ensures { result ≡ laws.larger one other }
 {
     if one < other { other } else { one }
 }
 
-/// The runs of an over of the innings that ends at an item; 0 for another item.
+/// Returns the runs of the innings' over that ends at an item, or 0 if none ends there.
 fn runs_in(innings: usize, moment: &Moment) -> u32
     ensures { result ≡ laws.runs_in innings (Some moment.now) }
 {
@@ -129,7 +129,7 @@ fn runs_in(innings: usize, moment: &Moment) -> u32
     }
 }
 
-/// The most runs of an over of an innings.
+/// Returns the most runs of any over of an innings.
 fn most_runs(innings: usize, moments: &[Moment]) -> u32
     ensures { result ≡ laws.most_runs innings moments.now }
 {
@@ -141,7 +141,7 @@ fn most_runs(innings: usize, moments: &[Moment]) -> u32
     most
 }
 
-/// The most overs that were called in an innings so far.
+/// Returns the most overs called in any innings so far.
 pub fn most_overs(score: &Match) -> u32
     ensures { ForEachHistory score.now (λ n h. result ≡ laws.most_overs h) }
 {
@@ -152,21 +152,21 @@ pub fn most_overs(score: &Match) -> u32
     most
 }
 
-/// How wide a chart is for so many overs that were called, and one more.
+/// Returns the width of a chart of this many called overs and one more.
 pub fn width_of(overs: u32) -> u64
     ensures { result ≡ laws.width_of overs }
 {
     u64::from(overs) * 10 + 10
 }
 
-/// Puts where a figure begins, to its caption.
+/// Writes the front of a figure, up to its caption.
 pub fn put_figure(out: &mut String, number: usize) -> Result<(), AllocError>
     ensures { Puts result out.old out.new (laws.figure_front number) }
 {
     write!(out, "<figure><figcaption id='chart-{number}'>")
 }
 
-/// Puts where its picture begins, so wide and so high.
+/// Writes the front of a figure's picture, of this width and height.
 pub fn put_picture(
     out: &mut String,
     number: usize,
@@ -181,14 +181,14 @@ pub fn put_picture(
     )
 }
 
-/// Puts the end of a caption.
+/// Writes the end of a caption: the most runs of an over.
 fn put_most(out: &mut String, runs: u32) -> Result<(), AllocError>
     ensures { Puts result out.old out.new (laws.most_html runs) }
 {
     write!(out, ", {runs} at most</figcaption>")
 }
 
-/// The line that an innings has.
+/// Returns the CSS class of an innings: each side has a colour, and each of its innings a line style.
 pub fn line_class(side: Side, innings: usize) -> &'static str
     ensures { result.now ≡ laws.line_class side innings }
 {
@@ -198,14 +198,14 @@ pub fn line_class(side: Side, innings: usize) -> &'static str
     }
 }
 
-/// Puts where the bars of a side begin.
+/// Writes the front of a group of bars of this CSS class.
 fn put_group(out: &mut String, class: &str) -> Result<(), AllocError>
     ensures { Puts result out.old out.new (laws.group_front class.now) }
 {
     write!(out, "<g class='{class}'>")
 }
 
-/// Puts the caption of the bars of an innings, of which one has the most runs.
+/// Writes the caption of the bars of an innings, with the most runs of an over.
 fn put_bars_caption(
     out: &mut String,
     sheet: &NamedSheet<'_>,
@@ -225,7 +225,7 @@ fn put_bars_caption(
     put_most(out, most)
 }
 
-/// Puts the bars of an innings, drawn so.
+/// Writes the picture of the bars of an innings, in this CSS class.
 fn put_bars_picture(
     out: &mut String,
     number: usize,
@@ -242,7 +242,7 @@ fn put_bars_picture(
     out.push_str("</g></g></svg></figure>\n")
 }
 
-/// Puts the chart of the runs of each over of an innings.
+/// Writes the chart of the runs of each over of an innings.
 fn put_bars(
     alloc: Global,
     out: &mut String,
@@ -265,7 +265,7 @@ fn put_bars(
     put_bars_picture(out, innings + 1, overs, most, class, bars.as_str())
 }
 
-/// Those of all innings.
+/// Returns the charts of the runs of each over, for all innings.
 pub fn all_bars(
     alloc: Global,
     sheet: &NamedSheet<'_>,

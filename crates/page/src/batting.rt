@@ -15,13 +15,13 @@ use match_laws::{BattingRow, Extras, Match, opponent};
 use notation::{Player, Side};
 use std::alloc::{AllocError, Global};
 
-/// What stands above the columns.
+/// The head of the table, with the names of its columns.
 pub const HEADINGS: &str =
     "<thead><tr><th scope='col' class='words'>Batter</th><th scope='col' class='words how'>How out</th>\
 <th scope='col'><abbr title='runs'>R</abbr></th><th scope='col'><abbr title='balls'>B</abbr></th>\
 <th scope='col'><abbr title='fours'>4</abbr></th><th scope='col'><abbr title='sixes'>6</abbr></th></tr></thead><tbody>\n";
 
-/// Puts words below the first cell and in one of their own.
+/// Writes words twice: under the name in the first cell, and in a cell of their own.
 fn put_words(out: &mut String, words: &str) -> Result<(), AllocError>
     ensures { Puts result out.old out.new (card.words_cells words.now) }
 {
@@ -31,7 +31,7 @@ fn put_words(out: &mut String, words: &str) -> Result<(), AllocError>
     )
 }
 
-/// Puts a batter's figures.
+/// Writes a batter's figures.
 fn put_figures(out: &mut String, row: &BattingRow) -> Result<(), AllocError>
     ensures { Puts result out.old out.new (card.figures_of row.now) }
 {
@@ -45,7 +45,7 @@ fn put_figures(out: &mut String, row: &BattingRow) -> Result<(), AllocError>
     )
 }
 
-/// Puts the row of a player of the side.
+/// Writes the row of a player of the side.
 fn put_row(
     alloc: Global,
     out: &mut String,
@@ -63,7 +63,7 @@ fn put_row(
     put_figures(out, row)
 }
 
-/// Puts the row of a batter.
+/// Writes the row of a batter.
 fn put_batter(
     alloc: Global,
     out: &mut String,
@@ -79,7 +79,7 @@ fn put_batter(
     put_row(alloc, out, sheet, score.side(innings), player, &row)
 }
 
-/// Puts a row for each who came in or was timed out.
+/// Writes a row for each batter who came in or was timed out.
 fn put_batters(
     alloc: Global,
     out: &mut String,
@@ -99,7 +99,7 @@ fn put_batters(
     Ok(())
 }
 
-/// All extras of an innings.
+/// Returns the sum of all extras of an innings.
 fn all_extras(extras: &Extras) -> u64
     ensures { result ≡ all_extras extras.now }
 {
@@ -107,7 +107,7 @@ fn all_extras(extras: &Extras) -> u64
     off_deliveries + u64::from(extras.noballs) + u64::from(extras.penalty)
 }
 
-/// The extras by their kinds.
+/// Returns the extras by kind, as text.
 fn kinds_of(alloc: Global, extras: &Extras) -> Result<String, AllocError>
     ensures { IfOk result (λ text. string_bytes text ≡ card.kinds_text extras.now) }
 {
@@ -119,7 +119,7 @@ fn kinds_of(alloc: Global, extras: &Extras) -> Result<String, AllocError>
     format!(in alloc; "b {byes}, lb {legs}, w {wides}, nb {noballs}, p {penalty}")
 }
 
-/// Puts runs of the whole innings.
+/// Writes runs of the whole innings, to the end of the row.
 fn put_runs(out: &mut String, runs: u64) -> Result<(), AllocError>
     ensures { Puts result out.old out.new (card.runs_cells runs) }
 {
@@ -129,7 +129,7 @@ fn put_runs(out: &mut String, runs: u64) -> Result<(), AllocError>
     )
 }
 
-/// Puts a row below the batters.
+/// Writes a row of the table's foot.
 fn put_foot_row(out: &mut String, label: &str, words: &str, runs: u64) -> Result<(), AllocError>
     ensures { Puts result out.old out.new (card.foot_row label.now words.now runs) }
 {
@@ -146,7 +146,7 @@ fn put_extras(alloc: Global, out: &mut String, extras: &Extras) -> Result<(), Al
     put_foot_row(out, "Extras", kinds.as_str(), all_extras(extras))
 }
 
-/// Puts runs for each over.
+/// Writes the run rate, given in hundredths of a run an over, or nothing if there is no rate.
 fn put_rate(out: &mut String, rate: Option<u64>) -> Result<(), AllocError>
     ensures { Puts result out.old out.new (card.rate_text rate) }
 {
@@ -159,14 +159,14 @@ fn put_rate(out: &mut String, rate: Option<u64>) -> Result<(), AllocError>
     }
 }
 
-/// Puts wickets, overs and balls.
+/// Writes the wickets, the overs called, and the balls since.
 fn put_down(out: &mut String, down: u32, called: u32, since: u32) -> Result<(), AllocError>
     ensures { Puts result out.old out.new (card.down_text down called since) }
 {
     write!(out, "for {down} ({called}.{since} overs")
 }
 
-/// Wickets and overs of an innings, and its rate.
+/// Returns the wickets and overs of an innings, and its run rate, as text.
 fn at_of(alloc: Global, score: &Match, innings: usize) -> Result<String, AllocError>
     requires { innings < begun_in score.now }
     ensures { ForEachHistory score.now (λ n h. IfOk result (λ text. string_bytes text ≡ card.at_text h innings)) }
@@ -193,7 +193,7 @@ fn put_total(
     put_foot_row(out, "Total", at.as_str(), u64::from(total))
 }
 
-/// Puts what stands above the batters.
+/// Writes the caption and the head of the table.
 fn put_front(
     out: &mut String,
     sheet: &NamedSheet<'_>,
@@ -210,7 +210,7 @@ fn put_front(
     out.push_str(HEADINGS)
 }
 
-/// Puts what stands below them.
+/// Writes the foot of the table: the extras and the total.
 fn put_foot(
     alloc: Global,
     out: &mut String,
@@ -226,7 +226,7 @@ fn put_foot(
     out.push_str("</tfoot></table>\n")
 }
 
-/// Puts the batting card of an innings.
+/// Writes the batting card of an innings.
 pub fn put_batting(
     alloc: Global,
     out: &mut String,

@@ -11,16 +11,16 @@ use corrections::BookOf;
 use notation::{Entry, line_of};
 use std::alloc::{AllocError, Global};
 
-/// Where the part begins.
+/// The front of the section.
 pub const BOOK: &str =
     "<section id='book' aria-labelledby='book-heading'>\n<h2 id='book-heading'>The book</h2>\n";
 
-/// What stands above the corrections.
+/// The front of the table of corrections and late entries.
 pub const CORRECTIONS: &str =
     "<details open><summary>Corrections and late entries</summary><table><thead><tr><th scope='col' class='words'>Place</th>\
 <th scope='col' class='words'>Line</th><th scope='col' class='words'>What it names</th></tr></thead><tbody>\n";
 
-/// Puts the line of an entry.
+/// Writes the line of an entry.
 fn put_line(out: &mut String, entry: &Entry) -> Result<(), AllocError>
     requires { IsEntry entry.now }
     ensures { Puts result out.old out.new (laws.line_html entry.now) }
@@ -31,7 +31,7 @@ fn put_line(out: &mut String, entry: &Entry) -> Result<(), AllocError>
     out.push_str("</code>")
 }
 
-/// Puts the line of a place, as it was penned.
+/// Writes the line at a place as it was penned, or nothing if the book has no such place.
 fn put_line_at<B: BookOf>(out: &mut String, book: &B, place: u32) -> Result<(), AllocError>
     ensures { Puts result out.old out.new (laws.line_at (slice_get (B.content book.now) place)) }
 {
@@ -48,7 +48,7 @@ fn put_place(out: &mut String, place: u32) -> Result<(), AllocError>
     write!(out, "<tr><th scope='row'>{place}</th><td class='words'>")
 }
 
-/// Puts a correction or a late entry, with what it does to the line of a place.
+/// Writes the row of a correction or a late entry: its place and line, and the line that it names.
 fn put_row<B: BookOf>(
     out: &mut String,
     book: &B,
@@ -67,7 +67,7 @@ fn put_row<B: BookOf>(
     out.push_str("</td></tr>\n")
 }
 
-/// Puts an entry, if it is a correction or a late one.
+/// Writes the row of an entry, if it is a correction or a late entry.
 fn put_correction<B: BookOf>(
     out: &mut String,
     book: &B,
@@ -98,7 +98,7 @@ fn put_correction<B: BookOf>(
     }
 }
 
-/// The rows of all of them.
+/// Returns the rows of all corrections and late entries of a book.
 fn rows_of<B: BookOf>(alloc: Global, book: &B) -> Result<String, AllocError>
     ensures { IfOk result (λ rows. string_bytes rows ≡ lines_from (laws.correction_html (B.content book.now)) 0 (B.content book.now)) }
 {
@@ -109,7 +109,7 @@ fn rows_of<B: BookOf>(alloc: Global, book: &B) -> Result<String, AllocError>
     Ok(out)
 }
 
-/// Puts these rows in a fold.
+/// Writes these rows as a table that can be folded.
 fn put_rows(out: &mut String, rows: &str) -> Result<(), AllocError>
     ensures { Puts result out.old out.new (laws.rows_html rows.now) }
 {
@@ -118,7 +118,7 @@ fn put_rows(out: &mut String, rows: &str) -> Result<(), AllocError>
     out.push_str("</tbody></table></details>\n")
 }
 
-/// Puts these rows in a fold, where there are any.
+/// Writes these rows as a table that can be folded, or that there is no correction.
 fn put_fold(out: &mut String, rows: &str) -> Result<(), AllocError>
     ensures { Puts result out.old out.new (laws.fold_html rows.now) }
 {
@@ -134,7 +134,7 @@ fn put_count(out: &mut String, lines: u32) -> Result<(), AllocError>
     writeln!(out, "<p>Lines: {lines}</p>")
 }
 
-/// Puts the corrections and late entries of a book.
+/// Writes the length of a book, and its corrections and late entries.
 pub fn put_book<B: BookOf>(alloc: Global, out: &mut String, book: &B) -> Result<(), AllocError>
     ensures { Puts result out.old out.new (laws.book_html (B.content book.now)) }
 {

@@ -11,14 +11,14 @@ use match_laws::{BowlingRow, Match, opponent};
 use notation::{Player, Side};
 use std::alloc::AllocError;
 
-/// What stands above the columns.
+/// The head of the table, with the names of its columns.
 pub const HEADINGS: &str =
     "<thead><tr><th scope='col' class='words'>Bowler</th><th scope='col'><abbr title='overs'>O</abbr></th>\
 <th scope='col'><abbr title='maidens'>M</abbr></th><th scope='col'><abbr title='runs'>R</abbr></th>\
 <th scope='col'><abbr title='wickets'>W</abbr></th><th scope='col'><abbr title='runs of wides'>wd</abbr></th>\
 <th scope='col'><abbr title='no balls'>nb</abbr></th></tr></thead><tbody>\n";
 
-/// Puts overs, maidens and runs.
+/// Writes the overs with balls, the maidens and the runs.
 fn put_figures_front(out: &mut String, row: &BowlingRow) -> Result<(), AllocError>
     ensures { Puts result out.old out.new (card.figures_front row.now) }
 {
@@ -32,7 +32,7 @@ fn put_figures_front(out: &mut String, row: &BowlingRow) -> Result<(), AllocErro
     )
 }
 
-/// Puts wickets, wides and no balls.
+/// Writes the wickets, the runs of wides and the no balls.
 fn put_figures_back(out: &mut String, row: &BowlingRow) -> Result<(), AllocError>
     ensures { Puts result out.old out.new (card.figures_back row.now) }
 {
@@ -45,7 +45,7 @@ fn put_figures_back(out: &mut String, row: &BowlingRow) -> Result<(), AllocError
     )
 }
 
-/// Puts the row of a player of the side.
+/// Writes the row of a player of the side.
 fn put_row(
     out: &mut String,
     sheet: &NamedSheet<'_>,
@@ -61,7 +61,7 @@ fn put_row(
     put_figures_back(out, row)
 }
 
-/// Puts the row of a bowler.
+/// Writes the row of a bowler.
 fn put_bowler(
     out: &mut String,
     sheet: &NamedSheet<'_>,
@@ -76,7 +76,7 @@ fn put_bowler(
     put_row(out, sheet, opponent(score.side(innings)), player, &row)
 }
 
-/// Puts a row for each who bowled.
+/// Writes a row for each player who bowled.
 fn put_bowlers(
     out: &mut String,
     sheet: &NamedSheet<'_>,
@@ -95,7 +95,7 @@ fn put_bowlers(
     Ok(())
 }
 
-/// Puts what stands above the bowlers of the side.
+/// Writes the caption and the head of the side's bowling table.
 fn put_front(out: &mut String, sheet: &NamedSheet<'_>, side: Side) -> Result<(), AllocError>
     ensures { Puts result out.old out.new (card.table_front sheet.now side) }
 {
@@ -105,7 +105,7 @@ fn put_front(out: &mut String, sheet: &NamedSheet<'_>, side: Side) -> Result<(),
     out.push_str(HEADINGS)
 }
 
-/// Puts the bowling card of an innings.
+/// Writes the bowling card of an innings.
 pub fn put_bowling(
     out: &mut String,
     sheet: &NamedSheet<'_>,

@@ -12,13 +12,13 @@ use archive_deliveries::NamedSheet;
 use match_laws::Match;
 use std::alloc::{AllocError, Global};
 
-/// Where the part begins.
+/// The front of the section.
 pub const CHARTS: &str =
     "<section id='charts' aria-labelledby='charts-heading'>\n<h2 id='charts-heading'>Charts</h2>\n\
 <p class='key'>A bar is an over, six units high for each run; a ring is a wicket. A line goes through the total behind each over.</p>\n\
 <div id='figures'>\n";
 
-/// Puts the charts of a match that has begun.
+/// Writes the charts of a match that has begun.
 fn put_figures(
     alloc: Global,
     out: &mut String,
@@ -36,7 +36,7 @@ fn put_figures(
     out.push_str("</div>\n</section>\n")
 }
 
-/// Puts the charts of a match, if it has begun.
+/// Writes the charts of a match, if it has begun.
 fn put_charts(
     alloc: Global,
     out: &mut String,
@@ -53,7 +53,7 @@ fn put_charts(
     put_figures(alloc, out, sheet, score, moments)
 }
 
-/// Puts how a match went: each over, and its charts.
+/// Writes the course of a match: each over, and then the charts.
 pub fn put_course(
     alloc: Global,
     out: &mut String,

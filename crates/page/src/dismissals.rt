@@ -1,4 +1,4 @@
-//! What became of a batter, in words.
+//! The fate of a batter, in words.
 
 ghost use Rattle.std.specs.Prelude.{◌≡◌, ◌==◌, ◌++◌, Some, IfOk, string_bytes};
 ghost use Rattle.match_laws.specs.declared.rows.Fate.TheVariants as Fates;
@@ -12,7 +12,7 @@ use match_laws::Fate;
 use notation::{How, Leave, Out, Player, Side};
 use std::alloc::{AllocError, Global};
 
-/// The name of a fielder of the side; `-` where none is recorded, and `sub` for a substitute.
+/// Returns the name of a fielder of the side: `-` if none is recorded, and `sub` for a substitute.
 fn fielder_name<'a>(sheet: &'a NamedSheet<'_>, side: Side, fielder: u8) -> &'a str
     ensures { result.now ≡ cards.fielder_name sheet.now side fielder }
 {
@@ -25,7 +25,7 @@ fn fielder_name<'a>(sheet: &'a NamedSheet<'_>, side: Side, fielder: u8) -> &'a s
     }
 }
 
-/// Puts words, and a name behind them.
+/// Writes words, and a name after them.
 fn put_by(out: &mut String, words: &str, name: &str) -> Result<(), AllocError>
     ensures { Puts result out.old out.new (words.now ++ name_html name.now) }
 {
@@ -33,7 +33,7 @@ fn put_by(out: &mut String, words: &str, name: &str) -> Result<(), AllocError>
     put_name(out, name)
 }
 
-/// Puts a way of being out by a fielder and off a bowler.
+/// Writes a dismissal by a fielder, off a bowler.
 fn put_both(out: &mut String, how: &str, fielder: &str, bowler: &str) -> Result<(), AllocError>
     ensures { Puts result out.old out.new (words.both_html how.now fielder.now bowler.now) }
 {
@@ -41,7 +41,7 @@ fn put_both(out: &mut String, how: &str, fielder: &str, bowler: &str) -> Result<
     put_by(out, " b ", bowler)
 }
 
-/// Puts a catch, which may be the bowler's own.
+/// Writes a catch, which may be the bowler's own.
 fn put_caught(out: &mut String, own: bool, fielder: &str, bowler: &str) -> Result<(), AllocError>
     ensures { Puts result out.old out.new (words.caught_html own fielder.now bowler.now) }
 {
@@ -52,7 +52,7 @@ fn put_caught(out: &mut String, own: bool, fielder: &str, bowler: &str) -> Resul
     }
 }
 
-/// Puts that a batter was run out by a fielder.
+/// Writes that a batter was run out by a fielder.
 fn put_run_out(out: &mut String, fielder: &str) -> Result<(), AllocError>
     ensures { Puts result out.old out.new (words.run_out_html fielder.now) }
 {
@@ -60,7 +60,7 @@ fn put_run_out(out: &mut String, fielder: &str) -> Result<(), AllocError>
     out.push_str(")")
 }
 
-/// Puts how a batter was out off a delivery, by a fielder, who may be the bowler, and off a bowler.
+/// Writes how a batter was out off a delivery. `own` tells that the fielder is the bowler.
 fn put_out(
     out: &mut String,
     how: How,
@@ -82,7 +82,7 @@ fn put_out(
     }
 }
 
-/// What is said of who leaves between deliveries.
+/// Returns how a batter left between deliveries, in words.
 pub fn left_words(way: Leave) -> &'static str
     ensures { result.now ≡ cards.left_text way }
 {
@@ -94,7 +94,7 @@ pub fn left_words(way: Leave) -> &'static str
     }
 }
 
-/// Puts how a batter was out off a delivery of this bowler, where this side fields.
+/// Writes how a batter was out off a delivery of this bowler. `side` is the fielding side.
 fn put_dismissal(
     out: &mut String,
     sheet: &NamedSheet<'_>,
@@ -109,7 +109,7 @@ fn put_dismissal(
     put_out(out, dismissal.how, own, fielder, sheet.player(side, bowler))
 }
 
-/// Puts what became of a batter, where this side fields.
+/// Writes the fate of a batter. `side` is the fielding side.
 fn put_fate(
     out: &mut String,
     sheet: &NamedSheet<'_>,
@@ -126,7 +126,7 @@ fn put_fate(
     }
 }
 
-/// What became of a batter, where this side fields: nothing for who neither came in nor was timed out.
+/// Returns the fate of a batter, or nothing if he neither came in nor was timed out. `side` is the fielding side.
 pub fn fate_of(
     alloc: Global,
     sheet: &NamedSheet<'_>,

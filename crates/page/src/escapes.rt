@@ -1,4 +1,4 @@
-//! Texts as HTML shows them.
+//! Texts escaped for HTML.
 
 ghost use Rattle.std.specs.Prelude.{◌≡◌, ◌++◌, IfOk, string_bytes};
 ghost use Rattle.page.specs.Escapes as escapes;
@@ -6,7 +6,7 @@ ghost use Rattle.page.specs.Escapes.{Puts};
 
 use std::alloc::{AllocError, Global};
 
-/// Puts a character, or its reference.
+/// Writes a character, or its HTML reference.
 fn put_char(out: &mut String, letter: char) -> Result<(), AllocError>
     ensures { Puts result out.old out.new (escapes.escaped_char letter) }
 {
@@ -20,7 +20,7 @@ fn put_char(out: &mut String, letter: char) -> Result<(), AllocError>
     }
 }
 
-/// Puts a text as HTML shows it.
+/// Writes a text, escaped for HTML.
 pub fn put_escaped(out: &mut String, text: &str) -> Result<(), AllocError>
     ensures { Puts result out.old out.new (escapes.escaped text.now) }
 {
@@ -30,7 +30,7 @@ pub fn put_escaped(out: &mut String, text: &str) -> Result<(), AllocError>
     Ok(())
 }
 
-/// Puts a name, which is never broken.
+/// Writes a name in an element that keeps it on one line.
 pub fn put_name(out: &mut String, name: &str) -> Result<(), AllocError>
     ensures { Puts result out.old out.new (escapes.name_html name.now) }
 {
@@ -39,7 +39,7 @@ pub fn put_name(out: &mut String, name: &str) -> Result<(), AllocError>
     out.push_str("</span>")
 }
 
-/// A text as HTML shows it.
+/// Returns a text, escaped for HTML.
 pub fn escaped(alloc: Global, text: &str) -> Result<String, AllocError>
     ensures { IfOk result (λ shown. string_bytes shown ≡ escapes.escaped text.now) }
 {

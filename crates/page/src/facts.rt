@@ -1,4 +1,4 @@
-//! What a sheet tells of its match beside the sides: its table `[info]`, in which nothing is checked.
+//! The facts of a match beside its sides: the sheet's table `[info]`, whose values are not checked.
 
 ghost use Rattle.std.specs.Prelude.{◌≡◌, Some, OnOk, IfOk, codes, option_map, string_bytes};
 ghost use Rattle.std.specs.Fmt.{signed_decimal};
@@ -13,10 +13,10 @@ use itoa::Buffer;
 use std::alloc::{AllocError, Global};
 use toml::{Table, Value};
 
-/// How many of a list are told at most.
+/// The most values of a list that are shown.
 const MOST: usize = 12;
 
-/// The text of a whole number.
+/// Returns a whole number as text.
 fn whole_text(alloc: Global, number: i64) -> Result<String, AllocError>
     ensures { IfOk result (λ text. string_bytes text ≡ signed_decimal number) }
 {
@@ -24,7 +24,7 @@ fn whole_text(alloc: Global, number: i64) -> Result<String, AllocError>
     String::from_str(alloc, buffer.format(number))
 }
 
-/// A text, a whole number or a day.
+/// Returns a text, a whole number or a date as text, and nothing for any other value.
 fn word_of(alloc: Global, value: &Value) -> Result<String, AllocError>
     ensures { IfOk result (λ text. string_bytes text ≡ laws.word_of (view value.now)) }
 {
@@ -38,7 +38,7 @@ fn word_of(alloc: Global, value: &Value) -> Result<String, AllocError>
     }
 }
 
-/// The word at an index of a list.
+/// Returns the word at an index of a list, or nothing.
 fn word_at(alloc: Global, list: &Value, index: usize) -> Result<String, AllocError>
     ensures { IfOk result (λ text. string_bytes text ≡ laws.word_at (at index (view list.now))) }
 {
@@ -48,7 +48,7 @@ fn word_at(alloc: Global, list: &Value, index: usize) -> Result<String, AllocErr
     }
 }
 
-/// Puts a word behind another one, with this between where both are told.
+/// Adds a word to a text, with this between them if neither is empty.
 pub fn join(out: &mut String, between: &str, word: &str) -> Result<(), AllocError>
     ensures { OnOk result (string_bytes out.new ≡ laws.joined (string_bytes out.old) between.now word.now) }
 {
@@ -58,7 +58,7 @@ pub fn join(out: &mut String, between: &str, word: &str) -> Result<(), AllocErro
     out.push_str(word)
 }
 
-/// The first of a list, with commas between.
+/// Returns the first 12 words of a list, with commas between them.
 fn list_of(alloc: Global, value: &Value) -> Result<String, AllocError>
     ensures { IfOk result (λ text. string_bytes text ≡ laws.first_of (view value.now) 12) }
 {
@@ -70,7 +70,7 @@ fn list_of(alloc: Global, value: &Value) -> Result<String, AllocError>
     Ok(out)
 }
 
-/// A word, or those of a list.
+/// Returns the word of a value, or the words of a list.
 fn words_of(alloc: Global, value: &Value) -> Result<String, AllocError>
     ensures { IfOk result (λ text. string_bytes text ≡ laws.words_of (Some (view value.now))) }
 {
@@ -80,7 +80,7 @@ fn words_of(alloc: Global, value: &Value) -> Result<String, AllocError>
     Ok(out)
 }
 
-/// The words at a key of a table.
+/// Returns the words at a key of a table, or nothing.
 pub fn told(alloc: Global, table: &Table, key: &str) -> Result<String, AllocError>
     ensures { IfOk result (λ text. string_bytes text ≡ laws.told key.now (table_view table.now)) }
 {
@@ -90,7 +90,7 @@ pub fn told(alloc: Global, table: &Table, key: &str) -> Result<String, AllocErro
     }
 }
 
-/// The table at a key of a table.
+/// Returns the table at a key of a table.
 pub fn table_at<'a>(table: &'a Table, key: &str) -> Option<&'a Table>
     ensures { option_map (λ inner. table_view inner.now) result ≡ table_in key.now (table_view table.now) }
 {
@@ -100,7 +100,7 @@ pub fn table_at<'a>(table: &'a Table, key: &str) -> Option<&'a Table>
     }
 }
 
-/// The words at a key of a table, if there is one.
+/// Returns the words at a key of a table, or nothing if there is no table.
 pub fn told_in(alloc: Global, table: Option<&Table>, key: &str) -> Result<String, AllocError>
     ensures { IfOk result (λ text. string_bytes text ≡ laws.told_in (option_map (λ inner. table_view inner.now) table.entry) key.now) }
 {
@@ -110,7 +110,7 @@ pub fn told_in(alloc: Global, table: Option<&Table>, key: &str) -> Result<String
     }
 }
 
-/// Puts something that is told, where it is.
+/// Writes a fact with its label, or nothing if its words are empty.
 fn put_fact(out: &mut String, label: &str, words: &str) -> Result<(), AllocError>
     ensures { Puts result out.old out.new (laws.fact label.now words.now) }
 {
@@ -123,7 +123,7 @@ fn put_fact(out: &mut String, label: &str, words: &str) -> Result<(), AllocError
     out.push_str("</span> ")
 }
 
-/// Who won the toss, and what he chose.
+/// Returns who won the toss and what they chose.
 fn toss_of(alloc: Global, toss: Option<&Table>) -> Result<String, AllocError>
     ensures { IfOk result (λ text. string_bytes text ≡ laws.toss_text (option_map (λ inner. table_view inner.now) toss.entry)) }
 {
@@ -133,7 +133,7 @@ fn toss_of(alloc: Global, toss: Option<&Table>) -> Result<String, AllocError>
     Ok(out)
 }
 
-/// The ground.
+/// Returns the ground: the venue and the city.
 fn place_of(alloc: Global, info: &Table) -> Result<String, AllocError>
     ensures { IfOk result (λ text. string_bytes text ≡ laws.place_text (table_view info.now)) }
 {
@@ -143,7 +143,7 @@ fn place_of(alloc: Global, info: &Table) -> Result<String, AllocError>
     Ok(out)
 }
 
-/// Puts the days and the ground.
+/// Writes the dates and the ground.
 fn put_where(alloc: Global, out: &mut String, info: &Table) -> Result<(), AllocError>
     ensures { Puts result out.old out.new (laws.where_html (table_view info.now)) }
 {
@@ -153,7 +153,7 @@ fn put_where(alloc: Global, out: &mut String, info: &Table) -> Result<(), AllocE
     put_fact(out, "", place.as_str())
 }
 
-/// Puts toss, umpires and the player of the match.
+/// Writes the toss, the umpires and the player of the match.
 fn put_who(alloc: Global, out: &mut String, info: &Table) -> Result<(), AllocError>
     ensures { Puts result out.old out.new (laws.who_html (table_view info.now)) }
 {
@@ -165,7 +165,7 @@ fn put_who(alloc: Global, out: &mut String, info: &Table) -> Result<(), AllocErr
     put_fact(out, "Player of the match: ", player.as_str())
 }
 
-/// What is told beside the sides, as HTML shows it.
+/// Returns the facts of a match beside its sides, escaped for HTML.
 pub fn facts_of(alloc: Global, info: &Table) -> Result<String, AllocError>
     ensures { IfOk result (λ text. string_bytes text ≡ laws.facts_html (table_view info.now)) }
 {

@@ -1,4 +1,4 @@
-//! Where the wickets of an innings fell.
+//! The falls of the wickets of an innings.
 
 ghost use Rattle.std.specs.Prelude.{◌≡◌, ◌+◌, ◌<◌, Some, slice_get};
 ghost use Rattle.match_laws.specs.Stands.{ForEachHistory, begun_in};
@@ -13,14 +13,14 @@ use match_laws::{Fall, Match};
 use notation::Side;
 use std::alloc::{AllocError, Global};
 
-/// Puts which wicket it was, and the total.
+/// Writes the number of the wicket, and the total at its fall.
 fn put_score(out: &mut String, number: usize, total: u32) -> Result<(), AllocError>
     ensures { Puts result out.old out.new (laws.score_html number total) }
 {
     write!(out, "<span class='fall'>{number}-{total} ")
 }
 
-/// Puts so many overs and balls.
+/// Writes the over and the ball of a fall.
 fn put_over(out: &mut String, at: FallAt) -> Result<(), AllocError>
     ensures { Puts result out.old out.new (laws.at_html (Some at)) }
 {
@@ -29,7 +29,7 @@ fn put_over(out: &mut String, at: FallAt) -> Result<(), AllocError>
     write!(out, " ({overs}.{balls})</span> ")
 }
 
-/// Puts the over and the ball of a fall, where it is known.
+/// Writes the over and the ball of a fall, if they are known.
 fn put_at(out: &mut String, at: Option<FallAt>) -> Result<(), AllocError>
     ensures { Puts result out.old out.new (laws.at_html at) }
 {
@@ -39,14 +39,14 @@ fn put_at(out: &mut String, at: Option<FallAt>) -> Result<(), AllocError>
     }
 }
 
-/// The one at an index, if there is one.
+/// Returns the fall at an index, if there is one.
 fn at_index(there: &[FallAt], index: usize) -> Option<FallAt>
     ensures { result ≡ slice_get there.now index }
 {
     there.get(index).copied()
 }
 
-/// Puts the fall of a side's wicket behind so many others; those of its innings fell there.
+/// Writes a fall of the side's wickets, by its index. `there` has the over and ball of each fall of the innings.
 fn put_fall(
     out: &mut String,
     sheet: &NamedSheet<'_>,
@@ -63,7 +63,7 @@ fn put_fall(
     put_at(out, at_index(there, index))
 }
 
-/// Puts each fall of an innings, which fell there.
+/// Writes each fall of an innings. `there` has the over and ball of each.
 fn put_each_fall(
     out: &mut String,
     sheet: &NamedSheet<'_>,
@@ -85,7 +85,7 @@ fn put_each_fall(
     Ok(())
 }
 
-/// Puts where the wickets of an innings fell, by where those of all innings did.
+/// Writes the falls of an innings, from the overs and balls of the falls of all innings.
 pub fn put_falls(
     alloc: Global,
     out: &mut String,

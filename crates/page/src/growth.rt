@@ -17,7 +17,7 @@ use archive_deliveries::NamedSheet;
 use match_laws::Match;
 use std::alloc::{AllocError, Global};
 
-/// Puts a point of a line: the total behind an over.
+/// Writes a point of a line: the total after an over.
 fn put_point(out: &mut String, moment: &Moment) -> Result<(), AllocError>
     ensures { Puts result out.old out.new (laws.point_svg moment.now) }
 {
@@ -26,7 +26,7 @@ fn put_point(out: &mut String, moment: &Moment) -> Result<(), AllocError>
     write!(out, "L{x} {total}")
 }
 
-/// Puts it, if an over of the innings ends there.
+/// Writes the point of an item, if an over of the innings ends there.
 fn put_point_in(out: &mut String, innings: usize, moment: &Moment) -> Result<(), AllocError>
     ensures { Puts result out.old out.new (laws.point_in innings moment.now) }
 {
@@ -37,7 +37,7 @@ fn put_point_in(out: &mut String, innings: usize, moment: &Moment) -> Result<(),
     }
 }
 
-/// The line of an innings.
+/// Returns the points of an innings' line.
 fn points_of(alloc: Global, innings: usize, moments: &[Moment]) -> Result<String, AllocError>
     ensures { IfOk result (λ points. string_bytes points ≡ flat_map (laws.point_in innings) moments.now) }
 {
@@ -49,7 +49,7 @@ fn points_of(alloc: Global, innings: usize, moments: &[Moment]) -> Result<String
     Ok(out)
 }
 
-/// Puts a ring on the line, if a wicket fell in the over.
+/// Writes a ring on the line, if a wicket fell in the over.
 fn put_mark(out: &mut String, moment: &Moment) -> Result<(), AllocError>
     ensures { Puts result out.old out.new (laws.mark_svg moment.now) }
 {
@@ -60,7 +60,7 @@ fn put_mark(out: &mut String, moment: &Moment) -> Result<(), AllocError>
     }
 }
 
-/// Puts it, if an over of the innings ends there.
+/// Writes the ring of an item, if an over of the innings ends there.
 fn put_mark_in(out: &mut String, innings: usize, moment: &Moment) -> Result<(), AllocError>
     ensures { Puts result out.old out.new (laws.mark_in innings moment.now) }
 {
@@ -71,7 +71,7 @@ fn put_mark_in(out: &mut String, innings: usize, moment: &Moment) -> Result<(), 
     }
 }
 
-/// The rings of an innings.
+/// Returns the rings of an innings' line.
 fn marks_of(alloc: Global, innings: usize, moments: &[Moment]) -> Result<String, AllocError>
     ensures { IfOk result (λ marks. string_bytes marks ≡ flat_map (laws.mark_in innings) moments.now) }
 {
@@ -83,7 +83,7 @@ fn marks_of(alloc: Global, innings: usize, moments: &[Moment]) -> Result<String,
     Ok(out)
 }
 
-/// Puts a line of this class, with its rings.
+/// Writes a line of this CSS class, with its rings.
 fn put_line(out: &mut String, class: &str, points: &str, marks: &str) -> Result<(), AllocError>
     ensures { Puts result out.old out.new (laws.line_svg class.now points.now marks.now) }
 {
@@ -93,7 +93,7 @@ fn put_line(out: &mut String, class: &str, points: &str, marks: &str) -> Result<
     )
 }
 
-/// Puts the line of an innings, with its rings.
+/// Writes the line of an innings, with its rings.
 fn put_line_of(
     alloc: Global,
     out: &mut String,
@@ -110,7 +110,7 @@ fn put_line_of(
     put_line(out, class, points.as_str(), marks.as_str())
 }
 
-/// The lines of all innings.
+/// Returns the lines of all innings.
 fn all_lines(alloc: Global, score: &Match, moments: &[Moment]) -> Result<String, AllocError>
     ensures { ForEachHistory score.now (λ n h. IfOk result (λ text. string_bytes text ≡ laws.all_lines h moments.now)) }
 {
@@ -121,7 +121,7 @@ fn all_lines(alloc: Global, score: &Match, moments: &[Moment]) -> Result<String,
     Ok(out)
 }
 
-/// Puts what a line of this class looks like.
+/// Writes a sample of a line of this CSS class.
 fn put_stroke(out: &mut String, class: &str) -> Result<(), AllocError>
     ensures { Puts result out.old out.new (laws.stroke_svg class.now) }
 {
@@ -131,7 +131,7 @@ fn put_stroke(out: &mut String, class: &str) -> Result<(), AllocError>
     )
 }
 
-/// Puts which line is that of an innings.
+/// Writes the legend's item of an innings: a sample of its line, and its title.
 fn put_key(
     out: &mut String,
     sheet: &NamedSheet<'_>,
@@ -147,7 +147,7 @@ fn put_key(
     out.push_str("</li>")
 }
 
-/// Those of all innings.
+/// Returns the legend's items of all innings.
 fn all_keys(alloc: Global, sheet: &NamedSheet<'_>, score: &Match) -> Result<String, AllocError>
     ensures { ForEachHistory score.now (λ n h. IfOk result (λ text.
         string_bytes text ≡ laws.all_keys sheet.now sheet.now.innings h)) }
@@ -159,7 +159,7 @@ fn all_keys(alloc: Global, sheet: &NamedSheet<'_>, score: &Match) -> Result<Stri
     Ok(out)
 }
 
-/// The largest total of an innings so far.
+/// Returns the largest total of any innings so far.
 fn most_total(score: &Match) -> u32
     ensures { ForEachHistory score.now (λ n h. result ≡ laws.most_total h) }
 {
@@ -170,7 +170,7 @@ fn most_total(score: &Match) -> u32
     most
 }
 
-/// Puts the caption, with these keys.
+/// Writes the caption and the legend, with these items.
 fn put_caption(out: &mut String, keys: &str) -> Result<(), AllocError>
     ensures { Puts result out.old out.new (laws.caption_html keys.now) }
 {
@@ -180,14 +180,14 @@ fn put_caption(out: &mut String, keys: &str) -> Result<(), AllocError>
     )
 }
 
-/// Puts these lines, to the end of the figure.
+/// Writes these lines, to the end of the figure.
 fn put_lines(out: &mut String, lines: &str) -> Result<(), AllocError>
     ensures { Puts result out.old out.new (laws.lines_svg lines.now) }
 {
     write!(out, "{lines}</g></svg></figure>\n")
 }
 
-/// Puts the chart with these lines and keys, of so many overs and of totals up to this one.
+/// Writes the chart with these lines and this legend, for this many overs and for totals up to `most`.
 fn put_chart(
     out: &mut String,
     overs: u32,
@@ -203,7 +203,7 @@ fn put_chart(
     put_lines(out, lines)
 }
 
-/// Puts the chart of how the totals grew.
+/// Writes the chart of how the totals grew.
 pub fn put_growth(
     alloc: Global,
     out: &mut String,

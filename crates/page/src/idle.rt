@@ -1,4 +1,4 @@
-//! Who of a side didn't bat.
+//! The players of a side who didn't bat.
 
 ghost use Rattle.std.specs.Prelude.{◌≡◌, ◌+◌, ◌<◌, ◌++◌, IfOk, codes};
 ghost use Rattle.match_laws.specs.Stands.{ForEachHistory, begun_in};
@@ -12,7 +12,7 @@ use match_laws::{Match, Outcome};
 use notation::{Player, Side};
 use std::alloc::{AllocError, Global};
 
-/// The player at an index, from 0 to 10.
+/// Returns the player at an index from 0 to 10.
 fn player_at(index: u8) -> Player
     requires { index < 11 }
     ensures { result ≡ index + 1 }
@@ -20,7 +20,7 @@ fn player_at(index: u8) -> Player
     Player::new(index + 1).unwrap()
 }
 
-/// Adds a player, if nothing became of him in the innings.
+/// Adds a player, if he neither came in nor was timed out in the innings.
 fn add_idle(
     players: &mut Vec<Player>,
     score: &Match,
@@ -37,7 +37,7 @@ fn add_idle(
     Ok(())
 }
 
-/// Those who neither came in nor were timed out.
+/// Returns the players who neither came in nor were timed out.
 fn idle_of(alloc: Global, score: &Match, innings: usize) -> Result<Vec<Player>, AllocError>
     requires { innings < begun_in score.now }
     ensures { ForEachHistory score.now (λ n h. IfOk result (λ players. players.items ≡ laws.idle h innings)) }
@@ -49,7 +49,7 @@ fn idle_of(alloc: Global, score: &Match, innings: usize) -> Result<Vec<Player>, 
     Ok(players)
 }
 
-/// Puts a name behind a comma.
+/// Writes a comma and a name.
 fn put_behind(out: &mut String, name: &str) -> Result<(), AllocError>
     ensures { Puts result out.old out.new (codes ", " ++ name_html name.now) }
 {
@@ -57,7 +57,7 @@ fn put_behind(out: &mut String, name: &str) -> Result<(), AllocError>
     put_name(out, name)
 }
 
-/// Puts each name behind a comma.
+/// Writes a comma and the name, for each of these players.
 fn put_names(
     out: &mut String,
     sheet: &NamedSheet<'_>,
@@ -79,7 +79,7 @@ fn is_undecided(outcome: Outcome) -> bool
     matches!(outcome, Outcome::Undecided)
 }
 
-/// Whether an innings is in play, in a match that isn't decided.
+/// Whether an innings is in play, in a match without a result.
 fn goes_on(score: &Match, innings: usize) -> bool
     requires { innings < begun_in score.now }
     ensures { ForEachHistory score.now (λ n h. result ≡ laws.goes_on n h innings) }
@@ -99,7 +99,7 @@ fn label(on: bool) -> &'static str
     }
 }
 
-/// Puts these players of a side, who may bat yet or didn't.
+/// Writes these players of a side as yet to bat, if the innings is on, or else as those who did not bat.
 fn put_listed(
     out: &mut String,
     sheet: &NamedSheet<'_>,
@@ -118,7 +118,7 @@ fn put_listed(
     out.push_str("</p>\n")
 }
 
-/// Puts who of the side that bats in an innings didn't.
+/// Writes the players of the batting side who didn't bat in an innings.
 pub fn put_idle(
     alloc: Global,
     out: &mut String,

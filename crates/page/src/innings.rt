@@ -22,7 +22,7 @@ use match_laws::{Match, opponent};
 use notation::{Cause, Plain, Side};
 use std::alloc::{AllocError, Global};
 
-/// Why an item ends an innings, if it does.
+/// Returns why an item ends the innings, if it does.
 fn end_in(innings: usize, moment: &Moment) -> Option<Cause>
     ensures { result ≡ laws.end_in innings moment.now }
 {
@@ -35,7 +35,7 @@ fn end_in(innings: usize, moment: &Moment) -> Option<Cause>
     }
 }
 
-/// Why an innings ended, where it has.
+/// Returns why an innings ended, if it has.
 fn cause_in(innings: usize, moments: &[Moment]) -> Option<Cause>
     ensures { result ≡ laws.cause_in innings moments.now }
 {
@@ -49,14 +49,14 @@ fn cause_in(innings: usize, moments: &[Moment]) -> Option<Cause>
     None
 }
 
-/// Puts so many runs for so many wickets.
+/// Writes the runs for the wickets, and then these words.
 fn put_runs_for(out: &mut String, runs: u32, down: u32, words: &str) -> Result<(), AllocError>
     ensures { Puts result out.old out.new (laws.runs_for runs down words.now) }
 {
     write!(out, "{runs} for {down}{words}")
 }
 
-/// Puts a score, with how the innings ended.
+/// Writes a score, with how the innings ended.
 fn put_score(out: &mut String, cause: Option<Cause>, runs: u32, down: u32) -> Result<(), AllocError>
     ensures { Puts result out.old out.new (laws.score_text cause runs down) }
 {
@@ -84,7 +84,7 @@ fn is_same(one: Side, other: Side) -> bool
     )
 }
 
-/// How many of the innings before this one are the side's.
+/// Returns how many innings the side had before this one.
 fn earlier_innings(score: &Match, side: Side, innings: usize) -> usize
     requires { innings < begun_in score.now }
     ensures value { ForEachHistory score.now (λ n h. result ≡ earlier_innings h side innings) }
@@ -99,7 +99,7 @@ fn earlier_innings(score: &Match, side: Side, innings: usize) -> usize
     count
 }
 
-/// Puts which of the side's innings it is, where each side has two.
+/// Writes which of the side's innings it is, if each side has two.
 fn put_nth(out: &mut String, innings_a_side: u32, earlier: usize) -> Result<(), AllocError>
     requires { earlier < 4 }
     ensures { Puts result out.old out.new (laws.nth_text innings_a_side earlier) }
@@ -111,7 +111,7 @@ fn put_nth(out: &mut String, innings_a_side: u32, earlier: usize) -> Result<(), 
     write!(out, ", innings {number}")
 }
 
-/// Puts the side that bats in an innings.
+/// Writes the name of the side that bats in an innings, and which of its innings it is.
 pub fn put_title(
     out: &mut String,
     sheet: &NamedSheet<'_>,
@@ -132,7 +132,7 @@ pub fn put_title(
     out.push_str("</span>")
 }
 
-/// Puts the score of an innings that ended so.
+/// Writes the score of an innings, with how it ended.
 fn put_total(
     out: &mut String,
     score: &Match,
@@ -158,7 +158,7 @@ fn side_word(side: Side) -> &'static str
     }
 }
 
-/// Puts where the part of an innings begins, by its number.
+/// Writes the front of an innings' section, by its number from 1.
 fn put_section(out: &mut String, number: usize, side: &str) -> Result<(), AllocError>
     ensures { Puts result out.old out.new (laws.section_front number side.now) }
 {
@@ -168,7 +168,7 @@ fn put_section(out: &mut String, number: usize, side: &str) -> Result<(), AllocE
     )
 }
 
-/// Puts the heading of an innings.
+/// Writes the heading of an innings.
 fn put_heading(
     out: &mut String,
     sheet: &NamedSheet<'_>,
@@ -188,7 +188,7 @@ fn put_heading(
     put_total(out, score, innings, cause_in(innings, moments))
 }
 
-/// What the side that bats in the innings has to reach there.
+/// Returns the total that the batting side needs in the innings to win.
 fn needed_in(score: &Match, innings: usize) -> u32
     requires { innings < begun_in score.now }
     ensures { ForEachHistory score.now (λ n h. result ≡ needed_in h innings) }
@@ -198,7 +198,7 @@ fn needed_in(score: &Match, innings: usize) -> u32
     (score.side_total(opponent(side)) + 1).saturating_sub(before)
 }
 
-/// Whether it is the last innings of a match.
+/// Whether this is the last innings that the match can have.
 fn is_last(sheet: &NamedSheet<'_>, innings: usize) -> bool
     requires { innings < 4 }
     ensures { result ≡ laws.is_last sheet.now innings }
@@ -206,7 +206,7 @@ fn is_last(sheet: &NamedSheet<'_>, innings: usize) -> bool
     innings as u32 + 1 == 2 * sheet.innings()
 }
 
-/// Puts what has to be reached, if it is the last innings.
+/// Writes the target, if it is the last innings.
 fn put_needed(out: &mut String, last: bool, needed: u32) -> Result<(), AllocError>
     ensures { Puts result out.old out.new (laws.needed_html last needed) }
 {
@@ -216,7 +216,7 @@ fn put_needed(out: &mut String, last: bool, needed: u32) -> Result<(), AllocErro
     Ok(())
 }
 
-/// Puts what has to be reached, in the last innings of a match.
+/// Writes the target of the last innings of a match, and nothing for an earlier one.
 fn put_target(
     out: &mut String,
     sheet: &NamedSheet<'_>,
@@ -232,7 +232,7 @@ fn put_target(
     put_needed(out, last, needed_in(score, innings))
 }
 
-/// Puts what the side that bats has, by where the wickets of all innings fell.
+/// Writes the batting side's part: the target, the card, who didn't bat, and the falls, from the falls of all innings.
 fn put_batting_part(
     alloc: Global,
     out: &mut String,
@@ -251,7 +251,7 @@ fn put_batting_part(
     put_falls(alloc, out, sheet, score, innings, falls)
 }
 
-/// Puts what the side that fields has, and the partnerships, to the end of the part.
+/// Writes the bowling card and the partnerships, to the end of the section.
 fn put_bowling_part(
     alloc: Global,
     out: &mut String,
@@ -269,7 +269,7 @@ fn put_bowling_part(
     out.push_str("</div></div></section>\n")
 }
 
-/// Puts an innings with its cards, by the items of all innings and where their wickets fell.
+/// Writes an innings with its cards, from the items of the match and the falls of all innings.
 pub fn put_innings(
     alloc: Global,
     out: &mut String,

@@ -1,4 +1,4 @@
-//! What a page can't be, whatever the names on a sheet are.
+//! What a page can't contain, whatever the names on a sheet are.
 //!
 //! This function does nothing: it stands for the law that it ensures.
 
@@ -6,7 +6,7 @@ ghost use Rattle.std.specs.Prelude.{◌≡◌, ℕ, List, false};
 ghost use Rattle.std.specs.List.{list_any};
 ghost use Rattle.page.specs.Escapes.{escaped, is_markup};
 
-/// What stands in the page for a text has no `<`, `>` and no quote: no element and no attribute begins or ends there.
+/// An escaped text has no `<`, no `>` and no quote: no element and no attribute begins or ends in it.
 pub fn no_text_is_markup()
     ensures { (text : List ℕ) → list_any is_markup (escaped text) ≡ false }
 {}

@@ -1,4 +1,4 @@
-//! A match as one HTML page, which loads nothing and runs no script: its cards and falls, and its corrections.
+//! A match as one HTML page, which loads nothing and runs no script: cards, falls, overs, charts and corrections.
 #![tactic(auto)]
 
 mod bars;

@@ -1,4 +1,4 @@
-//! Each item of a match, with what stood before it and the score behind it.
+//! Each item of a match, with the state of play before it and the score after it.
 
 ghost use Rattle.std.specs.Prelude.{◌≡◌, ◌+◌, ◌*◌, ◌<◌, ◌≤◌, ◌∷◌, [], IfOk, OnOk, Some, ℕ, length, slice_get};
 ghost use Rattle.notation.specs.declared.entry.TheConstants.{PLACES};
@@ -15,30 +15,30 @@ use match_laws::{Match, is_void, start};
 use notation::{Ball, Plain, Player};
 use std::alloc::{AllocError, Global};
 
-/// The over that is on.
+/// The over in progress.
 #[derive(Clone, Copy)]
 pub struct OverSoFar {
-    /// Who bowled its last delivery; none before its first.
+    /// Who bowled the over's last delivery; none before its first.
     pub bowler: Option<Player>,
-    /// The runs of its deliveries.
+    /// The runs of the over's deliveries.
     pub runs: u32,
-    /// The wickets that fell off them.
+    /// The wickets that fell off those deliveries.
     pub down: u32,
 }
 
-/// An item of the clean list, with what those before it say and the score behind it.
+/// An item of the clean list, with the state of play before it and the score after it.
 #[derive(Clone, Copy)]
 pub struct Moment {
-    /// The innings that began last, numbered from 0, its own among them; 0 before the first.
+    /// The innings that began last, numbered from 0, or the one that this item begins; 0 before the first.
     pub innings: usize,
-    /// Whether an innings was open before it.
+    /// Whether an innings was open before the item.
     pub on: bool,
-    /// How many overs had been called in that.
+    /// How many overs had been called in the innings before the item.
     pub overs: u32,
-    /// How many fair deliveries the over that is on had.
+    /// How many fair deliveries the over in progress had before the item.
     pub balls: u32,
     pub over: OverSoFar,
-    /// The score behind it.
+    /// The score after the item.
     pub total: u32,
     pub wickets: u32,
     pub item: Plain,
@@ -46,7 +46,7 @@ pub struct Moment {
 
 ghost use Rattle.page.specs.Moments as laws;
 
-/// No over is on.
+/// Returns the over in progress before its first delivery.
 fn no_over() -> OverSoFar
     ensures { result ≡ laws.over_so_far [] }
 {
@@ -57,7 +57,7 @@ fn no_over() -> OverSoFar
     }
 }
 
-/// With a delivery more.
+/// Returns the over with one more delivery.
 fn over_with(over: &OverSoFar, ball: &Ball) -> OverSoFar
     requires runs { over.now.runs ≤ 260 * PLACES }
     requires down { over.now.down ≤ PLACES }
@@ -72,7 +72,7 @@ fn over_with(over: &OverSoFar, ball: &Ball) -> OverSoFar
     }
 }
 
-/// The over that is on behind an item.
+/// Returns the over in progress after an item.
 fn over_after(over: &OverSoFar, item: &Plain) -> OverSoFar
     requires runs { over.now.runs ≤ 260 * PLACES }
     requires down { over.now.down ≤ PLACES }
@@ -87,7 +87,7 @@ fn over_after(over: &OverSoFar, item: &Plain) -> OverSoFar
     }
 }
 
-/// How many overs were called in the innings that began last.
+/// Returns how many overs were called in the innings that began last.
 fn overs_called(score: &Match) -> u32
     ensures { ForEachHistory score.now (λ n h. result ≡ notes.overs_called h) }
 {
@@ -98,7 +98,7 @@ fn overs_called(score: &Match) -> u32
     score.overs(begun - 1).0
 }
 
-/// How many deliveries count in the over that is on.
+/// Returns how many deliveries count in the over in progress.
 fn balls_called(score: &Match) -> u32
     ensures { ForEachHistory score.now (λ n h. result ≡ notes.balls_called h) }
 {
@@ -109,7 +109,7 @@ fn balls_called(score: &Match) -> u32
     score.overs(begun - 1).1
 }
 
-/// The total of the innings that began last.
+/// Returns the total of the innings that began last.
 fn total_now(score: &Match) -> u32
     ensures { ForEachHistory score.now (λ n h. result ≡ laws.total_now h) }
 {
@@ -120,7 +120,7 @@ fn total_now(score: &Match) -> u32
     score.total(begun - 1)
 }
 
-/// Its wickets.
+/// Returns the wickets of the innings that began last.
 fn wickets_now(score: &Match) -> u32
     ensures { ForEachHistory score.now (λ n h. result ≡ laws.wickets_now h) }
 {
@@ -131,14 +131,14 @@ fn wickets_now(score: &Match) -> u32
     score.wickets(begun - 1)
 }
 
-/// The innings that began last.
+/// Returns the number of the innings that began last, from 0; 0 before the first.
 fn current(score: &Match) -> usize
     ensures { ForEachHistory score.now (λ n h. result ≡ results.current h) }
 {
     score.begun().saturating_sub(1)
 }
 
-/// An item, by the match before it; the score behind it isn't told yet.
+/// Returns an item with the state of the match before it, and without the score after it.
 fn before(score: &Match, over: &OverSoFar, item: &Plain) -> Moment
     ensures { ForEachHistory score.now (λ n h. over.now ≡ laws.over_so_far h → result ≡ laws.before h item.now) }
 {
@@ -154,7 +154,7 @@ fn before(score: &Match, over: &OverSoFar, item: &Plain) -> Moment
     }
 }
 
-/// The same item with the score behind it.
+/// Returns the item with the score after it.
 fn behind(before: &Moment, score: &Match) -> Moment
     ensures { ForEachHistory score.now (λ n h. result ≡ laws.behind before.now h) }
 {
@@ -166,7 +166,7 @@ fn behind(before: &Moment, score: &Match) -> Moment
     }
 }
 
-/// What stands at an index.
+/// Returns the item of the clean list at an index.
 fn placed_at(clean_items: &[Placed], index: usize) -> Placed
     requires { index < length clean_items.now }
     ensures { slice_get clean_items.now index ≡ Some result }
@@ -174,7 +174,7 @@ fn placed_at(clean_items: &[Placed], index: usize) -> Placed
     clean_items[index]
 }
 
-/// The item at an index.
+/// Returns the item at an index.
 pub fn moment_at(moments: &[Moment], index: usize) -> Moment
     requires { index < length moments.now }
     ensures { slice_get moments.now index ≡ Some result }
@@ -182,7 +182,7 @@ pub fn moment_at(moments: &[Moment], index: usize) -> Moment
     moments[index]
 }
 
-/// The items of a book of one or two innings a side, and its end.
+/// Returns the items of a book of one or two innings a side, and then its end.
 pub fn moments_of<B: BookOf>(
     alloc: Global,
     innings_a_side: u32,
@@ -200,7 +200,7 @@ pub fn moments_of<B: BookOf>(
         let placed = placed_at(clean_items, index);
         if !is_void(&placed.item) {
             let told = before(&score, &over, &placed.item);
-            // What stands in a book is refused nowhere.
+            // No item of a legal book is refused.
             let _ = score.take(&placed.item);
             moments.push(behind(&told, &score))?;
             over = over_after(&over, &placed.item);

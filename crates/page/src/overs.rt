@@ -20,12 +20,12 @@ use match_laws::{Match, opponent};
 use notation::{Ball, Kind, Leave, Plain, Player, Side};
 use std::alloc::{AllocError, Global};
 
-/// What stands between the title of a table and its rows.
+/// The end of a table's caption, and the names of its columns.
 pub const HEADINGS: &str =
     "</caption><thead><tr><th scope='col'>Over</th><th scope='col' class='words'>Bowler, and each ball</th>\
 <th scope='col'><abbr title='runs of its balls'>R</abbr></th><th scope='col'>Score</th></tr></thead><tbody>\n";
 
-/// Where the part begins.
+/// The front of the section.
 pub const OVERS: &str =
     "<section id='overs' aria-labelledby='overs-heading'>\n<h2 id='overs-heading'>Over by over</h2>\n\
 <p class='key'>Each ball's runs, and what they came off: b byes, lb leg byes, wd wides, nb no balls. W is a wicket, d a dead ball, \
@@ -38,7 +38,7 @@ fn is_bat(kind: Kind) -> bool
     matches!(kind, Kind::Bat)
 }
 
-/// Where a delivery begins.
+/// Returns the front of a delivery, by what stands out: a wicket, or four runs or more, or extras.
 fn ball_front(ball: &Ball) -> &'static str
     ensures { result.now ≡ laws.ball_front ball.now }
 {
@@ -51,7 +51,7 @@ fn ball_front(ball: &Ball) -> &'static str
     }
 }
 
-/// Puts a mark.
+/// Writes a delivery's mark.
 fn put_text(out: &mut String, mark: Mark) -> Result<(), AllocError>
     ensures { Puts result out.old out.new (mark_text mark) }
 {
@@ -61,7 +61,7 @@ fn put_text(out: &mut String, mark: Mark) -> Result<(), AllocError>
     }
 }
 
-/// Puts the mark of a delivery, in which a dot is a bullet.
+/// Writes the mark of a delivery, with a bullet for a dot ball.
 fn put_mark(out: &mut String, ball: &Ball) -> Result<(), AllocError>
     ensures { Puts result out.old out.new (laws.mark_html ball.now) }
 {
@@ -72,7 +72,7 @@ fn put_mark(out: &mut String, ball: &Ball) -> Result<(), AllocError>
     }
 }
 
-/// Puts a delivery.
+/// Writes a delivery: its mark, and whether it was a dead ball.
 fn put_delivery(out: &mut String, ball: &Ball) -> Result<(), AllocError>
     ensures { Puts result out.old out.new (laws.ball_html ball.now) }
 {
@@ -82,7 +82,7 @@ fn put_delivery(out: &mut String, ball: &Ball) -> Result<(), AllocError>
     out.push_str("</li>")
 }
 
-/// Puts who bowls from here on.
+/// Writes who bowls the deliveries that follow.
 fn put_bowler(out: &mut String, name: &str) -> Result<(), AllocError>
     ensures { Puts result out.old out.new (laws.bowler_html name.now) }
 {
@@ -91,14 +91,14 @@ fn put_bowler(out: &mut String, name: &str) -> Result<(), AllocError>
     out.push_str("</span> <ol class='marks'>")
 }
 
-/// Puts where the row of an over begins.
+/// Writes the front of an over's row, with its number from 1.
 fn put_row_front(out: &mut String, number: u64) -> Result<(), AllocError>
     ensures { Puts result out.old out.new (laws.row_front number) }
 {
     write!(out, "<tr><th scope='row'>{number}</th><td class='words'>")
 }
 
-/// Puts where an over begins, or another bowler goes on.
+/// Writes the front of an over before its first delivery; later, the bowler, if he has changed.
 fn put_before(
     out: &mut String,
     last: Option<Player>,
@@ -117,7 +117,7 @@ fn put_before(
     }
 }
 
-/// Puts that another bowler goes on, if he isn't the last one.
+/// Writes the bowler, if he didn't bowl the last delivery.
 fn put_another(out: &mut String, last: Player, bowler: Player, name: &str) -> Result<(), AllocError>
     ensures { (overs : ℕ) → Puts result out.old out.new (laws.before_ball (Some last) overs bowler name.now) }
 {
@@ -128,14 +128,14 @@ fn put_another(out: &mut String, last: Player, bowler: Player, name: &str) -> Re
     put_bowler(out, name)
 }
 
-/// Puts a score, to the end of the row.
+/// Writes a score, to the end of the row.
 fn put_score(out: &mut String, total: u32, wickets: u32) -> Result<(), AllocError>
     ensures { Puts result out.old out.new (laws.score_html total wickets) }
 {
     writeln!(out, "</td><td>{total}/{wickets}</td></tr>")
 }
 
-/// Puts the runs of an over, and the score.
+/// Writes the runs of an over, and the score after it.
 fn put_row_end(out: &mut String, moment: &Moment) -> Result<(), AllocError>
     ensures { Puts result out.old out.new (laws.row_end moment.now) }
 {
@@ -154,14 +154,14 @@ fn balls_word(balls: u32) -> &'static str
     }
 }
 
-/// Puts so many deliveries, with this word.
+/// Writes a count of deliveries, with this word.
 fn put_counted(out: &mut String, balls: u32, word: &str) -> Result<(), AllocError>
     ensures { Puts result out.old out.new (laws.counted_html balls word.now) }
 {
     write!(out, "</ol> <span class='note'>({balls}{word}")
 }
 
-/// Puts how many deliveries of an over count, unless they are six.
+/// Writes how many deliveries of an over count, unless there are six.
 fn put_count(out: &mut String, balls: u32) -> Result<(), AllocError>
     ensures { Puts result out.old out.new (laws.count_html balls) }
 {
@@ -172,7 +172,7 @@ fn put_count(out: &mut String, balls: u32) -> Result<(), AllocError>
     }
 }
 
-/// Puts the end of an over that was called.
+/// Writes the end of an over that was called.
 fn put_over_end(out: &mut String, moment: &Moment) -> Result<(), AllocError>
     ensures { Puts result out.old out.new (laws.count_html moment.now.balls ++ laws.row_end moment.now) }
 {
@@ -180,7 +180,7 @@ fn put_over_end(out: &mut String, moment: &Moment) -> Result<(), AllocError>
     put_row_end(out, moment)
 }
 
-/// Puts the end of one that wasn't, if it has a delivery.
+/// Writes the end of an over that wasn't called, if it has a delivery.
 fn put_open_end(out: &mut String, moment: &Moment) -> Result<(), AllocError>
     ensures { Puts result out.old out.new (laws.open_end moment.now) }
 {
@@ -191,7 +191,7 @@ fn put_open_end(out: &mut String, moment: &Moment) -> Result<(), AllocError>
     put_row_end(out, moment)
 }
 
-/// Puts what happened among the deliveries of an over.
+/// Writes what happened among the deliveries of an over.
 fn put_among(out: &mut String, text: &str) -> Result<(), AllocError>
     ensures { Puts result out.old out.new (laws.among_html text.now) }
 {
@@ -200,7 +200,7 @@ fn put_among(out: &mut String, text: &str) -> Result<(), AllocError>
     out.push_str("</li>")
 }
 
-/// Puts what happened between overs, and the score.
+/// Writes what happened between overs, in a row of its own with the score.
 fn put_between(out: &mut String, moment: &Moment, text: &str) -> Result<(), AllocError>
     ensures { Puts result out.old out.new (laws.between_html moment.now text.now) }
 {
@@ -210,7 +210,7 @@ fn put_between(out: &mut String, moment: &Moment, text: &str) -> Result<(), Allo
     put_score(out, moment.total, moment.wickets)
 }
 
-/// Puts what happened beside deliveries.
+/// Writes an event other than a delivery: within the over if one is on, or else in a row of its own.
 fn put_aside(out: &mut String, moment: &Moment, text: &str) -> Result<(), AllocError>
     ensures { Puts result out.old out.new (laws.aside_html moment.now text.now) }
 {
@@ -221,7 +221,7 @@ fn put_aside(out: &mut String, moment: &Moment, text: &str) -> Result<(), AllocE
     }
 }
 
-/// Who left, and how.
+/// Returns who left, and how.
 fn gone_text(alloc: Global, name: &str, way: Leave) -> Result<String, AllocError>
     ensures { IfOk result (λ text. string_bytes text ≡ laws.gone_html name.now way) }
 {
@@ -232,7 +232,7 @@ fn gone_text(alloc: Global, name: &str, way: Leave) -> Result<String, AllocError
     Ok(out)
 }
 
-/// That a side was awarded penalty runs.
+/// Returns that a side was awarded penalty runs.
 fn penalty_text(alloc: Global, name: &str) -> Result<String, AllocError>
     ensures { IfOk result (λ text. string_bytes text ≡ codes "5 penalty runs to " ++ name_html name.now) }
 {
@@ -241,7 +241,7 @@ fn penalty_text(alloc: Global, name: &str) -> Result<String, AllocError>
     Ok(out)
 }
 
-/// Puts a delivery to a batter of the side.
+/// Writes a delivery to a batter of the side, with the bowler where he is new.
 fn put_ball(
     out: &mut String,
     sheet: &NamedSheet<'_>,
@@ -256,7 +256,7 @@ fn put_ball(
     put_delivery(out, ball)
 }
 
-/// Puts that a player of the side left.
+/// Writes that a batter of the side left.
 fn put_gone(
     alloc: Global,
     out: &mut String,
@@ -272,7 +272,7 @@ fn put_gone(
     put_aside(out, moment, text.as_str())
 }
 
-/// Puts that a side was awarded penalty runs.
+/// Writes that a side was awarded penalty runs.
 fn put_penalty(
     alloc: Global,
     out: &mut String,
@@ -287,7 +287,7 @@ fn put_penalty(
     put_aside(out, moment, text.as_str())
 }
 
-/// Puts an item of an innings in which the side bats.
+/// Writes an item of an innings in which the side bats.
 fn put_item(
     alloc: Global,
     out: &mut String,
@@ -307,7 +307,7 @@ fn put_item(
     }
 }
 
-/// Puts an item, while this innings is open.
+/// Writes an item, if it belongs to this innings and the innings was open before it.
 fn put_moment(
     alloc: Global,
     out: &mut String,
@@ -324,7 +324,7 @@ fn put_moment(
     Ok(())
 }
 
-/// The rows of an innings in which the side bats.
+/// Returns the rows of an innings in which the side bats.
 fn rows_of(
     alloc: Global,
     sheet: &NamedSheet<'_>,
@@ -342,7 +342,7 @@ fn rows_of(
     Ok(out)
 }
 
-/// Puts what stands above the rows of an innings.
+/// Writes the caption and the column names of an innings' table.
 fn put_caption(
     out: &mut String,
     sheet: &NamedSheet<'_>,
@@ -358,7 +358,7 @@ fn put_caption(
     out.push_str(HEADINGS)
 }
 
-/// Puts the rows of an innings as a table.
+/// Writes the rows of an innings as a table.
 fn put_rows(
     out: &mut String,
     sheet: &NamedSheet<'_>,
@@ -375,7 +375,7 @@ fn put_rows(
     out.push_str("</tbody></table>\n")
 }
 
-/// Puts them, if it has any.
+/// Writes the table of an innings, if it has any rows.
 fn put_table(
     out: &mut String,
     sheet: &NamedSheet<'_>,
@@ -393,7 +393,7 @@ fn put_table(
     put_rows(out, sheet, score, innings, rows)
 }
 
-/// Puts each over of an innings.
+/// Writes each over of an innings.
 fn put_overs_of(
     alloc: Global,
     out: &mut String,
@@ -410,7 +410,7 @@ fn put_overs_of(
     put_table(out, sheet, score, innings, rows.as_str())
 }
 
-/// Each over of all innings.
+/// Returns the tables of all innings.
 fn all_overs(
     alloc: Global,
     sheet: &NamedSheet<'_>,
@@ -427,7 +427,7 @@ fn all_overs(
     Ok(out)
 }
 
-/// Puts these tables as a part.
+/// Writes these tables as a section.
 fn put_part(out: &mut String, tables: &str) -> Result<(), AllocError>
     ensures { Puts result out.old out.new (laws.section_html tables.now) }
 {
@@ -436,7 +436,7 @@ fn put_part(out: &mut String, tables: &str) -> Result<(), AllocError>
     out.push_str("</div>\n</section>\n")
 }
 
-/// Puts them, if there are any.
+/// Writes the section, if there are any tables.
 fn put_section(out: &mut String, tables: &str) -> Result<(), AllocError>
     ensures { Puts result out.old out.new (laws.in_section tables.now) }
 {
@@ -446,7 +446,7 @@ fn put_section(out: &mut String, tables: &str) -> Result<(), AllocError>
     put_part(out, tables)
 }
 
-/// Puts each over of a match.
+/// Writes each over of a match.
 pub fn put_overs(
     alloc: Global,
     out: &mut String,

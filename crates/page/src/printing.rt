@@ -33,7 +33,7 @@ use match_laws::Match;
 use std::alloc::{AllocError, Global};
 use toml::Table;
 
-/// Puts the head of the file.
+/// Writes the head of the file, with the title of the window.
 fn put_front(out: &mut String, title: &str, words: &str) -> Result<(), AllocError>
     ensures { Puts result out.old out.new (page.front_html title.now words.now) }
 {
@@ -56,7 +56,7 @@ fn put_laws(out: &mut String, words: &str) -> Result<(), AllocError>
     writeln!(out, "<p id='by-laws'>By the Laws: {words}</p>")
 }
 
-/// Puts the result: what the umpires said, where they did, and what follows by the Laws.
+/// Writes the result: what the umpires said, if anything, and then the result by the Laws.
 fn put_ruling(out: &mut String, ruled: &str, laws: &str) -> Result<(), AllocError>
     ensures { Puts result out.old out.new (page.ruling_html ruled.now laws.now) }
 {
@@ -67,14 +67,14 @@ fn put_ruling(out: &mut String, ruled: &str, laws: &str) -> Result<(), AllocErro
     put_laws(out, laws)
 }
 
-/// Puts the title of the match, and what is told beside it.
+/// Writes the title of the match, and the facts below it.
 fn put_title(out: &mut String, title: &str, facts: &str) -> Result<(), AllocError>
     ensures { Puts result out.old out.new (page.title_html title.now facts.now) }
 {
     writeln!(out, "{title}</h1>\n<p id='facts'>{facts}</p>")
 }
 
-/// Puts the head of the page.
+/// Writes the head of the page.
 fn put_header(
     out: &mut String,
     title: &str,
@@ -89,28 +89,28 @@ fn put_header(
     out.push_str(MAIN)
 }
 
-/// The one that isn't empty, if there is one.
+/// Returns the words, or the other text if they are empty.
 fn or_other<'a>(words: &'a str, other: &'a str) -> &'a str
     ensures { result.now ≡ or_words words.now other.now }
 {
     if words.is_empty() { other } else { words }
 }
 
-/// What the umpires said, unless the Laws say the same.
+/// Returns what the umpires said, or nothing if the result by the Laws is the same.
 fn unless_same<'a>(ruled: &'a str, laws: &str) -> &'a str
     ensures { result.now ≡ page.unless_same ruled.now laws.now }
 {
     if ruled == laws { "" } else { ruled }
 }
 
-/// Puts the head of the file, by both results.
+/// Writes the head of the file, with the umpires' result in the window's title, or else the result by the Laws.
 fn put_window(out: &mut String, title: &str, ruled: &str, laws: &str) -> Result<(), AllocError>
     ensures { Puts result out.old out.new (page.window_html title.now ruled.now laws.now) }
 {
     put_front(out, title, or_other(ruled, laws))
 }
 
-/// Puts both heads.
+/// Writes the head of the file and the head of the page.
 fn put_heads(
     out: &mut String,
     title: &str,
@@ -124,7 +124,7 @@ fn put_heads(
     put_header(out, title, facts, ruled, laws)
 }
 
-/// Puts both heads, with what was ruled once.
+/// Writes both heads; an umpires' result that equals the result by the Laws appears only once.
 fn put_head(
     out: &mut String,
     title: &str,
@@ -137,7 +137,7 @@ fn put_head(
     put_heads(out, title, facts, unless_same(ruled, laws), laws)
 }
 
-/// All innings that have begun, by the items of all and where their wickets fell.
+/// Returns all innings that have begun, from the items of the match and the falls of its wickets.
 fn innings_of(
     alloc: Global,
     sheet: &NamedSheet<'_>,
@@ -155,7 +155,7 @@ fn innings_of(
     Ok(out)
 }
 
-/// Puts these innings, or that there was no play.
+/// Writes these innings, or `No play.` if there are none.
 fn put_or_no_play(out: &mut String, innings: &str) -> Result<(), AllocError>
     ensures { Puts result out.old out.new (page.or_no_play innings.now) }
 {
@@ -166,7 +166,7 @@ fn put_or_no_play(out: &mut String, innings: &str) -> Result<(), AllocError>
     }
 }
 
-/// Puts all innings with their cards, by the items of all and where their wickets fell.
+/// Writes all innings with their cards, from the items of the match and the falls of its wickets.
 fn put_cards(
     alloc: Global,
     out: &mut String,
@@ -182,7 +182,7 @@ fn put_cards(
     put_or_no_play(out, innings.as_str())
 }
 
-/// Puts those of a book.
+/// Writes all innings of a book with their cards.
 fn put_cards_of<B: BookOf>(
     alloc: Global,
     out: &mut String,
@@ -206,7 +206,7 @@ fn put_cards_of<B: BookOf>(
     )
 }
 
-/// Puts each over of a book, and its charts.
+/// Writes each over of a book, and then the charts.
 fn put_overs_of<B: BookOf>(
     alloc: Global,
     out: &mut String,
@@ -222,7 +222,7 @@ fn put_overs_of<B: BookOf>(
     put_course(alloc, out, sheet, score, moments.as_slice())
 }
 
-/// Puts what stands below the head of the page.
+/// Writes the page below its head.
 fn put_main<B: BookOf>(
     alloc: Global,
     out: &mut String,
@@ -238,7 +238,7 @@ fn put_main<B: BookOf>(
     out.push_str(END)
 }
 
-/// The title of the match as HTML shows it.
+/// Returns the title of the match, escaped for HTML.
 fn shown_title(alloc: Global, sheet: &NamedSheet<'_>, info: &Table) -> Result<String, AllocError>
     ensures { IfOk result (λ text. string_bytes text ≡ html.escaped (title_text sheet.now (table_view info.now))) }
 {
@@ -246,7 +246,7 @@ fn shown_title(alloc: Global, sheet: &NamedSheet<'_>, info: &Table) -> Result<St
     escaped(alloc, title.as_str())
 }
 
-/// What the umpires said of the result as HTML shows it.
+/// Returns what the umpires said of the result, escaped for HTML.
 fn shown_ruling(alloc: Global, info: &Table) -> Result<String, AllocError>
     ensures { IfOk result (λ text. string_bytes text ≡ html.escaped (ruled_text (table_view info.now))) }
 {
@@ -254,7 +254,7 @@ fn shown_ruling(alloc: Global, info: &Table) -> Result<String, AllocError>
     escaped(alloc, ruled.as_str())
 }
 
-/// Puts both heads, with the result in these words.
+/// Writes both heads, with these words as the result by the Laws.
 fn put_top_with(
     alloc: Global,
     out: &mut String,
@@ -270,7 +270,7 @@ fn put_top_with(
     put_head(out, title.as_str(), facts.as_str(), ruled.as_str(), laws)
 }
 
-/// The result by the Laws.
+/// Returns the result by the Laws, escaped for HTML.
 fn laws_of<B: BookOf>(alloc: Global, sheet: &NamedSheet<'_>, book: &B) -> Result<String, AllocError>
     requires { B.innings_a_side book.now ≡ sheet.now.innings }
     ensures { IfOk result (λ text.
@@ -279,7 +279,7 @@ fn laws_of<B: BookOf>(alloc: Global, sheet: &NamedSheet<'_>, book: &B) -> Result
     result_of(alloc, sheet, book.score())
 }
 
-/// Puts both heads of a book's page.
+/// Writes both heads of the page of a book.
 fn put_top<B: BookOf>(
     alloc: Global,
     out: &mut String,
@@ -296,7 +296,7 @@ fn put_top<B: BookOf>(
     put_top_with(alloc, out, sheet, info, laws.as_str())
 }
 
-/// The page of a book, by a sheet whose sides are told apart.
+/// Returns the page of a book, from a sheet whose sides have different names.
 fn named_page<B: BookOf>(
     alloc: Global,
     sheet: &NamedSheet<'_>,
@@ -313,7 +313,8 @@ fn named_page<B: BookOf>(
     Ok(out)
 }
 
-/// The page of a book, by a sheet and what its document hands on. The sides are told apart, as in an export.
+/// Returns the page of a book, from its sheet and the sheet's document. Two sides with one name are marked `(home)` and
+/// `(away)`, as in an export.
 pub fn page_of<B: BookOf>(
     alloc: Global,
     sheet: &MatchSheet,

@@ -11,14 +11,14 @@ use archive_deliveries::NamedSheet;
 use match_laws::{Match, Outcome};
 use std::alloc::{AllocError, Global};
 
-/// The word for one, or for another number.
+/// Returns the singular for a count of 1, or else the plural.
 fn unit_of(count: u32, one: &'static str, many: &'static str) -> &'static str
     ensures { result.now ≡ (if count == 1 then one.now else many.now) }
 {
     if count == 1 { one } else { many }
 }
 
-/// Puts so many of this.
+/// Writes a count with its unit.
 fn put_count(
     out: &mut String,
     count: u32,
@@ -31,7 +31,7 @@ fn put_count(
     out.push_str(unit_of(count, one, many))
 }
 
-/// A win by so many of this.
+/// Returns that a side won by this count of runs or wickets.
 fn win_by(
     alloc: Global,
     side: &str,
@@ -48,7 +48,7 @@ fn win_by(
     Ok(out)
 }
 
-/// The words of a result, or that there is none yet.
+/// Returns the words of a result, or `no result yet`.
 fn result_words(
     alloc: Global,
     sheet: &NamedSheet<'_>,
@@ -86,7 +86,7 @@ fn result_words(
     }
 }
 
-/// The result as HTML shows it.
+/// Returns the result of a match by the Laws, escaped for HTML.
 pub fn result_of(alloc: Global, sheet: &NamedSheet<'_>, score: &Match) -> Result<String, AllocError>
     ensures { ForEachHistory score.now (λ n h. IfOk result (λ text. string_bytes text ≡ page.result_html sheet.now n h)) }
 {

@@ -1,4 +1,4 @@
-//! What the umpires said of a result.
+//! The result as the umpires gave it.
 
 ghost use Rattle.std.specs.Prelude.{◌≡◌, IfOk, option_map, string_bytes};
 ghost use Rattle.toml.specs.View.{table_view};
@@ -10,7 +10,7 @@ use crate::title::or_words;
 use std::alloc::{AllocError, Global};
 use toml::Table;
 
-/// So many of these, where it is told.
+/// Returns a number with its unit, or nothing if there is no number.
 fn counted(alloc: Global, number: &str, one: &str, many: &str) -> Result<String, AllocError>
     ensures { IfOk result (λ text. string_bytes text ≡ laws.counted_text number.now one.now many.now) }
 {
@@ -21,7 +21,7 @@ fn counted(alloc: Global, number: &str, one: &str, many: &str) -> Result<String,
     format!(in alloc; "{number}{unit}")
 }
 
-/// That it was by an innings, where that is told.
+/// Returns `an innings`, or nothing if the sheet gives no innings.
 fn innings_of(alloc: Global, number: &str) -> Result<String, AllocError>
     ensures { IfOk result (λ text. string_bytes text ≡ laws.innings_text number.now) }
 {
@@ -31,7 +31,7 @@ fn innings_of(alloc: Global, number: &str) -> Result<String, AllocError>
     String::from_str(alloc, "an innings")
 }
 
-/// By an innings, runs and wickets.
+/// Returns the margin: an innings, runs and wickets.
 fn margin_of(alloc: Global, by: Option<&Table>) -> Result<String, AllocError>
     ensures { IfOk result (λ text. string_bytes text ≡ laws.margin_text (option_map (λ inner. table_view inner.now) by.entry)) }
 {
@@ -46,7 +46,7 @@ fn margin_of(alloc: Global, by: Option<&Table>) -> Result<String, AllocError>
     Ok(out)
 }
 
-/// Puts words between these, where there are any.
+/// Writes words between two texts, or nothing if there are no words.
 fn put_behind(out: &mut String, before: &str, words: &str, after: &str) -> Result<(), AllocError>
     ensures { Puts result out.old out.new (laws.behind_words before.now words.now after.now) }
 {
@@ -58,21 +58,21 @@ fn put_behind(out: &mut String, before: &str, words: &str, after: &str) -> Resul
     out.push_str(after)
 }
 
-/// Penalty runs, where the method is theirs: the margin.
+/// Returns the method if it is penalty runs, which are a margin.
 fn penalty_in<'a>(method: &'a str) -> &'a str
     ensures { result.now ≡ laws.penalty_in method.now }
 {
     if method == "penalty runs" { method } else { "" }
 }
 
-/// Any other method.
+/// Returns the method unless it is penalty runs.
 fn method_in<'a>(method: &'a str) -> &'a str
     ensures { result.now ≡ laws.method_in method.now }
 {
     if method == "penalty runs" { "" } else { method }
 }
 
-/// The result in a match's words.
+/// Returns `match drawn` for a draw, `match tied` for a tie, and any other word as it is.
 fn result_word<'a>(word: &'a str) -> &'a str
     ensures { result.now ≡ laws.result_word word.now }
 {
@@ -85,7 +85,7 @@ fn result_word<'a>(word: &'a str) -> &'a str
     }
 }
 
-/// Who won, by how much, and by which method.
+/// Returns who won, by how much and by which method, or nothing if there is no winner.
 fn won_text(alloc: Global, winner: &str, margin: &str, method: &str) -> Result<String, AllocError>
     ensures { IfOk result (λ text. string_bytes text ≡ laws.won_text winner.now margin.now method.now) }
 {
@@ -99,7 +99,7 @@ fn won_text(alloc: Global, winner: &str, margin: &str, method: &str) -> Result<S
     Ok(out)
 }
 
-/// What an outcome says.
+/// Returns the words of an outcome: the win, or else its result.
 fn ruled_by(alloc: Global, outcome: &Table) -> Result<String, AllocError>
     ensures { IfOk result (λ text. string_bytes text ≡ laws.ruled_by (table_view outcome.now)) }
 {
@@ -111,7 +111,7 @@ fn ruled_by(alloc: Global, outcome: &Table) -> Result<String, AllocError>
     or_words(alloc, won, result_word(word.as_str()))
 }
 
-/// What the umpires said of the result, if they did.
+/// Returns what the umpires said of the result, or nothing.
 pub fn ruled_of(alloc: Global, info: &Table) -> Result<String, AllocError>
     ensures { IfOk result (λ text. string_bytes text ≡ laws.ruled_text (table_view info.now)) }
 {

@@ -12,15 +12,15 @@ use cards::all_runs;
 use notation::{Ball, Kind, Leave, Plain};
 use std::alloc::{AllocError, Global};
 
-/// What stands above the rows.
+/// The head of the table, with the names of its columns.
 pub const HEADINGS: &str =
     "<table><caption>Partnerships (* unbroken)</caption><thead><tr><th scope='col'>Wicket</th>\
 <th scope='col'><abbr title='runs'>R</abbr></th><th scope='col'><abbr title='balls'>B</abbr></th></tr></thead><tbody>\n";
 
-/// The most items that a book has, with its end.
+/// The most items that a book can have, counting its end.
 const MOST: usize = 8_193;
 
-/// What came since a wicket fell: runs, and balls that were faced.
+/// The runs since the last wicket, and the balls faced since.
 #[derive(Clone, Copy)]
 pub struct Stand {
     pub runs: u32,
@@ -35,14 +35,14 @@ pub struct Partnership {
     pub balls: u32,
 }
 
-/// Nothing yet.
+/// Returns a stand of no runs and no balls.
 fn no_stand() -> Stand
     ensures { result ≡ laws.no_stand }
 {
     Stand { runs: 0, balls: 0 }
 }
 
-/// One, unless the delivery is a Wide.
+/// Returns how many balls a delivery counts as faced: 0 for a Wide, or else 1.
 fn faced(ball: &Ball) -> u32
     ensures value { result ≡ faced_of ball.now }
     ensures bound { result ≤ 1 }
@@ -53,7 +53,7 @@ fn faced(ball: &Ball) -> u32
     }
 }
 
-/// With a delivery more.
+/// Returns the stand with one more delivery.
 fn stand_with(ball: &Ball, stand: &Stand) -> Stand
     requires runs { stand.now.runs ≤ 260 * PLACES }
     requires balls { stand.now.balls ≤ PLACES }
@@ -67,7 +67,7 @@ fn stand_with(ball: &Ball, stand: &Stand) -> Stand
     }
 }
 
-/// Behind a delivery: a wicket ends it.
+/// Returns the stand after a delivery: a new one after a wicket.
 fn stand_behind(ball: &Ball, stand: &Stand) -> Stand
     requires runs { stand.now.runs ≤ 260 * PLACES }
     requires balls { stand.now.balls ≤ PLACES }
@@ -82,7 +82,7 @@ fn stand_behind(ball: &Ball, stand: &Stand) -> Stand
     }
 }
 
-/// As a batter leaves: who is retired hurt may come in again.
+/// Returns the stand after a batter leaves: a new one, unless he retired hurt and may come in again.
 fn stand_left(how: Leave, stand: &Stand) -> Stand
     ensures value { result ≡ laws.stand_left how stand.now }
     ensures runs { result.runs ≤ stand.now.runs }
@@ -94,7 +94,7 @@ fn stand_left(how: Leave, stand: &Stand) -> Stand
     }
 }
 
-/// Behind an item.
+/// Returns the stand after an item.
 fn stand_after(item: &Plain, stand: &Stand) -> Stand
     requires runs { stand.now.runs ≤ 260 * PLACES }
     requires balls { stand.now.balls ≤ PLACES }
@@ -119,7 +119,7 @@ fn ending(broken: bool, stand: &Stand) -> Partnership
     }
 }
 
-/// The partnership that a delivery ends, if it is a wicket.
+/// Returns the partnership that a delivery ends, if a wicket falls off it.
 fn ended_behind(ball: &Ball, stand: &Stand) -> Option<Partnership>
     requires runs { stand.now.runs ≤ 260 * PLACES }
     requires balls { stand.now.balls ≤ PLACES }
@@ -131,7 +131,7 @@ fn ended_behind(ball: &Ball, stand: &Stand) -> Option<Partnership>
     None
 }
 
-/// The partnership that ends as a batter leaves.
+/// Returns the partnership that ends as a batter leaves, unless he retired hurt.
 fn ended_left(how: Leave, stand: &Stand) -> Option<Partnership>
     ensures { result ≡ laws.ended_left how stand.now }
 {
@@ -141,7 +141,7 @@ fn ended_left(how: Leave, stand: &Stand) -> Option<Partnership>
     }
 }
 
-/// The one that no wicket ended, if there was one.
+/// Returns the unbroken partnership, unless it has no runs and no balls.
 fn unbroken(stand: &Stand) -> Option<Partnership>
     ensures { result ≡ laws.unbroken stand.now }
 {
@@ -151,7 +151,7 @@ fn unbroken(stand: &Stand) -> Option<Partnership>
     Some(ending(false, stand))
 }
 
-/// The partnership that an item ends, if it ends one.
+/// Returns the partnership that an item ends, if it ends one.
 fn ended(item: &Plain, stand: &Stand) -> Option<Partnership>
     requires runs { stand.now.runs ≤ 260 * PLACES }
     requires balls { stand.now.balls ≤ PLACES }
@@ -165,7 +165,7 @@ fn ended(item: &Plain, stand: &Stand) -> Option<Partnership>
     }
 }
 
-/// Whether an item belongs to the innings, while that is open.
+/// Whether an item belongs to the innings, and the innings was open before it.
 fn is_within(innings: usize, moment: &Moment) -> bool
     ensures { result ≡ laws.is_within innings moment.now }
 {
@@ -196,7 +196,7 @@ fn stand_in(innings: usize, moment: &Moment, stand: &Stand) -> Stand
     *stand
 }
 
-/// Keeps a partnership behind others, where there is one.
+/// Adds a partnership to the list, if there is one.
 fn keep(list: &mut Vec<Partnership>, ended: Option<Partnership>) -> Result<(), AllocError>
     ensures { OnOk result (list.new.items ≡ list.old.items ++ laws.in_list ended) }
 {
@@ -206,7 +206,7 @@ fn keep(list: &mut Vec<Partnership>, ended: Option<Partnership>) -> Result<(), A
     Ok(())
 }
 
-/// The partnerships of an innings, by the items of the match.
+/// Returns the partnerships of an innings, from the items of the match.
 fn partnerships(
     alloc: Global,
     innings: usize,
@@ -214,7 +214,7 @@ fn partnerships(
 ) -> Result<Vec<Partnership>, AllocError>
     ensures { IfOk result (λ list. list.items ≡ laws.partnerships innings moments.now) }
 {
-    // (no book is longer)
+    // No book is longer.
     if MOST < moments.len() {
         return Err(AllocError);
     }
@@ -234,7 +234,7 @@ fn star(broken: bool) -> &'static str
     if broken { "" } else { "*" }
 }
 
-/// Puts the row of a partnership, by its number.
+/// Writes the row of a partnership, with its number.
 fn put_figures(
     out: &mut String,
     number: usize,
@@ -256,7 +256,7 @@ fn put_row(out: &mut String, number: usize, one: &Partnership) -> Result<(), All
     put_figures(out, number, one.runs, star(one.broken), one.balls)
 }
 
-/// The one at an index.
+/// Returns the partnership at an index.
 fn partnership_at(list: &[Partnership], index: usize) -> Partnership
     requires { index < length list.now }
     ensures { slice_get list.now index ≡ Some result }
@@ -264,7 +264,7 @@ fn partnership_at(list: &[Partnership], index: usize) -> Partnership
     list[index]
 }
 
-/// The rows of all of them.
+/// Returns the rows of these partnerships.
 fn rows_of(alloc: Global, list: &[Partnership]) -> Result<String, AllocError>
     ensures { IfOk result (λ rows. string_bytes rows ≡ lines_from laws.row_html 1 list.now) }
 {
@@ -275,7 +275,7 @@ fn rows_of(alloc: Global, list: &[Partnership]) -> Result<String, AllocError>
     Ok(out)
 }
 
-/// Puts these rows as a table.
+/// Writes these rows as a table.
 fn put_rows(out: &mut String, rows: &str) -> Result<(), AllocError>
     ensures { Puts result out.old out.new (laws.table_html rows.now) }
 {
@@ -284,7 +284,7 @@ fn put_rows(out: &mut String, rows: &str) -> Result<(), AllocError>
     out.push_str("</tbody></table>\n")
 }
 
-/// The same, where there are any.
+/// Writes the table, if there are any rows.
 fn put_table(out: &mut String, rows: &str) -> Result<(), AllocError>
     ensures { Puts result out.old out.new (laws.in_table rows.now) }
 {
@@ -294,7 +294,7 @@ fn put_table(out: &mut String, rows: &str) -> Result<(), AllocError>
     put_rows(out, rows)
 }
 
-/// Puts the partnerships of an innings, by the items of the match.
+/// Writes the partnerships of an innings, from the items of the match.
 pub fn put_partnerships(
     alloc: Global,
     out: &mut String,

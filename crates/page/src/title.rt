@@ -9,7 +9,7 @@ use archive_deliveries::NamedSheet;
 use std::alloc::{AllocError, Global};
 use toml::Table;
 
-/// A text, or another one where there is none.
+/// Returns the words, or the other text if they are empty.
 pub fn or_words(alloc: Global, words: String, other: &str) -> Result<String, AllocError>
     ensures { IfOk result (λ text. string_bytes text ≡ laws.or_words (string_bytes words) other.now) }
 {
@@ -19,7 +19,7 @@ pub fn or_words(alloc: Global, words: String, other: &str) -> Result<String, All
     Ok(words)
 }
 
-/// The name of the event.
+/// Returns the name in the table `event`, or the word `event`.
 fn name_of(alloc: Global, info: &Table) -> Result<String, AllocError>
     ensures { IfOk result (λ text. string_bytes text ≡ laws.name_text (table_view info.now)) }
 {
@@ -28,7 +28,7 @@ fn name_of(alloc: Global, info: &Table) -> Result<String, AllocError>
     or_words(alloc, name, word.as_str())
 }
 
-/// Which part of the event.
+/// Returns which part of the event the match belongs to: its group, stage and sub-name.
 fn part_of(alloc: Global, event: Option<&Table>) -> Result<String, AllocError>
     ensures { IfOk result (λ text. string_bytes text ≡ laws.part_text (option_map (λ inner. table_view inner.now) event.entry)) }
 {
@@ -40,7 +40,7 @@ fn part_of(alloc: Global, event: Option<&Table>) -> Result<String, AllocError>
     Ok(out)
 }
 
-/// Which match of it.
+/// Returns which match of the event this is, or nothing without a number.
 fn numbered(alloc: Global, number: &str) -> Result<String, AllocError>
     ensures { IfOk result (λ text. string_bytes text ≡ laws.numbered number.now) }
 {
@@ -50,7 +50,7 @@ fn numbered(alloc: Global, number: &str) -> Result<String, AllocError>
     format!(in alloc; "match {number}")
 }
 
-/// The event and which match of it, or the sheet's title where that has no name.
+/// Returns the event, or the sheet's title if the event has no name, and then which part and match of the event this is.
 pub fn title_of(alloc: Global, sheet: &NamedSheet<'_>, info: &Table) -> Result<String, AllocError>
     ensures { IfOk result (λ text. string_bytes text ≡ laws.title_text sheet.now (table_view info.now)) }
 {

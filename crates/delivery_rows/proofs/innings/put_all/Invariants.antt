@@ -6,7 +6,7 @@ use Rattle.delivery_rows.specs.Cells.{rows_text}
 use Rattle.delivery_rows.specs.Deliveries.{innings_rows}
 use Rattle.delivery_rows.proofs.innings.put_all.Given as goal
 
--- the rows of the innings so far are put
+-- the rows of the innings so far are written
 abbrev pub invariant-loop-index : goal.invariant-loop-index
 invariant-loop-index l = ForEachHistory l.score (λ n h. l.begun ≡ begun_of h →
     l.out.items ≡ l.initial.out.items ++ rows_text (up_to (innings_rows l.sheet l.day h l.notes) l.index))

@@ -4,7 +4,7 @@ use Rattle.cards.specs.Columns.{lines_from}
 use Rattle.page.specs.Book.{correction_html}
 use Rattle.page.proofs.book_part.rows_of.Given as goal
 
--- the rows so far, and those of what is left, are all
+-- the rows so far and the rows of the entries left are all rows
 abbrev pub invariant-loop-place : goal.invariant-loop-place
 invariant-loop-place g l =
     let book = g.B.BookOf.content l.book in

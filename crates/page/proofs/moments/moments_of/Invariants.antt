@@ -3,7 +3,7 @@ use Rattle.corrections.specs.CleanList.{clean, kept}
 use Rattle.page.proofs.Momenting.{Telling}
 use Rattle.page.proofs.moments.moments_of.Given as goal
 
--- each item has 260 runs at most
+-- each item has at most 260 runs
 abbrev pub invariant-loop-index : goal.invariant-loop-index
 invariant-loop-index g l =
     Telling (clean (g.B.BookOf.content l.book)) (kept (drop l.index l.clean_items)) l.innings_a_side l.score l.over l.moments.items

@@ -3,7 +3,7 @@ use Rattle.toml.specs.View.{table_view}
 use Rattle.page.specs.Page.{main_html, top_html}
 use Rattle.page.proofs.printing.named_page.Goals as goal
 
--- two texts behind nothing
+-- two texts after an empty one
 both_texts : (o p q ts us : List ℕ) → o ≡ [] → p ≡ o ++ ts → q ≡ p ++ us → q ≡ ts ++ us
 both_texts o p q ts us none first more = more ∙ ap (λ u. u ++ us) (first ∙ ap (λ u. u ++ ts) none)
 
