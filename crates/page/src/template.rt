@@ -1,6 +1,6 @@
-//! What stands round the parts of a match's page. `tools/served` writes this file, of web/match.html.
+//! The HTML around the parts of a match's page. `tools/served` writes this file, of web/match.html.
 
-/// What stands before the words of a window.
+/// The HTML before the title of the window.
 pub const FRONT: &str = "<!DOCTYPE html>
 <html lang='en'>
 <head>
@@ -11,7 +11,7 @@ pub const FRONT: &str = "<!DOCTYPE html>
 <link rel='icon' href='data:,'>
 <title>";
 
-/// From there to the title of the match, with the style.
+/// The HTML from there to the title of the match, with the style.
 pub const STYLE: &str = "</title>
 <style>
 :root { --ink: #111111; --quiet: #3d3d3d; --rule: #767676; --faint: #d4d9d4; --band: #eef3ee; --paper: #ffffff; --home: #0b4a2b; --away: #7a1f00; }
@@ -125,12 +125,12 @@ code { font: inherit; font-family: 'DejaVu Sans Mono', 'Liberation Mono', Menlo,
 <header>
 <h1 id='title'>";
 
-/// What stands behind the head of the page.
+/// The HTML after the head of the page.
 pub const MAIN: &str = "</header>
 <main>
 ";
 
-/// What stands last.
+/// The end of the HTML.
 pub const END: &str = "</main>
 </body>
 </html>
