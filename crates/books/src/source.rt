@@ -20,7 +20,7 @@ use votes_file::book_of_file;
 pub enum Source {
     /// Pen lines.
     Lines,
-    /// The votes file of a desk, of either version.
+    /// A desk's votes file, of either version.
     Votes(DeskId),
 }
 
