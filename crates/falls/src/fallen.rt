@@ -17,11 +17,11 @@ use std::alloc::{AllocError, Global};
 /// The point at which a wicket fell.
 #[derive(Clone, Copy)]
 pub struct FallAt {
-    /// The number of its innings, from 1.
+    /// The number of the innings, from 1.
     pub innings: usize,
-    /// How many overs of it had been called.
+    /// How many overs of the innings had been called.
     pub overs: u32,
-    /// How many balls of the next one count, its own among them.
+    /// How many balls of the next over counted, including the wicket's own.
     pub balls: u32,
 }
 
