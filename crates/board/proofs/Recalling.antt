@@ -1,4 +1,4 @@
--- A desk's own vote goes back to it exactly where a vote of it parts, and is for a position that there is.
+-- A vote sends the desk's own vote back exactly if it parts, and that vote's position is in range.
 use Rattle.std.proofs.Common.{arith, ◌≡◌, ◌≤◌, ℕ, Bool, true, false, ◌&&◌, ◌||◌, nat_lt, List, [], ◌∷◌, Option, Some, None, refl, sym, ◌∙◌}
 use Rattle.std.specs.Prelude.{◌==◌, IfSome, find, if◌then◌else◌, is_some, option_map}
 use Rattle.std.proofs.lemmas.Bool.Decides.{nat_tests}
@@ -9,12 +9,12 @@ use Rattle.board.specs.declared.witness.Round.{Round}
 use Rattle.board.specs.Rounds.{desk_asking, is_against, is_of, parts, recalled, recalled_at, vote_in}
 use Rattle.wire.specs.Layout.{is_at}
 
--- what is found is as was looked for
+-- the found round passes the test
 found : (test : Round → Bool) (rounds : List Round) (r : Round) → find test rounds ≡ Some r → test r ≡ true
 found test [] r e = absurd (cc)
 found test (x ∷ xs) r e = grind (arith, found test xs r)
 
--- something is found exactly where one is such
+-- a vote is recalled exactly if some round is against it
 pub parts_recalled : (v : Vote) (rounds : List Round) → is_some (recalled rounds (Message.Vote v)) ≡ parts rounds v
 parts_recalled v [] = refl
 parts_recalled v (r ∷ rs) = turn (is_against v r) (parts_recalled v rs)
@@ -24,7 +24,7 @@ parts_recalled v (r ∷ rs) = turn (is_against v r) (parts_recalled v rs)
     turn true e = refl
     turn false e = e
 
--- a vote that is against a round is for its place, in no earlier round
+-- a vote that is against a round is for the round's place, in no earlier round
 in_place : (v : Vote) (r : Round) → is_against v r ≡ true → (r.at.place ≡ v.place) × (r.at.round ≤ v.round)
 in_place v r e = grind (arith, nat_tests)
 
@@ -49,7 +49,7 @@ ranged : (rounds : List Round) (m : Message) → InRange (is_at m) → (w : Vote
 ranged rounds (Message.Vote v) i w e = vote_range v (find (is_against v) rounds) (found (is_against v) rounds) i w e
 ranged rounds (Message.Ask q) i w e = asked_range rounds (desk_asking q.from) (record { place = q.place; round = q.round }) i w e
 
--- it is for a position that there is
+-- a recalled vote's position is in range
 pub recalled_range : (rounds : List Round) (m : Message) (o : Option Vote) → o ≡ recalled rounds m → InRange (is_at m) → IfSome o (λ v. InRange (position_of v))
 recalled_range rounds m None e i = tt
 recalled_range rounds m (Some w) e i = ranged rounds m i w (sym e)

@@ -6,8 +6,8 @@ use Rattle.board.specs.declared.trouble.Why.TheVariants.{Refused, Anew, Apart}
 abbrev pub trouble_at : ℕ → Why → Trouble
 trouble_at place why = record { place = place; why = why }
 
--- Where both desks' votes are refused, or a desk's file is seen to lack lines, what the book would have next may be wrong: the
--- board takes nothing more.
+-- If both desks' votes are refused, or a desk's file is seen to lack lines, the book's next entry may be wrong:
+-- the board takes nothing more.
 abbrev pub stops : Why → Bool
 stops Refused = true
 stops Anew = true
@@ -17,7 +17,7 @@ abbrev pub is_stopped_by : Option Trouble → Bool
 is_stopped_by None = false
 is_stopped_by (Some trouble) = stops trouble.why
 
--- at another position there is left what stops a board
+-- at another position only a trouble that stops the board remains
 abbrev pub left_of : Option Trouble → Option Trouble
 left_of None = None
 left_of (Some trouble) = if stops trouble.why then Some trouble else None

@@ -1,9 +1,9 @@
-//! What is so of every board. These functions do nothing: each stands for the laws that it ensures.
+//! What holds for every board. The function does nothing: it stands for the law that it ensures.
 
 ghost use Rattle.board.specs.Rounds.{SplitsAreSeen};
 
-/// Where a board has heard both desks agree an entry, and they agree another one for that place, in whatever round, one of
-/// their votes shows it.
+/// If a board has heard both desks agree on an entry, and they later agree on another entry for that place, in
+/// any round, then one of their votes shows it.
 pub fn splits_are_seen()
     ensures { SplitsAreSeen }
 {}

@@ -8,14 +8,14 @@ ghost use Rattle.board.specs.Troubles as laws;
 pub enum Why {
     /// Both desks' votes are for an entry that the book refuses.
     Refused,
-    /// A vote came that no desk casts whose file has all its lines.
+    /// A vote was heard that no desk casts if its file has all its lines.
     Anew,
-    /// Both desks vote for later places, and neither for the round that the board has come to.
+    /// Both desks vote for later places, and neither votes in the round that the board has come to.
     Apart,
 }
 
 impl Why {
-    /// Whether a board takes nothing more then: its book stays as it is.
+    /// Whether this stops the board: it takes nothing more, and its book stays as it is.
     pub fn stops(self) -> bool
         ensures { result ≡ laws.stops self }
     {
@@ -26,7 +26,7 @@ impl Why {
     }
 }
 
-/// What keeps a board from going on: at which place, and why.
+/// What keeps a board from going on: the place, and the reason.
 #[derive(Clone, Copy, Debug)]
 pub struct Trouble {
     pub place: u32,

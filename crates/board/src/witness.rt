@@ -1,4 +1,4 @@
-//! What a board remembers of the rounds that it has heard, and which votes show by it that a desk's file lacks lines.
+//! The rounds that a board remembers, and the votes that show by them that a desk's file lacks lines.
 
 ghost use Rattle.std.specs.Prelude.{◌≡◌, ◌<◌, ◌≤◌, ◌∷◌, ◌++◌, IfOk, IfSome, [], find, option_map, vec_capacity, vec_len};
 ghost use Rattle.agree_core.specs.Positions.{InRange, position_of};
@@ -10,10 +10,10 @@ use notation::{Entry, code_of};
 use std::alloc::{AllocError, Global};
 use std::marker::Model;
 
-/// How many rounds are remembered: a desk's file has no more votes.
+/// How many rounds are remembered at most: a desk's file has no more votes.
 pub const MOST_ROUNDS: usize = 16_384;
 
-/// A round of voting that was heard whole: its position, and what each desk voted for.
+/// A round of voting that was heard in full: its position, and what each desk voted for.
 #[derive(Clone, Copy, Debug)]
 pub struct Round {
     pub at: Position,
@@ -21,7 +21,7 @@ pub struct Round {
     pub b: Entry,
 }
 
-/// Whether two entries are one.
+/// Whether two entries are equal.
 fn is_alike(one: &Entry, other: &Entry) -> bool
     ensures { result ≡ laws.is_alike one.now other.now }
 {
@@ -29,7 +29,7 @@ fn is_alike(one: &Entry, other: &Entry) -> bool
 }
 
 impl Round {
-    /// What a desk voted for in it.
+    /// Returns what a desk voted for in this round.
     fn cast_by(&self, desk: DeskId) -> &Entry
         ensures { result.now ≡ laws.cast_by desk self.now }
     {
@@ -39,7 +39,7 @@ impl Round {
         }
     }
 
-    /// Whether a vote is another one of the same desk for this position.
+    /// Whether a vote is for this round's position, but for another entry than the same desk's vote in it.
     fn is_another(&self, vote: &Vote) -> bool
         ensures { result ≡ laws.is_another vote.now self.now }
     {
@@ -48,7 +48,7 @@ impl Round {
             && !is_alike(self.cast_by(vote.desk), &vote.entry)
     }
 
-    /// Whether a vote is in a later round of this place, though both desks voted alike in this one.
+    /// Whether a vote is in a later round of this place, although both desks voted alike in this round.
     fn is_later(&self, vote: &Vote) -> bool
         ensures { result ≡ laws.is_later vote.now self.now }
     {
@@ -67,7 +67,7 @@ impl Round {
         self.at.place == at.place && self.at.round == at.round
     }
 
-    /// A desk's vote in it.
+    /// Returns a desk's vote in this round.
     fn vote_of(&self, desk: DeskId) -> Vote
         ensures { result ≡ laws.vote_in desk self.now }
     {
@@ -80,7 +80,7 @@ impl Round {
     }
 }
 
-/// The desk that asks, where one does.
+/// Returns the desk that asks, or `None` for a board.
 fn desk_asking(asker: Asker) -> Option<DeskId>
     ensures { result ≡ laws.desk_asking asker }
 {
@@ -91,7 +91,7 @@ fn desk_asking(asker: Asker) -> Option<DeskId>
     }
 }
 
-/// The rounds that a board has heard whole, the oldest first. Its memory is taken at once.
+/// The rounds that a board has heard in full, the oldest first. Its memory is allocated at the start.
 #[derive(Drop)]
 pub struct Witness {
     rounds: Vec<Round>,
@@ -118,7 +118,7 @@ fn add<T: Copy + Drop>(list: &mut Vec<T>, value: T)
 }
 
 impl Witness {
-    /// It has heard none.
+    /// Creates a witness that has heard no round.
     pub fn new(alloc: Global) -> Result<Witness, AllocError>
         ensures { IfOk result (λ witness. witness ≡ []) }
     {
@@ -127,8 +127,9 @@ impl Witness {
         })
     }
 
-    /// A desk's own vote, where another of its votes shows that its file lacks it: that is another one for a position, or in a
-    /// later round of a place than the one in which both desks voted alike.
+    /// Returns the desk's own remembered vote if this vote shows that the desk's file lacks it: this vote is for
+    /// another entry at the same position, or in a later round of a place than the one in which both desks voted
+    /// alike.
     fn recalled_by_vote(&self, vote: &Vote) -> Option<Vote>
         ensures { result ≡ laws.recalled self.now (Message.Vote vote.now) }
     {
@@ -136,7 +137,7 @@ impl Witness {
         Some(round.vote_of(vote.desk))
     }
 
-    /// A desk's vote for a position, where it was heard.
+    /// Returns a desk's vote for a position, if it was heard.
     fn vote_at(&self, desk: DeskId, at: Position) -> Option<Vote>
         ensures { result ≡ option_map (laws.vote_in desk) (find (laws.is_of at) self.now) }
     {
@@ -144,7 +145,7 @@ impl Witness {
         Some(round.vote_of(desk))
     }
 
-    /// The vote of the desk that asks for the votes of a position, where it was heard.
+    /// Returns the asking desk's own vote for the asked position, if it was heard.
     fn recalled_by_ask(&self, ask: &Ask) -> Option<Vote>
         ensures { result ≡ laws.recalled self.now (Message.Ask ask.now) }
     {
@@ -158,8 +159,8 @@ impl Witness {
         }
     }
 
-    /// The own vote of the desk that says this, where it goes back to that desk: its file lacks it, as a vote of it shows, or
-    /// may lack it, where it asks.
+    /// Returns the sending desk's own vote if it is to be sent back to that desk: its file lacks the vote, as a
+    /// vote of that desk shows, or may lack it, if the desk asks.
     pub fn recalled(&self, message: &Message) -> Option<Vote>
         ensures vote { result ≡ laws.recalled self.now message.now }
         ensures range { InRange (is_at message.now) → IfSome result (λ v. InRange (position_of v)) }

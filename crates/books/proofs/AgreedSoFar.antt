@@ -1,4 +1,4 @@
--- The agreed list of a desk's first votes and the other's, one vote more at a time.
+-- The agreed list of a desk's first votes and all of the other desk's, one more vote at a time.
 use Rattle.std.proofs.Common.{◌≡◌, ℕ, ◌+◌, ◌-◌, ◌≤◌, List, [], ◌∷◌, ◌++◌, length, inl, inr, arith, length-append}
 use Rattle.std.specs.List.{All}
 use Rattle.std.proofs.lemmas.List.{drop_all}
@@ -15,7 +15,7 @@ use Rattle.vote_store.proofs.SequenceLemmas.{earlier, fewer}
 abbrev pub both : List Ballot → List Ballot → AllVotes
 both own theirs = record { a = own; b = theirs }
 
--- a sequence has one vote at a position
+-- a sequence has at most one vote at a position
 pub one_vote : (votes : List Ballot) → IsSequence votes → (b c : Ballot) → In b votes → In c votes → b.at ≡ c.at → b ≡ c
 one_vote [] s b c i k e = absurd i
 one_vote (x ∷ xs) s b c i k e = grind (arith, earlier, one_vote xs s.2 b c)
@@ -26,7 +26,7 @@ all_settled_push v place next [] e n a s = let same : next ≡ place = omega ari
 all_settled_push v place next (x ∷ xs) e n a s = (a.0, all_settled_push v (place + 1) next xs e (omega arith) a.1 s)
 
 module _ (own theirs : List Ballot) (b : Ballot) (s : IsSequence (b ∷ own)) where
-  -- a place that is settled stays so
+  -- a settled place stays settled
   still_settled : (place : ℕ) (e : Entry) → SettledAt (both own theirs) place e → SettledAt (both (b ∷ own) theirs) place e
   still_settled place e (round, (equal, least)) = (
     round,
@@ -42,7 +42,7 @@ module _ (own theirs : List Ballot) (b : Ballot) (s : IsSequence (b ∷ own)) wh
       IsAgreedList (both (b ∷ own) theirs) xs
   settles_nothing xs a other = (all_still_settled 0 xs a.0, λ r e k. grind (arith, other, a.1 r e))
 
-  -- a vote for the next place that the other desk has too settles it
+  -- a vote for the next place that the other desk also has settles that place
   settles_next : (xs : List Entry) → IsAgreedList (both own theirs) xs → b.at.place ≡ length xs → In b theirs →
       IsAgreedList (both (b ∷ own) theirs) (xs ++ b.entry ∷ [])
   settles_next xs a here i =

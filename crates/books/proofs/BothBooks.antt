@@ -1,4 +1,4 @@
--- The book of both files, where it is made of their agreed list.
+-- The book of both files, made of their agreed list.
 use Rattle.std.proofs.Common.{◌≡◌, ℕ, List, [], None, Result, Ok, Err}
 use Rattle.std.specs.Prelude.{IfErr, IfOk}
 use Rattle.notation.specs.declared.entry.Entry.{Entry}

@@ -1,4 +1,4 @@
--- A list of entries that a book is given one by one, up to the first that it refuses.
+-- A list of entries given to a book one by one, up to the first that the book refuses.
 use Rattle.std.proofs.Common.{◌≡◌, ◌≢◌, ◌<◌, ◌+◌, ℕ, List, [], ◌∷◌, ◌++◌, true, false, length, drop, get_or, None, Result, Ok, Err, append_assoc}
 use Rattle.std.specs.Prelude.{is_err}
 use Rattle.std.proofs.lemmas.List.{drop_more}
@@ -9,7 +9,7 @@ use Rattle.corrections.specs.Refusal.{book_refusal}
 use Rattle.agree_core.specs.Books.{AllTaken, FirstRefused}
 use Rattle.agree_core.proofs.Taken.{refused_next, taken_push}
 
--- these entries were taken, and are the first of the list
+-- these entries were taken, and are a beginning of the list
 pub record Entered (innings : ℕ) (entries : List Entry) (i : ℕ) (book : Contents) : Type 0 where
   pub entered : book.entries ++ drop i entries ≡ entries
   pub taken : AllTaken (book_refusal innings) [] book.entries
@@ -19,7 +19,7 @@ module _
     {innings : ℕ} {entries : List Entry} {i : ℕ} {book : Contents} {e : Entry} (so_far : Entered innings entries i book)
     (less : i < length entries) (is : e ≡ get_or entries i e)
   where
-    -- what is left begins with the next entry
+    -- the rest begins with the next entry
     whole : book.entries ++ (e ∷ drop (i + 1) entries) ≡ entries
     whole = rw (drop_more entries i e less, ← is) at so_far.entered
 

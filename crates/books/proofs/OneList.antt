@@ -1,4 +1,4 @@
--- Sound files have one agreed list.
+-- Two sound files have only one agreed list.
 use Rattle.std.proofs.Common.{◌≡◌, ℕ, ◌+◌, List, [], ◌∷◌, length, refl, arith, add-zero, zero-add}
 use Rattle.notation.specs.declared.entry.Entry.{Entry}
 use Rattle.agree_core.specs.Agreed.{AllSettled, IsAgreedList, SettledAt, Unsettled}

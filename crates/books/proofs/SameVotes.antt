@@ -1,4 +1,4 @@
--- Two desks' votes that differ nowhere are the same votes.
+-- If two desks' votes differ nowhere, they are the same votes.
 use Rattle.std.proofs.Common.{◌≡◌, ◌↔◌, ℕ, ◌<◌, zero, suc, List, [], ◌∷◌, ◌++◌, true, Option, Some, None, refl, sym, ap, ◌∙◌, arith}
 use Rattle.std.specs.Prelude.{IfSome}
 use Rattle.std.proofs.lemmas.Slice.Eq.{bytes_eq-Decides}
@@ -23,7 +23,7 @@ pub entries_at : (votes : List Ballot) → AllEntries votes → (place round : �
 entries_at [] a place round = tt
 entries_at (b ∷ bs) a place round = grind (arith, entries_at bs a.1 place round)
 
--- ---- nothing is told
+-- ---- no difference
 
 no_parts : (xs ys : List Difference) → xs ++ ys ≡ [] → (xs ≡ []) × (ys ≡ [])
 no_parts [] ys e = (refl, e)
@@ -61,7 +61,7 @@ module _ (v : AllVotes) (a : IsVotes v.a) (b : IsVotes v.b) where
         λ i. grind (arith, in_range v.b b.sequence x i, here, found_in v.a x.at.place x.at.round x.entry, some_at v.b b.sequence x.at.place x.at.round x.entry i),
       )
 
-  -- ---- and the same votes tell nothing
+  -- ---- the same votes have no difference
 
   module _ (same : (x : Ballot) → In x v.a ↔ In x v.b) where
     by_first : (place round : ℕ) (o : Option Entry) → entry_at v.a place round ≡ o → o ≡ entry_at v.b place round

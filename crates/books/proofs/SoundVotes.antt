@@ -1,4 +1,4 @@
--- The votes of a desk's file are a sequence, so it has one vote at a position.
+-- The votes of a desk's file are a sequence, so the file has at most one vote at a position.
 use Rattle.std.proofs.Common.{◌≡◌, ℕ, List, Ok, ap, arith}
 use Rattle.notation.specs.declared.entry.Entry.{Entry}
 use Rattle.agree_core.specs.declared.{position.Position.Position, messages.DeskId.DeskId}
@@ -22,7 +22,7 @@ pub one_entry : (votes : DeskVotes) (at : Position) (e f : Entry) → In (record
     In (record { at = at; entry = f }) (read_votes votes) → e ≡ f
 one_entry votes at e f i j = ap (λ (b : Ballot). b.entry) (one_vote (read_votes votes) (are_votes votes).sequence _ _ i j (λ _. at))
 
--- what a file of either version has
+-- the votes of a file of either version are votes
 pub in_file : (desk : DeskId) (game : ℕ) (file : List ℕ) (votes : List Ballot) → votes_in_file desk game file ≡ Ok votes → IsVotes votes
 in_file desk game file votes e =
     let old = file_votes-votes (contents version_1) (desk_number desk) game file votes in

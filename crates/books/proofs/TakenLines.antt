@@ -7,7 +7,7 @@ use Rattle.books.specs.declared.rejected.Rejected.{Rejected}
 use Rattle.books.specs.CardBook.{IsBookOfLines, first_rejected}
 use Rattle.books.specs.Taking.{answer_to, book_after, with_taken}
 
--- what the lines that are left make of the entries taken so far is what the whole input makes
+-- the remaining lines, after the entries taken so far, give the same result as the whole input
 pub record Midway (innings : ℕ) (input : List ℕ) (lines : List (List ℕ)) (number : ℕ) (book : List Entry) : Type 0 where
   pub numbered : number + length lines ≡ length (lines_of input)
   pub long : length book ≡ number
@@ -27,7 +27,7 @@ module _ (innings : ℕ) (input line : List ℕ) (rest : List (List ℕ)) (numbe
     rejected = grind (arith, m.rejected);
   }
 
-  -- or not: then it is the first that isn't
+  -- the line isn't taken: then it is the first that isn't
   pub first_refused : (n : ℕ) (why : Rejected) → n ≡ innings → answer_to n book line ≡ Err why → first_rejected innings 1 [] (lines_of input) ≡ Some (number + 1, why)
   first_refused n why same e = sym (rw (rw same at e, first_rejected) at m.rejected)
 

@@ -11,7 +11,7 @@ module _ (v : AllVotes) where
   pub none_more : (place n : ℕ) → IsSequence v.a → IsWholeAt v place n → has_vote v.a place n ≡ false → IsWholeAt v place ROUNDS
   none_more place n sequence whole none round less = grind (arith, cases_lt round n, whole round, none_from v.a sequence place n round)
 
-  -- behind a place without a vote of A no place is torn
+  -- after a place without a vote of A no place is torn
   pub none_torn : (n : ℕ) → IsSequence v.a → IsWholeBelow v n → has_vote v.a n 0 ≡ false → IsWholeBelow v PLACES
   none_torn n sequence whole none place less round r =
       grind (arith, cases_lt place n, whole place, none_after v.a sequence n place, none_from v.a sequence place 0 round)

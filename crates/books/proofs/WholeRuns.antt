@@ -1,4 +1,4 @@
--- Votes that follow one another by the other desk's are of one history.
+-- Votes that rightly follow one another, given the other desk's votes, are of one history.
 use Rattle.std.proofs.Common.{◌≡◌, ◌≢◌, ℕ, ◌+◌, Bool, true, false, List, Option, Some, None, refl, sym, arith}
 use Rattle.notation.specs.declared.entry.Entry.{Entry}
 use Rattle.agree_core.specs.Ballots.{AllJustified, AllVotes, Ballot, In, Justified, ballot_at}
@@ -12,11 +12,11 @@ use Rattle.books.proofs.SameVotes.{alike_here, entries_at, same_entry}
 
 module _ (own theirs : List Ballot) (jo : Justified theirs own) (jt : Justified own theirs) (place round : ℕ) (e f : Entry)
     (mine : In (ballot_at place round e) own) (other : In (ballot_at place round f) theirs) where
-  -- after votes alike there is none in the next round
+  -- after equal votes there is no vote in the next round
   none_next : e ≡ f → entry_at own place (round + 1) ≡ None
   none_next same = none_at own place (round + 1) (λ g i. none_later own theirs jo jt place round (round + 1) e g (mine, rw same other) i (omega arith))
 
-  -- after others there is none at the next place, where there is none in the next round
+  -- after different votes there is no vote at the next place, if there is none in the next round
   none_there : e ≢ f → entry_at own place (round + 1) ≡ None → entry_at own (place + 1) 0 ≡ None
   none_there differ last = none_at own (place + 1) 0 λ g i.
       let closed = place_closed theirs own jo place g i in

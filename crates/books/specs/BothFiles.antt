@@ -1,4 +1,4 @@
--- The book of both desks' votes files: their agreed list, or why it is none.
+-- The book of both desks' votes files: their agreed list, or why there is no book.
 use Rattle.std.specs.Prelude.{◌≡◌, ℕ, List, [], Some, None, Ok, Err, IsOk}
 use Rattle.notation.specs.declared.entry.Entry.{Entry}
 use Rattle.corrections.specs.Refusal.{book_refusal}
@@ -19,7 +19,7 @@ pub record HaveVotes (game : ℕ) (a b : List ℕ) (votes : AllVotes) : Type 0 w
   pub first : votes_in_file A game a ≡ Ok votes.a
   pub second : votes_in_file B game b ≡ Ok votes.b
 
--- the votes of both files are of one history, and their agreed list is this book, and legal
+-- the votes of both files are of one history, and this book is their agreed list, and legal
 pub record IsBookOfBoth (s : Sheet) (a b : List ℕ) (book : List Entry) : Type 0 where
   pub votes : AllVotes
   pub read : HaveVotes s.game a b votes
@@ -33,7 +33,7 @@ pub record IsTornFrom (game : ℕ) (a b : List ℕ) (place : ℕ) : Type 0 where
   pub read : HaveVotes game a b votes
   pub torn : Tears votes (Some place)
 
--- they are, and their agreed list is first refused at this place
+-- the votes of both files are of one history, but their agreed list is first refused at this place
 pub record IsRefusedAt (s : Sheet) (a b : List ℕ) (place : ℕ) : Type 0 where
   pub votes : AllVotes
   pub read : HaveVotes s.game a b votes
@@ -42,7 +42,7 @@ pub record IsRefusedAt (s : Sheet) (a b : List ℕ) (place : ℕ) : Type 0 where
   pub agreed : IsAgreedList votes list
   pub refused : FirstRefused (book_refusal s.innings) [] list place
 
--- the fault of the first of both files that is refused
+-- the fault of the first of the two files that is refused
 abbrev pub WhyNotOpened : ℕ → List ℕ → List ℕ → BothFault → Type 0
 WhyNotOpened game a b NoMemory = Unit {0}
 WhyNotOpened game a b (Votes A why) = votes_in_file A game a ≡ Err why
@@ -50,13 +50,14 @@ WhyNotOpened game a b (Votes B why) = IsOk (votes_in_file A game a) × (votes_in
 WhyNotOpened game a b (NotOneHistory place) = ⊥
 WhyNotOpened game a b (BadVotes place) = ⊥
 
--- the same; then the first place at which they aren't of one history; then that at which their agreed list is no legal book
+-- first a file's fault; then the first place that isn't of one history; then the first place at which the agreed
+-- list isn't legal
 abbrev pub WhyNoBookOfBoth : Sheet → List ℕ → List ℕ → BothFault → Type 0
 WhyNoBookOfBoth s a b (NotOneHistory place) = IsTornFrom s.game a b place
 WhyNoBookOfBoth s a b (BadVotes place) = IsRefusedAt s a b place
 WhyNoBookOfBoth s a b fault = WhyNotOpened s.game a b fault
 
--- the fault of a desk's votes file that is refused: being out of memory is its own
+-- the fault of a desk's refused votes file; being out of memory is a fault of its own
 abbrev pub of_file : DeskId → Refusal → BothFault
 of_file desk Refusal.NoMemory = NoMemory
 of_file desk why = Votes desk why

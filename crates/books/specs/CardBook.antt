@@ -1,4 +1,4 @@
--- The book of an input, or why it has none.
+-- The book of an input, or why there is none.
 use Rattle.std.specs.Prelude.{◌≡◌, ℕ, ◌+◌, ◌==◌, if◌then◌else◌, List, [], ◌∷◌, ◌++◌, Option, Some, None, Result, Ok, Err, slice_get, unwrap_or}
 use Rattle.notation.specs.declared.entry.Entry.{Entry}
 use Rattle.corrections.specs.Refusal.{book_refusal}
@@ -18,8 +18,8 @@ use Rattle.books.specs.declared.source.Source.TheVariants.{Lines}
 use Rattle.notation.specs.Lines.{lines_of}
 use Rattle.books.specs.Taking.{answer_to, book_after}
 
--- the number of the first of these lines that isn't taken, and why: they are numbered from n, after the entries
--- taken before
+-- the number of the first of these lines that isn't taken, and why; lines are numbered from n, and `book` has
+-- the entries taken before
 abbrev pub first_rejected : ℕ → ℕ → List Entry → List (List ℕ) → Option (ℕ × Rejected)
 first_rejected innings n book [] = None
 first_rejected innings n book (line ∷ lines) = elim (answer_to innings book line) [
@@ -27,7 +27,7 @@ first_rejected innings n book (line ∷ lines) = elim (answer_to innings book li
   | Err why ↦ Some (n, why)
 ]
 
--- each line of an input is taken, and these are their entries
+-- each line of an input is taken, and these are the entries of the lines
 pub record IsBookOfLines (innings : ℕ) (input : List ℕ) (book : List Entry) : Type 0 where
   pub taken : first_rejected innings 1 [] (lines_of input) ≡ None
   pub entries : book ≡ book_after innings [] (lines_of input)
@@ -41,14 +41,15 @@ abbrev pub WhyNoBookOfLines : ℕ → List ℕ → BookFault → Type 0
 WhyNoBookOfLines innings input NoMemory = Unit {0}
 WhyNoBookOfLines innings input fault = NamesFirstRejected innings input fault
 
--- the votes of a desk's file of a match, by the version that byte 7 of the file names
+-- the votes in a desk's file of a match, in the version that byte 7 of the file names
 abbrev pub votes_in_file : DeskId → ℕ → List ℕ → Result (List Ballot) Refusal
 votes_in_file desk game file =
     if unwrap_or (slice_get file 7) 0 == 1
     then file_votes (contents version_1) (desk_number desk) game file
     else file_votes (contents version_2) (desk_number desk) game file
 
--- the last votes of all places, the last voted one included, are a legal book, and the book has all but that one
+-- the last votes of all places, the last voted one included, are a legal book, and this book has all of them but
+-- that last one
 pub record IsBookOf (innings : ℕ) (votes : List Ballot) (book : List Entry) : Type 0 where
   pub taken : AllTaken (book_refusal innings) [] (voted_list votes)
   pub entries : book ≡ book_of votes
@@ -58,7 +59,7 @@ abbrev pub IsBookOfVotes : ℕ → Result (List Ballot) Refusal → List Entry �
 IsBookOfVotes innings (Ok votes) book = IsBookOf innings votes book
 IsBookOfVotes innings (Err why) book = ⊥
 
--- the fault names the first place at which the last votes of all places are no legal book
+-- the fault names the first place at which the list of each place's last vote isn't legal
 abbrev pub NamesBadVotes : {Why : Type 0} → Rules Why → List Ballot → BookFault → Type 0
 NamesBadVotes rules votes (BadVotes place) = FirstRefused rules [] (voted_list votes) place
 NamesBadVotes rules votes _ = ⊥
@@ -78,12 +79,12 @@ abbrev pub WhyNoBook : Source → Sheet → List ℕ → BookFault → Type 0
 WhyNoBook Lines s input fault = WhyNoBookOfLines s.innings input fault
 WhyNoBook (Source.Votes desk) s input fault = WhyNoBookOfVotes s.innings (votes_in_file desk s.game input) fault
 
--- the fault of a votes file that is refused: being out of memory is its own
+-- the fault of a refused votes file; being out of memory is a fault of its own
 abbrev pub of_votes : Refusal → BookFault
 of_votes Refusal.NoMemory = NoMemory
 of_votes why = Votes why
 
--- the same of a file whose votes are no legal book
+-- the fault of a file whose opening is refused, including votes that are no legal book
 abbrev pub of_opening : OpenRefusal → BookFault
 of_opening (OpenRefusal.Votes why) = of_votes why
 of_opening (OpenRefusal.BadVotes place) = BadVotes place

@@ -11,7 +11,7 @@ use Rattle.books.specs.DeskVotes.{entry_at, is_alike}
 use Rattle.books.specs.OneHistory.{Tears, torn_line}
 use Rattle.books.specs.declared.compare.{Difference.Difference, Comparison.Comparison}
 
--- what the desks wrote there, unless it is alike
+-- what the desks wrote there, unless they wrote alike
 abbrev pub unless_alike : ℕ → ℕ → Option Entry → Option Entry → List Difference
 unless_alike place round x y =
     if is_alike x y then [] else record { place = place; round = round; a = x; b = y } ∷ []
@@ -24,17 +24,17 @@ unfoldable pub in_rounds : AllVotes → ℕ → ℕ → List Difference
 in_rounds v place zero = []
 in_rounds v place (suc n) = in_rounds v place n ++ difference_at v place n
 
--- where they differ in any round of the first n places
+-- where the desks differ in any round of the first n places
 unfoldable pub in_places : AllVotes → ℕ → List Difference
 in_places v zero = []
 in_places v (suc n) = in_places v n ++ in_rounds v n ROUNDS
 
--- where they differ at all, in the order of places and rounds
+-- where the desks differ, in the order of places and rounds
 abbrev pub differences : AllVotes → List Difference
 differences v = in_places v PLACES
 
--- the comparison of both files of a match: how many entries their votes have agreed, where they differ, and the first place
--- at which they aren't of one history
+-- the comparison of both files of a match: how many entries their votes have agreed, where the votes differ, and
+-- the first place that isn't of one history
 pub record IsComparison (game : ℕ) (a b : List ℕ) (c : Comparison) : Type 0 where
   pub votes : AllVotes
   pub read : HaveVotes game a b votes
@@ -75,15 +75,15 @@ sum_of agreed ds =
     ++ codes ", only a " ++ decimal (count_by is_of_a_alone ds)
     ++ codes ", only b " ++ decimal (count_by is_of_b_alone ds) ++ codes "\n"
 
--- that the files aren't of one history, where they aren't
+-- the line that the files aren't of one history, if they aren't
 abbrev pub torn_text : Option ℕ → List ℕ
 torn_text None = []
 torn_text (Some place) = torn_line place
 
--- a line a difference, then the sum, and then that
+-- one line for each difference, then the sum, and then the line that the files aren't of one history
 abbrev pub comparison_text : ℕ → List Difference → Option ℕ → List ℕ
 comparison_text agreed ds torn = flat_map difference_line ds ++ sum_of agreed ds ++ torn_text torn
 
--- what the desks wrote there are entries whose numbers are in their ranges
+-- the entries that the desks wrote there have numbers in their ranges
 abbrev pub HasEntries : Difference → Type 0
 HasEntries d = IfSome d.a IsEntry × IfSome d.b IsEntry

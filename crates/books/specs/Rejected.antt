@@ -1,4 +1,4 @@
--- The numbers, the names and the printed words of what isn't taken.
+-- The numbers, the names and the printed lines of rejections.
 use Rattle.std.specs.Prelude.{ℕ, List, ◌++◌, codes, decimal}
 use Rattle.notation.specs.LineFault.{number_of as fault_number, name_of as fault_name}
 use Rattle.match_laws.specs.LawRefusal.{number_of as law_number}
@@ -21,18 +21,19 @@ abbrev pub fault_line : ℕ → ℕ → List ℕ → List ℕ
 fault_line n number name =
     codes "line " ++ decimal n ++ codes ": fault " ++ decimal number ++ codes " " ++ name ++ codes "\n"
 
--- the line that is printed where line n is refused
+-- the line that is printed if line n is refused
 abbrev pub refused_line : ℕ → ℕ → List ℕ → List ℕ
 refused_line n number name =
     codes "line " ++ decimal n ++ codes ": refused " ++ decimal number ++ codes " " ++ name ++ codes "\n"
 
--- the same for a correction, which leaves a place refused: these words, the place, and the number why
+-- the line that is printed if line n is a correction that leaves a place refused: these words, the place, and
+-- the reason's number
 abbrev pub later_line : ℕ → List ℕ → ℕ → ℕ → List ℕ
 later_line n words place why =
     codes "line " ++ decimal n ++ codes ": " ++ words
     ++ codes " " ++ decimal place ++ codes " " ++ decimal why ++ codes "\n"
 
--- the line that is printed for line n
+-- the line that is printed for the rejected line n
 abbrev pub rejection_line : ℕ → Rejected → List ℕ
 rejection_line n (Fault fault) = fault_line n (fault_number fault) (fault_name fault)
 rejection_line n (Refused (Book (Later place why))) =

@@ -18,7 +18,7 @@ pub record IsInStep (table : Table) : Type 0 where
   pub first : table.a ≡ free_at A (length (agreed_in table))
   pub second : table.b ≡ free_at B (length (agreed_in table))
 
--- the answer of the table tells whether a line was taken, otherwise why not
+-- the table answers whether a line was taken, and if not, why
 abbrev pub IsToldOf : Result (Unit {0}) Rejected → Result Entry Rejected → Type 0
 IsToldOf (Ok _) answer = IsOk answer
 IsToldOf (Err why) answer = answer ≡ Err why

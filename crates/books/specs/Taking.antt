@@ -1,4 +1,4 @@
--- Which entries are taken: what the entries taken so far make of a line, in a match of so many innings a side.
+-- Which lines are taken, after the entries taken so far, in a match of this many innings a side.
 use Rattle.std.specs.Prelude.{ℕ, Bool, nat_le, if◌then◌else◌, List, [], ◌∷◌, ◌++◌, length}
 use Rattle.std.specs.Prelude.{Option, Some, None, Result, Ok, Err}
 use Rattle.notation.specs.declared.{entry.Entry.Entry, entry.TheConstants.PLACES, fault.LineFault.LineFault}
@@ -18,17 +18,17 @@ abbrev pub unless_refused : Option BookRefusal → Entry → Result Entry Reject
 unless_refused None e = Ok e
 unless_refused (Some why) e = Err (Refused (Book why))
 
--- what the book makes of an entry: the entry, to be taken, or why it isn't
+-- the book's answer to an entry: the entry, to be taken, or why it isn't taken
 abbrev pub taking : ℕ → List Entry → Entry → Result Entry Rejected
 taking innings book e =
     if is_full book then Err (Refused PlacesFull) else unless_refused (book_refusal innings book e) e
 
--- the same of a line as it was read
+-- the answer to a line as it was read
 abbrev pub answer : ℕ → List Entry → Result Entry LineFault → Result Entry Rejected
 answer innings book (Err fault) = Err (Fault fault)
 answer innings book (Ok e) = taking innings book e
 
--- what the entries taken so far make of a line
+-- the answer to a line, after the entries taken so far
 abbrev pub answer_to : ℕ → List Entry → List ℕ → Result Entry Rejected
 answer_to innings book line = answer innings book (line_answer line)
 
@@ -37,7 +37,7 @@ abbrev pub with_taken : Result Entry Rejected → List Entry → List Entry
 with_taken (Ok e) book = book ++ e ∷ []
 with_taken (Err why) book = book
 
--- the entries that are taken of these lines, after those taken before
+-- the entries taken before, and those taken from these lines
 abbrev pub book_after : ℕ → List Entry → List (List ℕ) → List Entry
 book_after innings book [] = book
 book_after innings book (line ∷ lines) = book_after innings (with_taken (answer_to innings book line) book) lines

@@ -20,7 +20,8 @@ use corrections::{BookOf, CheckedBook};
 use notation::Entry;
 use std::alloc::{AllocError, Global};
 
-/// The votes of both desks' files of a match. It is refused as the first votes file that is refused, A's before B's.
+/// Returns the votes of both desks' files of a match. It refuses what the first refused votes file is refused
+/// for, A's before B's.
 pub fn open_both(
     alloc: Global,
     game: u64,
@@ -48,15 +49,15 @@ pub fn add<T: Copy + Drop>(list: &mut Vec<T>, value: &T) -> Result<(), AllocErro
     Ok(())
 }
 
-/// Whether a vote is for this place, and the other desk has it too.
+/// Whether a vote is for this place, and the other desk has the same vote.
 fn settles(vote: &Vote, place: usize, other: &DeskVotes) -> bool
     ensures { IsTrue result ↔ ((vote.now.place ≡ place) × In (ballot_of vote.now) (read_votes other.now)) }
 {
     vote.place as usize == place && other.has(vote)
 }
 
-/// The agreed list of both desks' votes: a vote of A is for its next entry where it is of the next place, and B has it
-/// too.
+/// Returns the agreed list of both desks' votes. A vote of A gives the next entry if it is for the next place,
+/// and B has the same vote.
 pub fn agreed_list(alloc: Global, a: &DeskVotes, b: &DeskVotes) -> Result<Vec<Entry>, AllocError>
     ensures agreed { IfOk result (λ list.
         IsAgreedList (votes_of_both a.now b.now) list.items) }
@@ -73,7 +74,7 @@ pub fn agreed_list(alloc: Global, a: &DeskVotes, b: &DeskVotes) -> Result<Vec<En
     Ok(list)
 }
 
-/// The book of these entries.
+/// Returns the book of these entries.
 fn book_of_entries(alloc: Global, innings: u32, entries: &[Entry]) -> Result<CheckedBook, BothFault>
     requires innings { (1 ≤ innings) × (innings ≤ 2) }
     requires entries { All IsEntry entries.now }
@@ -92,7 +93,7 @@ fn book_of_entries(alloc: Global, innings: u32, entries: &[Entry]) -> Result<Che
     Ok(book)
 }
 
-/// The book of both desks' votes files, and the votes that it is made of.
+/// The book of both desks' votes files, and the votes that the book is made of.
 #[derive(Drop)]
 pub struct BothBook {
     pub book: CheckedBook,
@@ -100,9 +101,10 @@ pub struct BothBook {
     pub b: DeskVotes,
 }
 
-/// The book of both desks' votes files: the agreed list of their votes, the last entry too. Byte 7 of a file says which
-/// version it is of. It is refused as the first votes file that is refused, A's before B's; then `NotOneHistory` where a desk
-/// went on without its votes; and then `BadVotes` where the agreed list is no legal book.
+/// Returns the book of both desks' votes files: the agreed list of their votes, including the last entry. Byte 7
+/// of a file names the file's version. It refuses what the first refused votes file is refused for, A's before
+/// B's; then `NotOneHistory` if a desk went on without its votes; and then `BadVotes` if the agreed list is no
+/// legal book.
 pub fn book_of_both(
     alloc: Global,
     sheet: &MatchSheet,

@@ -12,7 +12,7 @@ use corrections::BookOf;
 use match_laws::Match;
 use streams::{Sink, Watched, WriteFailed};
 
-/// Prints both cards of an innings.
+/// Prints the batting and bowling cards of an innings.
 fn print_both<W: Sink>(innings: Innings<'_>, out: &mut Watched<W>) -> Result<(), WriteFailed>
     ensures text { ForInnings innings.entry (λ s h i.
         OnOk result (Prints W.contents out.old out.new (both_cards s h i))) }
@@ -43,8 +43,8 @@ fn print_innings<W: Sink>(
     Ok(())
 }
 
-/// Prints both cards of each innings of a book, and then its page. It fails only where a write fails; how much
-/// was written then isn't said.
+/// Prints both cards of each innings of a book, and then the book's page. It fails only if a write fails, and
+/// doesn't say how much was written by then.
 pub fn print_card<W: Sink, B: BookOf>(
     sheet: &MatchSheet,
     book: &B,

@@ -20,8 +20,8 @@ use notation::{Entry, PLACES, line_of};
 use std::alloc::{AllocError, Global};
 use streams::{Sink, Watched, WriteFailed};
 
-/// What both desks wrote in a round of a place, where it isn't the same: `None` where a desk has no vote there. `place`
-/// is below 8,192, `round` below 256.
+/// What the two desks wrote in a round of a place, if they wrote differently; `None` for a desk that has no vote
+/// there. `place` is below 8,192, `round` below 256.
 #[derive(Clone, Copy)]
 pub struct Difference {
     pub place: u32,
@@ -33,7 +33,7 @@ pub struct Difference {
 impl Difference {
     ghost use Rattle.books.specs.Comparing.{is_of_both};
 
-    /// Whether both desks wrote something there.
+    /// Whether both desks wrote an entry there.
     fn is_of_both(&self) -> bool
         ensures { result ≡ is_of_both self.now }
     {
@@ -41,8 +41,8 @@ impl Difference {
     }
 }
 
-/// How many entries the votes of both desks have agreed, where they differ, in the order of places and rounds, and whether
-/// they can be of one history.
+/// How many entries the votes of both desks have agreed, where the votes differ, in the order of places and
+/// rounds, and from which place on they can't be of one history.
 #[derive(Drop)]
 pub struct Comparison {
     pub agreed: usize,
@@ -51,7 +51,7 @@ pub struct Comparison {
     pub torn: Option<u32>,
 }
 
-/// Whether both desks wrote the same, or neither did.
+/// Whether both desks wrote the same entry, or neither wrote any.
 pub fn is_alike(a: &Option<Entry>, b: &Option<Entry>) -> bool
     requires first { IfSome a.now IsEntry }
     requires second { IfSome b.now IsEntry }
@@ -64,7 +64,7 @@ pub fn is_alike(a: &Option<Entry>, b: &Option<Entry>) -> bool
     }
 }
 
-/// Adds what both desks wrote there, unless it is alike.
+/// Adds a difference, unless both desks wrote alike there.
 fn add_unless_alike(found: &mut Vec<Difference>, difference: &Difference) -> Result<(), AllocError>
     requires entries { HasEntries difference.now }
     requires all_entries { All HasEntries found.old.items }
@@ -78,7 +78,8 @@ fn add_unless_alike(found: &mut Vec<Difference>, difference: &Difference) -> Res
     add(found, difference)
 }
 
-/// Adds what both desks wrote in a round of a place, unless it is alike. It answers whether either wrote anything.
+/// Adds what both desks wrote in a round of a place, unless they wrote alike. Returns whether either wrote
+/// anything.
 fn compare_round(
     found: &mut Vec<Difference>,
     a: &DeskVotes,
@@ -104,8 +105,8 @@ fn compare_round(
     Ok(first.is_some() || second.is_some())
 }
 
-/// Adds what both desks wrote in each round of a place, unless it is alike. Behind the first round without a vote there
-/// is none. It answers whether either wrote anything.
+/// Adds what both desks wrote in each round of a place, unless they wrote alike. No round after the first
+/// without a vote has votes. Returns whether either desk wrote anything.
 fn compare_place(
     found: &mut Vec<Difference>,
     a: &DeskVotes,
@@ -127,7 +128,8 @@ fn compare_place(
     Ok(true)
 }
 
-/// Where both desks' votes differ, in the order of places and rounds. Behind the first place without a vote there is none.
+/// Returns where both desks' votes differ, in the order of places and rounds. No place after the first without a
+/// vote has votes.
 fn differences(alloc: Global, a: &DeskVotes, b: &DeskVotes) -> Result<Vec<Difference>, AllocError>
     ensures found { IfOk result (λ found. found.items ≡ differences (votes_of_both a.now b.now)) }
     ensures all_entries { IfOk result (λ found. All HasEntries found.items) }
@@ -141,8 +143,8 @@ fn differences(alloc: Global, a: &DeskVotes, b: &DeskVotes) -> Result<Vec<Differ
     Ok(found)
 }
 
-/// The comparison of both desks' votes files of a match. It is refused as the first votes file that is refused, A's before
-/// B's, and never as `BadVotes`: nothing is scored.
+/// Compares both desks' votes files of a match. It refuses what the first refused votes file is refused for, A's
+/// before B's, and never as `BadVotes`: nothing is scored.
 pub fn compare_files(alloc: Global, game: u64, a: &[u8], b: &[u8]) -> Result<Comparison, BothFault>
     ensures comparison { IfOk result (IsComparison game a.now b.now) }
     ensures all_entries { IfOk result (λ comparison. All HasEntries comparison.differences.items) }
@@ -158,7 +160,7 @@ pub fn compare_files(alloc: Global, game: u64, a: &[u8], b: &[u8]) -> Result<Com
     })
 }
 
-/// Prints what a desk wrote, `nothing` where it has no vote.
+/// Prints what a desk wrote, or `nothing` if it has no vote.
 fn print_vote<W: Sink>(out: &mut Watched<W>, vote: &Option<Entry>) -> Result<(), WriteFailed>
     requires { IfSome vote.now IsEntry }
     ensures text { OnOk result (Prints W.contents out.old out.new (texts.vote_text vote.now)) }
@@ -215,14 +217,14 @@ fn print_differences<W: Sink>(
     Ok(())
 }
 
-/// How many differences there are of each kind.
+/// The number of differences of each kind.
 struct Tally {
     differed: usize,
     only_a: usize,
     only_b: usize,
 }
 
-/// How many of these differences there are of each kind.
+/// Counts the differences of each kind.
 fn tally_of(differences: &[Difference]) -> Tally
     ensures { result ≡ inner.tally_of differences.now }
 {
@@ -260,7 +262,7 @@ fn print_sum<W: Sink>(
     )
 }
 
-/// Prints from which place on the votes aren't of one history, if there is one.
+/// Prints the place from which on the votes aren't of one history, if there is one.
 fn print_tear<W: Sink>(out: &mut Watched<W>, torn: Option<u32>) -> Result<(), WriteFailed>
     ensures text { OnOk result (Prints W.contents out.old out.new (texts.torn_text torn)) }
     ensures failed { TellsFailure result out.old out.new }
@@ -271,9 +273,9 @@ fn print_tear<W: Sink>(out: &mut Watched<W>, torn: Option<u32>) -> Result<(), Wr
     }
 }
 
-/// Prints a line for each place and round at which the desks differ, and then how many entries are agreed, and how many
-/// such lines there are: of both desks, of A alone, of B alone; and where the votes aren't of one history, from which place
-/// on. It fails only where a write fails; how much was written then isn't said.
+/// Prints a line for each place and round at which the desks differ. Then prints how many entries are agreed,
+/// and how many differences are of both desks, of A alone and of B alone; and then, if the votes aren't of one
+/// history, from which place on. It fails only if a write fails, and doesn't say how much was written by then.
 pub fn print_comparison<W: Sink>(
     comparison: &Comparison,
     out: &mut Watched<W>,

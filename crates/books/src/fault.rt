@@ -14,7 +14,7 @@ pub enum BookFault {
     NoMemory,
     /// The votes file is refused.
     Votes(vote_store::Refusal),
-    /// The votes of a file are no legal book: this is the first place whose last vote is refused.
+    /// The votes of a file are no legal book: `place` is the first place whose last vote is refused.
     BadVotes { place: u32 },
     /// A pen line isn't taken. Lines are numbered from 1.
     Line { number: u64, why: Rejected },
@@ -66,11 +66,11 @@ pub enum BothFault {
         desk: DeskId,
         why: vote_store::Refusal,
     },
-    /// The votes of both files aren't of one history: this is the first place at which they can't be.
+    /// The votes of both files aren't of one history: `place` is the first place at which they can't be.
     NotOneHistory {
         place: u32,
     },
-    /// The agreed list of both files is no legal book: this is the first place that is refused.
+    /// The agreed list of both files is no legal book: `place` is the first refused place.
     BadVotes {
         place: u32,
     },
@@ -79,7 +79,7 @@ pub enum BothFault {
 impl BothFault {
     ghost use Rattle.books.specs.BothFiles.{of_file};
 
-    /// The fault of a desk's votes file that is refused: being out of memory is its own.
+    /// Returns the fault of a desk's refused votes file: being out of memory becomes `NoMemory`.
     pub fn of(desk: DeskId, why: vote_store::Refusal) -> BothFault
         ensures { result ≡ of_file desk why }
     {

@@ -1,5 +1,5 @@
-//! Books of pen lines and of votes files: the table with both seats, what isn't taken and why, the book of an input, and
-//! its printed cards.
+//! Books from pen lines and from votes files: the table with both seats, the refused lines and why, the book of
+//! an input, and its printed cards.
 #![tactic(auto)]
 
 mod both;

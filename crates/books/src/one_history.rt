@@ -20,8 +20,8 @@ fn has_vote(votes: &DeskVotes, place: u32, round: u32) -> bool
     votes.at(place, round).is_some()
 }
 
-/// Whether after votes that are alike or not a desk went on as none does: to the next round, or without one to the next
-/// place.
+/// Whether a desk went on from this round as no desk does: after equal votes to the next round, or after
+/// different votes to the next place without a vote in the next round.
 fn goes_wrong(alike: bool, votes: &DeskVotes, place: u32, round: u32) -> bool
     requires place { place < PLACES }
     requires round { round < ROUNDS }
@@ -34,7 +34,7 @@ fn goes_wrong(alike: bool, votes: &DeskVotes, place: u32, round: u32) -> bool
     }
 }
 
-/// Whether both desks voted in this round of a place, and one of them went on as none does.
+/// Whether both desks voted in this round of a place, and one of them went on as no desk does.
 fn is_torn(a: &DeskVotes, b: &DeskVotes, place: u32, round: u32) -> bool
     requires place { place < PLACES }
     requires round { round < ROUNDS }
@@ -47,7 +47,8 @@ fn is_torn(a: &DeskVotes, b: &DeskVotes, place: u32, round: u32) -> bool
         && (goes_wrong(alike, a, place, round) || goes_wrong(alike, b, place, round))
 }
 
-/// Whether this is so in a round of a place. Behind the first round without a vote of A there is none.
+/// Whether the votes are torn in some round of a place. No round after the first without a vote of A has votes
+/// of A.
 fn is_torn_at(a: &DeskVotes, b: &DeskVotes, place: u32) -> bool
     requires { place < PLACES }
     ensures torn { result ≡ true → history.IsTornAt (votes_of_both a.now b.now) place }
@@ -64,9 +65,9 @@ fn is_torn_at(a: &DeskVotes, b: &DeskVotes, place: u32) -> bool
     false
 }
 
-/// The first place at which both desks' votes aren't of one history: both voted alike there, and one voted in the next
-/// round, or otherwise, and one went on to the next place. `None` where they are. Behind the first place without a vote of
-/// A there is none.
+/// Returns the first place at which both desks' votes aren't of one history: both voted alike there and one
+/// voted in the next round, or they voted differently and one went on to the next place. Returns `None` if the
+/// votes are of one history. No place after the first without a vote of A has votes of A.
 pub fn first_torn(a: &DeskVotes, b: &DeskVotes) -> Option<u32>
     ensures { history.Tears (votes_of_both a.now b.now) result }
 {

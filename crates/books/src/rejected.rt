@@ -12,23 +12,23 @@ use thiserror::Error;
 /// Why an entry is refused.
 #[derive(Clone, Copy, Debug, Error)]
 pub enum Refusal {
-    /// 8,192 entries were taken.
+    /// The book already has 8,192 entries.
     PlacesFull,
-    /// The book refuses it.
+    /// The book refuses the entry.
     Book(corrections::Refusal),
 }
 
 /// Why a line isn't taken.
 #[derive(Clone, Copy)]
 pub enum Rejected {
-    /// It is no entry line.
+    /// The line is no entry line.
     Fault(LineFault),
-    /// Its entry is refused.
+    /// The line's entry is refused.
     Refused(Refusal),
 }
 
 impl Refusal {
-    /// Its number.
+    /// Returns the refusal's number.
     pub fn number(self) -> u8
         ensures { result ≡ number_of self }
     {
@@ -42,7 +42,7 @@ impl Refusal {
 impl fmt::Display for Refusal {
     ghost output = { λ refusal. Some (name_of refusal) };
 
-    /// Writes its name.
+    /// Writes the refusal's name.
     fn fmt<W: fmt::Write>(&self, f: &mut fmt::Formatter<W>) -> fmt::Result {
         match self {
             Refusal::PlacesFull => f.write_str("PlacesFull"),
@@ -86,7 +86,8 @@ fn print_refused<W: Sink>(
     writeln!(out, "line {number}: refused {code} {why}")
 }
 
-/// Prints, in these words, that the correction of line `number` leaves a place refused, and the number why.
+/// Prints, in these words, that the correction of line `number` would leave a place refused, and the number of
+/// the reason.
 fn print_later<W: Sink>(
     out: &mut Watched<W>,
     number: u64,

@@ -8,7 +8,7 @@ ghost use Rattle.books.specs.inner.Seats.{free_at};
 use agree_core::{DeskId, Heard, Seat, Settled, Vote};
 use notation::Entry;
 
-/// Has both desks vote for an entry, each hearing the other's vote: both answer that it is agreed.
+/// Has both desks vote for an entry and hear each other's vote; returns true, as both find the entry agreed.
 pub fn agree(a: &mut Seat, b: &mut Seat, entry: &Entry, place: u32) -> bool
     requires places { place < PLACES }
     requires first { a.old ≡ free_at A place }

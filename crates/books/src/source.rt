@@ -1,4 +1,4 @@
-//! The book of an input: of pen lines or of a desk's votes file.
+//! The book of an input: pen lines or a desk's votes file.
 
 ghost use Rattle.std.specs.Prelude.{◌≡◌, ◌≤◌, length, IfOk, IfErr};
 ghost use Rattle.books.specs.CardBook.{IsBookFrom, WhyNoBook};
@@ -15,17 +15,17 @@ use std::alloc::Global;
 use streams::LONGEST_INPUT;
 use votes_file::book_of_file;
 
-/// What a book is made of.
+/// What a book is made from.
 #[derive(Clone, Copy)]
 pub enum Source {
     /// Pen lines.
     Lines,
-    /// The votes file of a desk, of either version.
+    /// A desk's votes file, of either version.
     Votes(DeskId),
 }
 
-/// The book of an input: of pen lines, or of a desk's votes file. It is refused with the first line that isn't taken,
-/// or as the file or its votes are.
+/// Returns the book of an input: pen lines, or a desk's votes file. It refuses the first line that isn't taken,
+/// or what the file or its votes are refused for.
 pub fn book_from(
     alloc: Global,
     sheet: &MatchSheet,

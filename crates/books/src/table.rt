@@ -21,7 +21,7 @@ pub struct Table {
 impl Table {
     ghost use Rattle.books.specs.Table.{IsInStep, IsToldOf, agreed_in, innings_in};
 
-    /// Both seats free at the first place, and an empty book of a match of so many innings a side.
+    /// Creates a table with both seats free at the first place, and an empty book with this many innings a side.
     pub fn new(alloc: Global, innings: u32) -> Result<Table, AllocError>
         requires { (1 ≤ innings) × (innings ≤ 2) }
         ensures in_step { IfOk result (λ table. IsInStep table) }
@@ -36,8 +36,8 @@ impl Table {
         })
     }
 
-    /// Takes one line, which both seats agree, or says why it isn't taken: its fault, then that the book is
-    /// full, then what the book refuses.
+    /// Takes one line, which both seats agree on, or says why it isn't taken: first the line's fault, then that
+    /// the book is full, then the book's refusal.
     pub fn take(&mut self, line: &[u8]) -> Result<(), Rejected>
         requires { IsInStep self.old }
         ensures in_step { IsInStep self.new }

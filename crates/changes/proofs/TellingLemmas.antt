@@ -1,4 +1,4 @@
--- What is told of some changes and then of others, and of all.
+-- The rows of some changes and then of others, and of all changes.
 use Rattle.std.proofs.Common.{◌≡◌, ℕ, suc, ◌+◌, ◌-◌, Bool, true, false, List, [], ◌∷◌, ◌++◌, length, take, Option, Result, Ok, Err, refl, sym, ◌∙◌, ap, append_assoc, subst, arith, inl, inr}
 use Rattle.std.proofs.lemmas.Bool.{cases_lt, le-ltb, lt-ltb}
 use Rattle.std.proofs.lemmas.List.{take_all}
@@ -35,7 +35,7 @@ module _ (d : Change → Bool) (line : Change → List ℕ) where
       ap (λ r. row_if d line t x ++ r) (rows-append (t + one_if (d x)) xs ys ∙ ap (λ k. rows_from d line (t + one_if (d x)) xs ++ rows_from d line k ys) on)
       ∙ sym (append_assoc (row_if d line t x) (rows_from d line (t + one_if (d x)) xs) (rows_from d line (t + number_of d (x ∷ xs)) ys))
 
-  -- one more, before rows of the rest
+  -- one more change, before the rows of the rest
   one : (b : Bool) (t : ℕ) (c : Change) (rest : List Change) (more : ℕ → List ℕ) → ((k : ℕ) → more k ≡ lines_for line (take (most - k) rest))
       → (if b && nat_lt t most then line c else []) ++ more (t + one_if b) ≡ lines_for line (take (most - t) (if b then c ∷ rest else rest))
   one false t c rest more all = ap more (omega arith) ∙ all t
@@ -51,7 +51,7 @@ module _ (d : Change → Bool) (line : Change → List ℕ) where
   rows-filter t [] = sym (ap (lines_for line) (take_all (most - t) [] (omega arith)))
   rows-filter t (c ∷ cs) = one (d c) t c (filter d cs) (λ k. rows_from d line k cs) (λ k. rows-filter k cs)
 
--- of each two stages for which the matches stand
+-- for every two stages that the matches stand at
 pub tells_both : {S E : Type 0} {was now : Standing} (contents : S → Option (List ℕ)) (s : Sheet) (old mid new : Watched S) (t k : ℕ) (r : Result ℕ E) (xs ys : List Change)
     → ForBoth was now (λ w n. Tells {E = E} contents old mid (Ok k) s w n t xs) → ForBoth was now (λ w n. Tells contents mid new r s w n k ys)
     → ForBoth was now (λ w n. Tells contents old new r s w n t (xs ++ ys))

@@ -1,4 +1,4 @@
--- What takes the last entry of a book back.
+-- The entry that takes a book's last entry back.
 use Rattle.std.proofs.Common.{◌≡◌, ℕ, zero, suc, ◌+◌, ◌-◌, ◌<◌, Bool, true, false, Some, None, List, [], ◌∷◌, ◌++◌, length, map, take, drop, refl, sym, ◌∙◌, ap, subst, arith, inl, inr}
 use Rattle.std.proofs.lemmas.Bool.{cases_eq}
 use Rattle.std.proofs.lemmas.List.{length_push, map-append, take-append-drop, take_all, take_more}
@@ -64,7 +64,7 @@ all-stand : (book : List Entry) → All (Stands book) (clean_items_of book)
 unfolding clean_items_of
 all-stand book = items-stand book 0 book (λ i. ap (slice_get book) (omega arith))
 
--- ---- a correction of what was corrected
+-- ---- a correction of a corrected place
 
 twice : (q : ℕ) (y x : Plain) (s : Placed) → (q ≡ s.place → s.item ≡ x) → corrected q x (corrected q y s) ≡ s
 twice q y x s same = elim (cases_eq q s.place) [
@@ -112,7 +112,7 @@ module _ (n : ℕ) (old : List Entry) (e : Entry) (legal : IsLegalBook n (old ++
   named : IsNamed old e
   named = is_named n old e ((one_more n old e legal_old).1 legal)
 
-  -- what is taken, since the clean list is as it was
+  -- the fix is accepted, since the clean list is as it was
   back_to : (p : ℕ) (x : Plain) → p < length (old ++ e ∷ []) → is_fix (slice_get (old ++ e ∷ []) p) ≡ false
       → clean ((old ++ e ∷ []) ++ Fix p x ∷ []) ≡ clean old
       → (book_refusal n (old ++ e ∷ []) (Fix p x) ≡ None) × (history_of ((old ++ e ∷ []) ++ Fix p x ∷ []) ≡ history_of old)
@@ -183,7 +183,7 @@ pub legal_before : (n : ℕ) (book : List Entry) → IsLegalBook n book → IsLe
 legal_before n book legal =
     legal-prefix n (before book) (drop (length book - 1) book) (subst (IsLegalBook n) (sym (take-append-drop (length book - 1) book)) legal)
 
--- ---- what stood at a place before a later one
+-- ---- what stood at a place before a later place was entered
 
 fixed-append : (es fs : List Entry) (p : ℕ) (x : Plain) → fixed (es ++ fs) p x ≡ fixed fs p (fixed es p x)
 fixed-append [] fs p x = refl

@@ -1,4 +1,4 @@
--- What differs between two stages of a match: the stage that was, and the stage now.
+-- The differences between two stages of a match, the old one and the new one.
 use Rattle.std.specs.Prelude.{ℕ, ◌==◌, ◌&&◌, not, Bool, true, false, Option, Some, None, List, [], ◌∷◌, ◌++◌, map, filter}
 use Rattle.notation.specs.declared.entry.Side.{Side}
 use Rattle.notation.specs.declared.entry.Side.TheVariants.{Home, Away}
@@ -13,9 +13,9 @@ use Rattle.changes.specs.declared.stage.{Total.Total, Batter.Batter}
 use Rattle.changes.specs.declared.change.{Part.Part, Change.Change}
 use Rattle.changes.specs.Stage.{Stage, batting_in, bowling_in, total_in, striker}
 
--- ---- the same, as a card shows it
+-- ---- alike, as a card shows it
 
--- how he was out, by which fielder and which bowler
+-- equal ways of being out, fielders and bowlers
 abbrev pub is_same_fate : Fate → Fate → Bool
 is_same_fate Fate.NotOut Fate.NotOut = true
 is_same_fate Fate.Hurt Fate.Hurt = true
@@ -28,12 +28,11 @@ are_same_fates None None = true
 are_same_fates (Some a) (Some b) = is_same_fate a b
 are_same_fates a b = false
 
--- runs and balls faced
+-- equal runs and balls faced
 abbrev pub is_same_batting : BattingRow → BattingRow → Bool
 is_same_batting a b = (a.runs == b.runs) && (a.faced == b.faced)
 
--- overs, maidens, runs and wickets
--- wide runs, and no balls
+-- equal wide runs and no balls
 abbrev pub is_same_wides : BowlingRow → BowlingRow → Bool
 is_same_wides a b = (a.wides == b.wides) && (a.noballs == b.noballs)
 
@@ -68,7 +67,7 @@ is_same_result a b = false
 
 -- ---- what differs
 
--- of a player's rows: what became of him; else, his runs or balls faced
+-- in a player's rows: his fate, or else his runs or balls faced
 abbrev pub fates_differ : BattingRow → BattingRow → Bool
 fates_differ was now = not (are_same_fates was.fate now.fate)
 
@@ -91,23 +90,23 @@ differs was now Change.Result =
     not (is_same_result (outcome was.innings_a_side was.history) (outcome now.innings_a_side now.history))
 differs was now Change.Strike = not (are_same_batters (striker was.history) (striker now.history))
 
--- ---- of all that can, in the order in which it is told
+-- ---- all that can differ, in the order of the rows
 
--- of each player of a side, and of both, in innings i
+-- each player of a side, and of both sides, in innings i
 abbrev pub of_players : Part → ℕ → Side → List ℕ → List Change
 of_players part i side ps = map (Change.Player part i side) ps
 
 abbrev pub of_sides : Part → ℕ → List Change
 of_sides part i = of_players part i Home numbers ++ of_players part i Away numbers
 
--- in each innings that a match can have
+-- each innings that a match can have
 abbrev pub in_all : (ℕ → List Change) → List Change
 in_all f = f 0 ++ (f 1 ++ (f 2 ++ f 3))
 
 abbrev pub of_totals : ℕ → List Change
 of_totals i = Change.Total i Home ∷ Change.Total i Away ∷ []
 
--- what became of batters, totals, the result and the strike; then other figures of batters, and those of bowlers
+-- batters' fates, totals, the result and the strike; then batters' other figures, and then bowlers' figures
 unfoldable pub all_changes : List Change
 all_changes =
     in_all (of_sides Part.Fate) ++ (in_all of_totals ++ (Change.Result ∷ Change.Strike ∷ []

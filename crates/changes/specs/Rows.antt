@@ -1,4 +1,4 @@
--- The rows of what differs. s is the sheet, `was` and `now` are the stages, or what they show.
+-- The rows of the changes. s is the sheet; `was` and `now` are the stages, or what they show.
 use Rattle.std.specs.Prelude.{ℕ, ◌+◌, ◌==◌, ◌&&◌, nat_le, if◌then◌else◌, Bool, true, false, Option, Some, None, List, [], ◌++◌, length, codes, decimal}
 use Rattle.notation.specs.declared.entry.Side.{Side}
 use Rattle.ball_laws.specs.History.{History}
@@ -15,7 +15,7 @@ use Rattle.changes.specs.declared.change.{Part.Part, Change.Change}
 use Rattle.changes.specs.Changes.{is_same_wides}
 use Rattle.changes.specs.Stage.{Stage, batting_in, bowling_in, total_in, striker}
 
--- before what is of innings i: of the last one `now`, of another its number
+-- the lead of a row about innings i: its number; `lead` has `now` for the innings that began last
 abbrev pub innings_lead : ℕ → List ℕ
 innings_lead i =
     if i == 0 then codes "innings 1: " else (if i == 1 then codes "innings 2: "
@@ -24,11 +24,12 @@ innings_lead i =
 abbrev pub lead : History → ℕ → List ℕ
 lead h i = if i == current h then codes "now: " else innings_lead i
 
--- whom a row is of, behind what stands before him
+-- the name that a row is about, after the lead
 abbrev pub named : List ℕ → List ℕ → List ℕ
 named first name = first ++ name ++ codes " "
 
--- what was stands behind what is, in one row where they may share one and it hasn't too many columns, or else in a second one
+-- the text before the old state: in the same row if both may share one and its columns suffice, or else in a
+-- second row
 abbrev pub joint : Bool → List ℕ
 joint is_one = if is_one then codes ", was " else codes ",\n  was "
 
@@ -44,7 +45,7 @@ joined s may_share now was = now ++ (joint (may_share && fits s now was) ++ (was
 abbrev pub figures_text : BattingRow → List ℕ
 figures_text row = decimal row.runs ++ codes " (" ++ decimal row.faced ++ codes ")"
 
--- what became of a batter of the side, as the card has it, and his figures
+-- the fate of a batter of the side, as the card shows it, and his figures
 abbrev pub fate_figures : Sheet → Side → Option Fate → BattingRow → List ℕ
 fate_figures s side None row = codes "not in"
 fate_figures s side (Some fate) row = fate_text s (opponent side) (Some fate) ++ (codes " " ++ figures_text row)
@@ -72,7 +73,7 @@ wides_text row = codes ", w " ++ decimal row.wides ++ codes ", nb " ++ decimal r
 abbrev pub bowling_text : Bool → BowlingRow → List ℕ
 bowling_text same row = overs_of row ++ (behind_overs row ++ (if same then [] else wides_text row))
 
--- where wide runs or no balls differ they are told too, and what was stands in a second row
+-- if wide runs or no balls differ they are shown too, and the old figures go in a second row
 abbrev pub bowling_row : Sheet → List ℕ → Side → ℕ → BowlingRow → BowlingRow → List ℕ
 bowling_row s first side p was now =
     let same = is_same_wides was now in

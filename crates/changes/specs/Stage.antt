@@ -13,29 +13,29 @@ use Rattle.match_laws.specs.Stands.{ForEachHistory}
 use Rattle.cards.specs.Sheet.{Sheet}
 use Rattle.changes.specs.declared.{stage.Total.Total, stage.Batter.Batter, stages.Stages.Stages}
 
--- the innings a side, and the history
+-- a stage: the innings a side, and the history
 pub record Stage : Type 0 where
   pub innings_a_side : ℕ
   pub history : History
 
--- a fact of each two stages for which these matches stand
+-- a fact about every two stages that these matches stand at
 abbrev pub ForBoth : Standing → Standing → (Stage → Stage → Type 0) → Type 0
 ForBoth was now P =
     ForEachHistory was (λ m g. ForEachHistory now (λ n h.
     P (record { innings_a_side = m; history = g }) (record { innings_a_side = n; history = h })))
 
--- a fact of the sheet, and of each two stages for which the matches stand
+-- a fact about the sheet, and every two stages that the matches stand at
 abbrev pub ForStages : Stages → (Sheet → Stage → Stage → Type 0) → Type 0
 ForStages stages P = ForBoth stages.before.now stages.after.now (P stages.sheet.now)
 
--- the side bats in innings i, which has begun; it fields in it
+-- the side bats in innings i, if that has begun; the side fields in it
 abbrev pub is_batting_in : History → ℕ → Side → Bool
 is_batting_in h i side = nat_lt i (begun h) && side_eq (side_of h i) side
 
 abbrev pub is_fielding_in : History → ℕ → Side → Bool
 is_fielding_in h i side = nat_lt i (begun h) && side_eq (opponent (side_of h i)) side
 
--- who hasn't batted, and who hasn't bowled
+-- the figures of a player who hasn't batted, and of one who hasn't bowled
 abbrev pub no_batting : BattingRow
 no_batting = record { runs = 0; faced = 0; fours = 0; sixes = 0; fate = None }
 
@@ -49,14 +49,14 @@ batting_in h i side p = if is_batting_in h i side then batting_row_of h i p else
 abbrev pub bowling_in : History → ℕ → Side → ℕ → BowlingRow
 bowling_in h i side p = if is_fielding_in h i side then bowling_row_of h i p else no_bowling
 
--- how the side's innings stands, where it has begun
+-- how the side's innings stands, if it has begun
 abbrev pub total_of : History → ℕ → Total
 total_of h i = record { total = total h i; wickets = wickets h i; overs = overs h i; balls = balls h i }
 
 abbrev pub total_in : History → ℕ → Side → Option Total
 total_in h i side = if is_batting_in h i side then Some (total_of h i) else None
 
--- who has the strike
+-- the batter who has the strike
 abbrev pub batter_of : Side → ℕ → Batter
 batter_of side p = record { side = side; player = p }
 

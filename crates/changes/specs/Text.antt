@@ -1,4 +1,4 @@
--- What is told behind a correction: a row for each of what differs, of the first six, and how many more there are.
+-- The text after a correction: a row for each of the first six changes, and how many more there are.
 use Rattle.std.specs.Prelude.{ℕ, ◌-◌, nat_le, if◌then◌else◌, List, [], ◌++◌, length, take, codes, decimal}
 use Rattle.notation.specs.declared.entry.Entry.{Entry}
 use Rattle.corrections.specs.CleanList.{history_of}
@@ -19,7 +19,7 @@ unfoldable pub changes_text : Sheet → Stage → Stage → List ℕ
 changes_text s was now =
     lines_for (row s was now) (take most (changes was now)) ++ more_text (length (changes was now))
 
--- of a book with n innings a side whose last entry is a `fix` or a `late`: before it and after it
+-- the changes by the last entry of a book with n innings a side, if that entry is a `fix` or a `late`
 abbrev pub last_changes : Sheet → ℕ → List Entry → List ℕ
 last_changes s n book =
     if is_correction (last_of book) then

@@ -1,4 +1,5 @@
--- Worked corrections: the rows that are told, computed. The sides are the plain sheet's, one innings a side. Away's 10 bowls.
+-- Worked corrections: the printed rows, computed. The sides are the plain sheet's, with one innings a side.
+-- Away's player 10 bowls.
 --
 --   place 3  one run off the bat, so that 2 has the strike; place 4  bowled. 1 not out 1 (1), 2 b 10 0 (1), 1 for 1
 --   so corrected that place 3 is two runs: 1 faces place 4 as well, and is out. 1 b 10 2 (2), 2 not out 0 (0), 2 for 1
@@ -42,7 +43,7 @@ WorkedWicket =
     ++ (codes "now: home 2 for 1 (0.2), was 1 for 1 (0.2)\n"
     ++ codes "now: 10 0.2-0-2-1, was 0.2-0-1-1\n"))
 
--- two runs more leave the strike as it was; one more changes it
+-- two more runs leave the strike unchanged; one more changes it
 abbrev pub WorkedRuns : Type 0
 WorkedRuns =
     (told (one_ball ++ Fix 3 (runs 3) ∷ []) ≡
@@ -55,7 +56,7 @@ WorkedRuns =
     ++ (codes "now: 1 2 (1), was 1 (1)\n"
     ++ codes "now: 10 0.1-0-2-0, was 0.1-0-1-0\n")))
 
--- a late ball without a run, and one that is made void again
+-- a late ball without a run, and a late ball that is made void again
 abbrev pub WorkedLate : Type 0
 WorkedLate =
     (told (one_ball ++ Late 3 (runs 0) ∷ []) ≡
@@ -67,18 +68,18 @@ WorkedLate =
     ++ (codes "now: 2 0 (0), was 0 (1)\n"
     ++ codes "now: 10 0.1-0-1-0, was 0.2-0-1-0\n"))
 
--- a Wide that was a No ball: 1 has faced it
+-- a Wide that was in fact a No ball: player 1 has faced it
 abbrev pub WorkedWides : Type 0
 WorkedWides =
     told (opened ++ Write (Bowl (ball 10 Wide 0)) ∷ Fix 3 (Bowl (ball 10 Nb 0)) ∷ []) ≡
     codes "now: 1 0 (1), was 0 (0)\n"
     ++ codes "now: 10 0.0-0-1-0, w 0, nb 1,\n  was 0.0-0-1-0, w 1, nb 0\n"
 
--- a correction that changes nothing, and an entry that is none
+-- a correction that changes nothing, and a last entry that is no correction
 abbrev pub WorkedNothing : Type 0
 WorkedNothing = (told (two_balls ++ Fix 3 (runs 1) ∷ []) ≡ []) × (told two_balls ≡ [])
 
--- nine changes: the other side bats
+-- nine changes, as the other side bats
 abbrev pub WorkedMore : Type 0
 WorkedMore =
     told (one_ball ++ Fix 0 (Innings Away) ∷ []) ≡

@@ -1,4 +1,4 @@
-//! The score of a book before its last entry, where that is a correction.
+//! The score of a book before its last entry, if that is a correction.
 
 ghost use Rattle.std.specs.Prelude.{◌≡◌, ◌<◌, ◌≤◌, ◌∷◌, [], IfSome, Some, is_some, length, slice_get, take};
 ghost use Rattle.notation.specs.Written.{IsEntry, IsPlain};
@@ -10,7 +10,7 @@ use corrections::BookOf;
 use match_laws::Match;
 use notation::{Entry, Plain};
 
-/// What was entered.
+/// Returns the item that was entered.
 fn entered(entry: &Entry) -> Plain
     requires { IsEntry entry.now }
     ensures value { result ≡ books.entered (Some entry.now) }
@@ -23,7 +23,7 @@ fn entered(entry: &Entry) -> Plain
     }
 }
 
-/// What stands at a place with this entry more, where that stood there.
+/// Returns what stands at a place after this entry, given what stood there before.
 fn fixed_by(entry: &Entry, place: u32, stood: Plain) -> Plain
     requires entry { IsEntry entry.now }
     requires stood { IsPlain stood }
@@ -36,7 +36,7 @@ fn fixed_by(entry: &Entry, place: u32, stood: Plain) -> Plain
     }
 }
 
-/// What stood at a place before a later one.
+/// Returns what stood at a place before a later place was entered.
 fn stood_before<B: BookOf>(book: &B, place: u32, end: u32) -> Plain
     requires place { place < end }
     requires end { end ≤ length (B.content book.now) }
@@ -50,7 +50,7 @@ fn stood_before<B: BookOf>(book: &B, place: u32, end: u32) -> Plain
     item
 }
 
-/// What would stand at a place of a book with this entry more, at the next place the entry's own item.
+/// Returns what would stand at a place of a book after this entry; at the next place, the entry's own item.
 pub fn item_with<B: BookOf>(book: &B, entry: &Entry, place: u32) -> Plain
     requires { IsEntry entry.now }
     ensures value { result ≡ books.item_with (B.content book.now) entry.now place }
@@ -64,13 +64,13 @@ pub fn item_with<B: BookOf>(book: &B, entry: &Entry, place: u32) -> Plain
     }
 }
 
-/// The entry that takes the last one of a book back, where that is a correction.
+/// Returns the entry that takes a book's last entry back, if that is a correction.
 fn taking_back<B: BookOf>(book: &B) -> Option<Entry>
     ensures some { is_some result ≡ books.is_correction (books.last_of (B.content book.now)) }
     ensures value { IfSome result (books.TakesBack (B.innings_a_side book.now) (B.content book.now)) }
     ensures in_range { IfSome result IsEntry }
 {
-    // A book that has a score is legal: a correction names an earlier place.
+    // A book that has a score is legal, so a correction names an earlier place.
     let _score = book.score();
     let len = book.len();
     if len == 0 {
@@ -84,7 +84,7 @@ fn taking_back<B: BookOf>(book: &B) -> Option<Entry>
     }
 }
 
-/// The score of a book without its last entry, where that is a `fix` or a `late`.
+/// Returns the score of a book without its last entry, if that is a `fix` or a `late`.
 pub fn score_before<B: BookOf>(book: &B) -> Option<Match>
     ensures some { is_some result ≡ books.is_correction (books.last_of (B.content book.now)) }
     ensures score { IfSome result (λ score.
@@ -94,7 +94,7 @@ pub fn score_before<B: BookOf>(book: &B) -> Option<Match>
     let back = taking_back(book)?;
     match book.check(&back) {
         Ok(score) => Some(score),
-        // It isn't refused.
+        // The book never refuses this entry.
         Err(_) => None,
     }
 }

@@ -2,21 +2,21 @@
 
 use notation::{Player, Side};
 
-/// What of a player.
+/// The part of a player's figures that differs.
 #[derive(Clone, Copy)]
 pub enum Part {
-    /// What became of him as a batter.
+    /// His fate as a batter.
     Fate,
-    /// His runs and balls faced, where the same became of him.
+    /// His runs and balls faced, if his fate is the same.
     Figures,
-    /// His overs, maidens, runs and wickets as a bowler.
+    /// His overs, maidens, runs, wickets, wide runs and no balls as a bowler.
     Bowling,
 }
 
-/// What can differ; innings are numbered from 0.
+/// Something that can differ between two stages; innings are numbered from 0.
 #[derive(Clone, Copy)]
 pub enum Change {
-    /// Of an innings and a player of a side.
+    /// A part of a player's figures, in an innings and for a side.
     Player(Part, usize, Side, Player),
     /// A side's total, wickets and overs in an innings.
     Total(usize, Side),

@@ -10,7 +10,7 @@ use crate::stage::{Batter, Total, batting_in, bowling_in, is_same_side, striker,
 use match_laws::{BattingRow, BowlingRow, Fate, Match, Outcome};
 use notation::{Leave, Out, Player, Side};
 
-/// Whether a batter was out so, off a delivery of this bowler, as a card shows it.
+/// Whether a batter's fate is this dismissal off this bowler's delivery, as a card shows it.
 fn is_out_so(out: Out, bowler: Player, fate: Fate) -> bool
     ensures { result ≡ changes.is_same_fate (Fates.Out out bowler) fate }
 {
@@ -22,7 +22,7 @@ fn is_out_so(out: Out, bowler: Player, fate: Fate) -> bool
     }
 }
 
-/// Whether a batter has left so.
+/// Whether a batter's fate is that he left in this way.
 fn has_left_so(way: Leave, fate: Fate) -> bool
     ensures { result ≡ changes.is_same_fate (Fates.Left way) fate }
 {
@@ -32,7 +32,7 @@ fn has_left_so(way: Leave, fate: Fate) -> bool
     }
 }
 
-/// Whether the same became of two batters, as a card shows it.
+/// Whether two batters' fates are alike, as a card shows them.
 fn is_same_fate(one: Fate, other: Fate) -> bool
     ensures { result ≡ changes.is_same_fate one other }
 {
@@ -60,7 +60,7 @@ fn is_same_batting(one: &BattingRow, other: &BattingRow) -> bool
     one.runs == other.runs && one.faced == other.faced
 }
 
-/// Whether two bowlers have as many wide runs, and as many no balls.
+/// Whether two bowlers have the same wide runs, and the same number of no balls.
 pub fn is_same_wides(one: &BowlingRow, other: &BowlingRow) -> bool
     ensures { result ≡ changes.is_same_wides one.now other.now }
 {
@@ -142,7 +142,7 @@ fn figures_differ(was: &BattingRow, now: &BattingRow) -> bool
     are_same_fates(was.fate, now.fate) && !is_same_batting(was, now)
 }
 
-/// Whether this differs of a side's player in an innings.
+/// Whether this part of a side's player differs in an innings.
 fn part_differs(
     part: Part,
     was: &Match,
@@ -169,7 +169,7 @@ fn part_differs(
     }
 }
 
-/// Whether this differs between two stages of a match.
+/// Whether this change differs between two stages of a match.
 pub fn differs(was: &Match, now: &Match, change: &Change) -> bool
     ensures { ForBoth was.now now.now (λ w n. result ≡ changes.differs w n change.now) }
 {

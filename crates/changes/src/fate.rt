@@ -1,4 +1,4 @@
-//! What became of a batter, with his figures.
+//! A batter's fate, with his figures.
 
 ghost use Rattle.std.specs.Prelude.{◌≡◌, ◌-◌, length, OnOk, Some};
 ghost use Rattle.streams.specs.Watched.{Prints, TellsFailure};
@@ -10,7 +10,7 @@ use match_laws::{BattingRow, Fate, opponent};
 use notation::Side;
 use streams::{Sink, Watched, WriteFailed};
 
-/// Prints what became of a batter of the side, with his figures.
+/// Prints the fate of a batter of the side, with his figures.
 fn print_known<W: Sink>(
     out: &mut Watched<W>,
     sheet: &MatchSheet,
@@ -27,7 +27,7 @@ fn print_known<W: Sink>(
     print_figures(out, row)
 }
 
-/// Prints what became of a batter of the side, with his figures, or that he isn't in.
+/// Prints the fate of a batter of the side, with his figures, or that he isn't in.
 pub fn print_batting<W: Sink>(
     out: &mut Watched<W>,
     sheet: &MatchSheet,
@@ -44,7 +44,7 @@ pub fn print_batting<W: Sink>(
     }
 }
 
-/// How many are left behind what became of a batter of the side, with his figures.
+/// Returns how many columns are left after the fate of a batter of the side, with his figures.
 fn behind_known(
     columns: usize,
     sheet: &MatchSheet,
@@ -58,7 +58,7 @@ fn behind_known(
     behind_figures(left.saturating_sub(1), row)
 }
 
-/// How many are left behind what is told of a batter of the side.
+/// Returns how many columns are left after the text of a batter of the side.
 pub fn behind_batting(columns: usize, sheet: &MatchSheet, side: Side, row: &BattingRow) -> usize
     ensures { result ≡ columns - length (rows.batting_text sheet.now side row.now) }
 {

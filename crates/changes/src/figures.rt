@@ -1,4 +1,5 @@
-//! The figures of batters and of bowlers and how an innings stands, and how many of a row's columns are left behind each.
+//! The figures of batters and bowlers and the state of an innings, and how many of a row's columns are left
+//! after each.
 
 ghost use Rattle.std.specs.Prelude.{◌≡◌, ◌-◌, decimal, length, OnOk};
 ghost use Rattle.cards.specs.Bowling.{overs_of};
@@ -10,7 +11,7 @@ use itoa::Buffer;
 use match_laws::{BattingRow, BowlingRow};
 use streams::{Sink, Watched, WriteFailed};
 
-/// How many digits a number has.
+/// Returns how many digits a number has.
 fn digits(number: u32) -> usize
     ensures { result ≡ length (decimal number) }
 {
@@ -27,7 +28,7 @@ pub fn print_figures<W: Sink>(out: &mut Watched<W>, row: &BattingRow) -> Result<
     write!(out, "{runs} ({faced})")
 }
 
-/// How many columns of these are left behind a batter's runs and balls faced.
+/// Returns how many of these columns are left after a batter's runs and balls faced.
 pub fn behind_figures(columns: usize, row: &BattingRow) -> usize
     ensures { result ≡ columns - length (rows.figures_text row.now) }
 {
@@ -47,7 +48,7 @@ fn print_overs<W: Sink>(out: &mut Watched<W>, row: &BowlingRow) -> Result<(), Wr
     write!(out, "{overs}.{balls}")
 }
 
-/// How many columns of these are left behind them.
+/// Returns how many of these columns are left after a bowler's overs.
 fn behind_overs(columns: usize, row: &BowlingRow) -> usize
     ensures { result ≡ columns - length (overs_of row.now) }
 {
@@ -68,7 +69,7 @@ fn print_behind_overs<W: Sink>(out: &mut Watched<W>, row: &BowlingRow) -> Result
     write!(out, "-{maidens}-{runs}-{wickets}")
 }
 
-/// How many columns of these are left behind them.
+/// Returns how many of these columns are left after a bowler's maidens, runs and wickets.
 fn behind_rest(columns: usize, row: &BowlingRow) -> usize
     ensures { result ≡ columns - length (rows.behind_overs row.now) }
 {
@@ -89,7 +90,7 @@ fn print_wides<W: Sink>(out: &mut Watched<W>, row: &BowlingRow) -> Result<(), Wr
     write!(out, ", w {wides}, nb {noballs}")
 }
 
-/// How many columns of these are left behind them.
+/// Returns how many of these columns are left after a bowler's wide runs and no balls.
 fn behind_wides(columns: usize, row: &BowlingRow) -> usize
     ensures { result ≡ columns - length (rows.wides_text row.now) }
 {
@@ -99,7 +100,7 @@ fn behind_wides(columns: usize, row: &BowlingRow) -> usize
         .saturating_sub(digits(row.noballs))
 }
 
-/// Prints a bowler's overs, maidens, runs and wickets, and wide runs and no balls unless these are the same.
+/// Prints a bowler's overs, maidens, runs and wickets, and his wide runs and no balls unless `same`.
 pub fn print_bowling<W: Sink>(
     out: &mut Watched<W>,
     same: bool,
@@ -113,7 +114,8 @@ pub fn print_bowling<W: Sink>(
     if same { Ok(()) } else { print_wides(out, row) }
 }
 
-/// How many columns of these are left behind a bowler's figures, likewise.
+/// Returns how many of these columns are left after a bowler's figures, without wide runs and no balls if
+/// `same`.
 pub fn behind_bowling(columns: usize, same: bool, row: &BowlingRow) -> usize
     ensures { result ≡ columns - length (rows.bowling_text same row.now) }
 {
@@ -121,7 +123,7 @@ pub fn behind_bowling(columns: usize, same: bool, row: &BowlingRow) -> usize
     if same { left } else { behind_wides(left, row) }
 }
 
-/// Prints how an innings stands, if it has begun.
+/// Prints how an innings stands, or that it hasn't begun.
 pub fn print_total<W: Sink>(out: &mut Watched<W>, total: Option<Total>) -> Result<(), WriteFailed>
     ensures text { OnOk result (Prints W.contents out.old out.new (rows.total_text total)) }
     ensures failed { TellsFailure result out.old out.new }
@@ -139,7 +141,7 @@ pub fn print_total<W: Sink>(out: &mut Watched<W>, total: Option<Total>) -> Resul
     }
 }
 
-/// How many columns of these are left behind how an innings stands.
+/// Returns how many of these columns are left after the state of an innings.
 pub fn behind_total(columns: usize, total: Option<Total>) -> usize
     ensures { result ≡ columns - length (rows.total_text total) }
 {

@@ -1,4 +1,4 @@
-//! The two halves of what a change tells, what is and what was: in one row, or in two.
+//! The two halves of a change's text, the new state and the old one: in one row, or in two.
 
 ghost use Rattle.std.specs.Prelude.{◌≡◌, ◌-◌, ◌++◌, length, OnOk};
 ghost use Rattle.streams.specs.Watched.{Prints, TellsFailure};
@@ -15,18 +15,18 @@ use match_laws::{BattingRow, BowlingRow};
 use notation::Side;
 use streams::{Sink, Watched, WriteFailed};
 
-/// One of them: what is told of one stage.
+/// One half: the text of one stage.
 #[derive(Clone, Copy)]
 pub enum Half<'a> {
-    /// What became of a batter of the side, with his figures.
+    /// The fate of a batter of the side, with his figures.
     Batting(Side, BattingRow),
     /// A batter's runs and balls faced.
     Figures(BattingRow),
-    /// A bowler's figures; where these are the same, without wide runs and no balls.
+    /// A bowler's figures; if the flag is set, without wide runs and no balls.
     Bowling(bool, BowlingRow),
     /// How an innings stands, if it has begun.
     Total(Option<Total>),
-    /// These words.
+    /// Fixed words.
     Words(&'a str),
 }
 
@@ -56,7 +56,7 @@ fn print_half<W: Sink>(
     }
 }
 
-/// How many columns of these are left behind it.
+/// Returns how many of these columns are left after a half.
 fn behind_half(columns: usize, sheet: &MatchSheet, half: &Half<'_>) -> usize
     ensures { result ≡ columns - length (half_text sheet.now half.now) }
 {
@@ -69,7 +69,7 @@ fn behind_half(columns: usize, sheet: &MatchSheet, half: &Half<'_>) -> usize
     }
 }
 
-/// Prints whom a row is of, behind what stands before him.
+/// Prints the name that a row is about, after the lead.
 fn print_name<W: Sink>(out: &mut Watched<W>, first: &str, name: &str) -> Result<(), WriteFailed>
     ensures text { OnOk result (Prints W.contents out.old out.new (rows.named first.now name.now)) }
     ensures failed { TellsFailure result out.old out.new }
@@ -77,12 +77,12 @@ fn print_name<W: Sink>(out: &mut Watched<W>, first: &str, name: &str) -> Result<
     write!(out, "{first}{name} ")
 }
 
-/// Whether a row has room for both.
+/// Whether both halves fit in one row.
 fn fits(sheet: &MatchSheet, first: &str, name: &str, now: &Half<'_>, was: &Half<'_>) -> bool
     ensures { result ≡ rows.fits sheet.now
         (rows.named first.now name.now ++ half_text sheet.now now.now) (half_text sheet.now was.now) }
 {
-    // One more than a row has, so that one is left where all of it fits.
+    // One column more than a row has, so that one is left if everything fits.
     let all = sheet.columns() + 1;
     let behind_name = all
         .saturating_sub(first.len())
@@ -92,15 +92,15 @@ fn fits(sheet: &MatchSheet, first: &str, name: &str, now: &Half<'_>, was: &Half<
     behind_half(behind_now, sheet, was) > 0
 }
 
-/// What stands between them: in one row, or in two.
+/// Returns the text between the halves: in one row, or in two.
 fn joint(is_one: bool) -> &'static str
     ensures { result.now ≡ rows.joint is_one }
 {
     if is_one { ", was " } else { ",\n  was " }
 }
 
-/// Prints what is, of this name, and what was: in one row where they may share one and it hasn't too many columns, or else in
-/// two.
+/// Prints this name's new state and its old one: in one row if they may share one and its columns suffice, or
+/// else in two.
 pub fn print_joined<W: Sink>(
     out: &mut Watched<W>,
     sheet: &MatchSheet,

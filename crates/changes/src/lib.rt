@@ -1,4 +1,4 @@
-//! What a correction changes: what differs between the cards before it and after it.
+//! What a correction changes: the differences between the cards before it and after it.
 #![tactic(auto)]
 
 mod before;

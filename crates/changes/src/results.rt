@@ -1,4 +1,4 @@
-//! The row of a result.
+//! The row of a changed result.
 
 ghost use Rattle.std.specs.Prelude.{◌≡◌, ◌==◌, ◌++◌, codes, decimal, if◌then◌else◌, OnOk};
 ghost use Rattle.streams.specs.Watched.{Prints, TellsFailure};
@@ -8,14 +8,14 @@ use cards::MatchSheet;
 use match_laws::Outcome;
 use streams::{Sink, Watched, WriteFailed};
 
-/// The word for one, or for another number.
+/// Returns the singular word if `count` is 1, or else the plural word.
 fn unit(count: u32, one: &'static str, many: &'static str) -> &'static str
     ensures { result.now ≡ (if count == 1 then one.now else many.now) }
 {
     if count == 1 { one } else { many }
 }
 
-/// Prints a side that has won by so many of this.
+/// Prints that a side has won, and by how many of this unit.
 fn print_win<W: Sink>(
     out: &mut Watched<W>,
     side: &str,
@@ -74,7 +74,7 @@ fn print_result<W: Sink>(
     }
 }
 
-/// Prints a result, and the one that was, in two rows.
+/// Prints the new result and the old one, in two rows.
 pub fn print_results<W: Sink>(
     out: &mut Watched<W>,
     sheet: &MatchSheet,

@@ -1,4 +1,4 @@
-//! The rows of what differs.
+//! The rows of the changes.
 
 ghost use Rattle.std.specs.Prelude.{◌≡◌, OnOk};
 ghost use Rattle.match_laws.specs.Stands.{ForEachHistory};
@@ -17,7 +17,7 @@ use match_laws::{BattingRow, BowlingRow, Match};
 use notation::{Player, Side};
 use streams::{Sink, Watched, WriteFailed};
 
-/// What stands before what is of an innings.
+/// Returns the lead of a row about an innings: its number.
 fn innings_lead(innings: usize) -> &'static str
     ensures { result.now ≡ rows.innings_lead innings }
 {
@@ -32,7 +32,7 @@ fn innings_lead(innings: usize) -> &'static str
     }
 }
 
-/// The same, of the innings begun last `now: `.
+/// Returns the lead of a row about an innings: `now: ` for the innings that began last, or else its number.
 fn lead(now: &Match, innings: usize) -> &'static str
     ensures { ForEachHistory now.now (λ n h. result.now ≡ rows.lead h innings) }
 {
@@ -43,7 +43,7 @@ fn lead(now: &Match, innings: usize) -> &'static str
     }
 }
 
-/// Prints what became of a batter of the side, and what had.
+/// Prints the new fate of a batter of the side, and the old one.
 fn print_fates<W: Sink>(
     out: &mut Watched<W>,
     sheet: &MatchSheet,
@@ -69,7 +69,7 @@ fn print_fates<W: Sink>(
     )
 }
 
-/// Prints a batter's figures, and those that were.
+/// Prints a batter's new figures, and the old ones.
 fn print_batter<W: Sink>(
     out: &mut Watched<W>,
     sheet: &MatchSheet,
@@ -95,7 +95,7 @@ fn print_batter<W: Sink>(
     )
 }
 
-/// Prints a bowler's figures, and those that were.
+/// Prints a bowler's new figures, and the old ones.
 fn print_bowler<W: Sink>(
     out: &mut Watched<W>,
     sheet: &MatchSheet,
@@ -146,7 +146,7 @@ fn print_totals<W: Sink>(
     )
 }
 
-/// The name of who has the strike, if somebody has.
+/// Returns the name of the batter who has the strike, if somebody has it.
 fn batter_name(sheet: &MatchSheet, batter: Option<Batter>) -> &str
     ensures { result.now ≡ rows.batter_name sheet.now batter }
 {
@@ -179,7 +179,7 @@ fn print_strike<W: Sink>(
     )
 }
 
-/// Prints what differs of a side's player in an innings.
+/// Prints the row of a player's changed part, in an innings and for a side.
 fn print_part<W: Sink>(
     out: &mut Watched<W>,
     stages: Stages<'_>,
@@ -217,7 +217,7 @@ fn print_part<W: Sink>(
     }
 }
 
-/// Prints the row of what differs.
+/// Prints the row of a change.
 pub fn print_change<W: Sink>(
     out: &mut Watched<W>,
     stages: Stages<'_>,

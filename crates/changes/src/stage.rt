@@ -17,14 +17,14 @@ pub struct Total {
     pub balls: u32,
 }
 
-/// A player of the side that bats.
+/// A player of the batting side.
 #[derive(Clone, Copy)]
 pub struct Batter {
     pub side: Side,
     pub player: Player,
 }
 
-/// The figures of who hasn't batted.
+/// The figures of a player who hasn't batted.
 const NO_BATTING: BattingRow = BattingRow {
     runs: 0,
     faced: 0,
@@ -33,7 +33,7 @@ const NO_BATTING: BattingRow = BattingRow {
     fate: None,
 };
 
-/// The figures of who hasn't bowled.
+/// The figures of a player who hasn't bowled.
 const NO_BOWLING: BowlingRow = BowlingRow {
     overs: 0,
     balls: 0,
@@ -44,7 +44,7 @@ const NO_BOWLING: BowlingRow = BowlingRow {
     noballs: 0,
 };
 
-/// Whether both are the same side.
+/// Whether two sides are the same.
 pub fn is_same_side(one: Side, other: Side) -> bool
     ensures { result ≡ history.side_eq one other }
 {
@@ -70,7 +70,7 @@ fn is_fielding_in(score: &Match, innings: usize, side: Side) -> bool
     innings < score.begun() && is_same_side(opponent(score.side(innings)), side)
 }
 
-/// The figures of the side's player as a batter in an innings.
+/// Returns the figures of the side's player as a batter in an innings.
 pub fn batting_in(score: &Match, innings: usize, side: Side, player: Player) -> BattingRow
     ensures { ForEachHistory score.now (λ n h. result ≡ stages.batting_in h innings side player) }
 {
@@ -81,7 +81,7 @@ pub fn batting_in(score: &Match, innings: usize, side: Side, player: Player) -> 
     }
 }
 
-/// The figures of the side's player as a bowler in an innings.
+/// Returns the figures of the side's player as a bowler in an innings.
 pub fn bowling_in(score: &Match, innings: usize, side: Side, player: Player) -> BowlingRow
     ensures { ForEachHistory score.now (λ n h. result ≡ stages.bowling_in h innings side player) }
 {
@@ -92,7 +92,7 @@ pub fn bowling_in(score: &Match, innings: usize, side: Side, player: Player) -> 
     }
 }
 
-/// How an innings that has begun stands.
+/// Returns how an innings that has begun stands.
 fn total_of(score: &Match, innings: usize) -> Total
     requires { innings < begun_in score.now }
     ensures { ForEachHistory score.now (λ n h. result ≡ stages.total_of h innings) }
@@ -106,7 +106,7 @@ fn total_of(score: &Match, innings: usize) -> Total
     }
 }
 
-/// How the side's innings stands, where it has begun.
+/// Returns how the side's innings stands, if it has begun.
 pub fn total_in(score: &Match, innings: usize, side: Side) -> Option<Total>
     ensures { ForEachHistory score.now (λ n h. result ≡ stages.total_in h innings side) }
 {
@@ -117,7 +117,7 @@ pub fn total_in(score: &Match, innings: usize, side: Side) -> Option<Total>
     }
 }
 
-/// Who has the strike.
+/// Returns the batter who has the strike, if there is one.
 pub fn striker(score: &Match) -> Option<Batter>
     ensures { ForEachHistory score.now (λ n h. result ≡ stages.striker h) }
 {

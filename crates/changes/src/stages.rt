@@ -1,4 +1,4 @@
-//! Two stages of a match, which are compared.
+//! The two stages of a match that are compared.
 
 use cards::MatchSheet;
 use match_laws::Match;

@@ -1,4 +1,4 @@
-//! What is told behind a correction.
+//! The rows that are printed after a correction.
 
 ghost use Rattle.std.specs.Prelude.{◌≡◌, ◌+◌, ◌≤◌, ◌∷◌, [], true, length, map, IfOk, OnOk};
 ghost use Rattle.std.specs.List.{list_all};
@@ -21,10 +21,11 @@ use corrections::BookOf;
 use notation::{Player, Side};
 use streams::{Sink, Watched, WriteFailed};
 
-/// How many rows are told at most.
+/// How many rows are printed at most.
 const MOST: u32 = 6;
 
-/// Tells this change where it differs and fewer than six were told, and answers how many differ with it.
+/// Prints this change's row if it differs and fewer than six changes came before. Returns how many changes
+/// differ so far.
 fn tell<W: Sink>(
     out: &mut Watched<W>,
     stages: Stages<'_>,
@@ -46,7 +47,7 @@ fn tell<W: Sink>(
     Ok(told + 1)
 }
 
-/// The same of these players of a side, in an innings.
+/// Prints the changes of this part, of these players of a side in an innings; counts as `tell` does.
 fn tell_players<W: Sink>(
     out: &mut Watched<W>,
     stages: Stages<'_>,
@@ -74,7 +75,7 @@ fn tell_players<W: Sink>(
     tell_players(out, stages, told, part, innings, side, more)
 }
 
-/// The same of all players of a side.
+/// Prints the changes of this part, of all players of a side in an innings; counts as `tell` does.
 fn tell_side<W: Sink>(
     out: &mut Watched<W>,
     stages: Stages<'_>,
@@ -100,7 +101,7 @@ fn tell_side<W: Sink>(
     )
 }
 
-/// The same of all players of both sides.
+/// Prints the changes of this part, of all players of both sides in an innings; counts as `tell` does.
 fn tell_sides<W: Sink>(
     out: &mut Watched<W>,
     stages: Stages<'_>,
@@ -118,7 +119,7 @@ fn tell_sides<W: Sink>(
     tell_side(out, stages, told, part, innings, Side::Away)
 }
 
-/// The same in each innings that a match can have.
+/// Prints the changes of this part, in each innings that a match can have; counts as `tell` does.
 fn tell_part<W: Sink>(
     out: &mut Watched<W>,
     stages: Stages<'_>,
@@ -137,7 +138,7 @@ fn tell_part<W: Sink>(
     tell_sides(out, stages, told, part, 3)
 }
 
-/// Tells the totals of both sides in an innings that differ.
+/// Prints the totals of both sides in an innings that differ; counts as `tell` does.
 fn tell_totals<W: Sink>(
     out: &mut Watched<W>,
     stages: Stages<'_>,
@@ -154,7 +155,7 @@ fn tell_totals<W: Sink>(
     tell(out, stages, told, &Change::Total(innings, Side::Away))
 }
 
-/// The same in each innings that a match can have.
+/// Prints the totals that differ in each innings that a match can have; counts as `tell` does.
 fn tell_all_totals<W: Sink>(
     out: &mut Watched<W>,
     stages: Stages<'_>,
@@ -172,7 +173,7 @@ fn tell_all_totals<W: Sink>(
     tell_totals(out, stages, told, 3)
 }
 
-/// Tells whether the result and the strike differ.
+/// Prints the result and the strike if they differ; counts as `tell` does.
 fn tell_match<W: Sink>(
     out: &mut Watched<W>,
     stages: Stages<'_>,
@@ -188,7 +189,7 @@ fn tell_match<W: Sink>(
     tell(out, stages, told, &Change::Strike)
 }
 
-/// Tells the first six of all that differs, and answers how much does.
+/// Prints the first six of all changes, and returns how many changes there are.
 fn tell_all<W: Sink>(out: &mut Watched<W>, stages: Stages<'_>) -> Result<u32, WriteFailed>
     ensures text { ForStages stages.entry (λ s w n.
         Tells W.contents out.old out.new result s w n 0 changes.all_changes) }
@@ -201,7 +202,7 @@ fn tell_all<W: Sink>(out: &mut Watched<W>, stages: Stages<'_>) -> Result<u32, Wr
     tell_part(out, stages, told, Part::Bowling)
 }
 
-/// Prints how many more there are than the six that are told.
+/// Prints how many changes there are beyond the six that are printed, if any.
 fn print_more<W: Sink>(out: &mut Watched<W>, count: u32) -> Result<(), WriteFailed>
     ensures text { OnOk result (Prints W.contents out.old out.new (texts.more_text count)) }
     ensures failed { TellsFailure result out.old out.new }
@@ -213,7 +214,8 @@ fn print_more<W: Sink>(out: &mut Watched<W>, count: u32) -> Result<(), WriteFail
     writeln!(out, ".. and {more} more: card")
 }
 
-/// Prints what differs between two stages of a match: a row for each of the first six, and how many more there are.
+/// Prints the changes between two stages of a match: a row for each of the first six, and how many more there
+/// are.
 pub fn print_changes<W: Sink>(out: &mut Watched<W>, stages: Stages<'_>) -> Result<(), WriteFailed>
     ensures text { ForStages stages.entry (λ s w n.
         OnOk result (Prints W.contents out.old out.new (texts.changes_text s w n))) }
@@ -223,7 +225,7 @@ pub fn print_changes<W: Sink>(out: &mut Watched<W>, stages: Stages<'_>) -> Resul
     print_more(out, count)
 }
 
-/// Prints what the last entry of a book has changed, where that is a `fix` or a `late`.
+/// Prints what the last entry of a book has changed, if that is a `fix` or a `late`.
 pub fn print_last_changes<W: Sink, B: BookOf>(
     out: &mut Watched<W>,
     sheet: &MatchSheet,

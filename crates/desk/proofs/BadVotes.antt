@@ -7,10 +7,10 @@ use Rattle.desk.specs.declared.refusal.OpenRefusal.{OpenRefusal}
 use Rattle.desk.specs.Restore.{NamesBadVotes, RefusesVotes}
 
 module _ {T Why : Type 0} (rules : Rules Why) (votes : List Ballot) where
-  -- a list that is taken whole has no refused place
+  -- a list that is accepted whole has no refused place
   pub none_named : (x : T) → AllTaken rules [] (voted_list votes) → NamesBadVotes {T = T} rules votes (Ok x)
   none_named x taken place = (λ h. absurd (cc), λ r. absurd (not_both rules [] (voted_list votes) place taken r))
 
-  -- the place that is named is the first refused one
+  -- the named place is the first refused one
   pub named : (why : OpenRefusal) → RefusesVotes rules votes why → NamesBadVotes {T = T} rules votes (Err why)
   named why r place = grind (arith, refused_once)

@@ -1,4 +1,4 @@
--- What a desk keeps of its votes, as it opens, casts and hears.
+-- What a desk keeps of its votes as it opens, casts and hears.
 use Rattle.std.proofs.lemmas.Grind.{common_steps}
 use Rattle.std.proofs.Common.{◌≡◌, ℕ, true, Some, None, IfSome, List, [], ◌∷◌, ◌++◌, length, sym, append-nil, append_assoc, arith}
 use Rattle.std.proofs.lemmas.Bool.{or_left, or_right}
@@ -29,12 +29,12 @@ last_legal : {Why : Type 0} (rules : Rules Why) (book xs : List Entry) (e : Entr
 last_legal rules book [] e t = rw append-nil t.0
 last_legal rules book (x ∷ xs) e t = rw (sym (append_assoc book (x ∷ []) xs)) (last_legal rules (book ++ x ∷ []) xs e t.1)
 
--- the seat and the book that a file's votes show
+-- the seat and the book that a file's votes lead to
 pub opened_kept : (n : ℕ) (d : DeskId) (votes : List Ballot) → IsVotes votes → AllTaken (book_refusal n) [] (voted_list votes)
     → IsKept n (book_of votes) (seat_of d votes) votes
 opened_kept n d votes fine taken = grind (arith, book_long, last_legal)
 
--- behind a vote at this position come the next round and the next place
+-- after a vote at this position, the next round or the next place may come
 next_is : (p : Position) (votes : List Ballot) (e : Entry) → newest votes ≡ Some (record { at = p; entry = e })
     → (comes_next (next_place p) (last_position votes) ≡ true) × (comes_next (next_round p) (last_position votes) ≡ true)
 next_is p votes e h = grind (arith, or_right, is_at-same, or_left)
@@ -66,7 +66,7 @@ heard_kept n book s t votes v heard entry k h = rw h.2 k
 pub seat_desk : (d : DeskId) (votes : List Ballot) → (seat_of d votes).desk ≡ d
 seat_desk d votes = grind arith
 
--- a seat stays the same desk's
+-- a seat stays with its desk
 pub hears_desk : (s t : SeatState) (v : Vote) (heard : Heard) → Hears s v heard t → t.desk ≡ s.desk
 hears_desk s t v heard h = grind arith
 

@@ -1,4 +1,4 @@
-//! Faults that are planned for a desk whose disk is in memory.
+//! Planned faults for a desk whose disk is in memory.
 
 ghost use Rattle.std.specs.Prelude.{◌-◌, ◌≤◌};
 
@@ -11,7 +11,7 @@ impl<V: Version, B: BookOf + Drop> Desk<GatedSlots<V, MemDisk>, B> {
     ghost use Rattle.entry_log.specs.declared.mem_disk.plan.Plan.TheVariants.{Fail, Stop};
     ghost use Rattle.desk.specs.Desk.{SameOwner, SameState, disk_of};
 
-    /// The n-th device call from now on, counted from 1, fails.
+    /// Plans that the n-th device call from now on, counted from 1, fails.
     pub fn fail_at(&mut self, n: u32)
         requires { 1 ≤ n }
         ensures disk { SetsPlan (Fail (n - 1)) (disk_of self.old) (disk_of self.new) }
@@ -21,7 +21,7 @@ impl<V: Version, B: BookOf + Drop> Desk<GatedSlots<V, MemDisk>, B> {
         self.votes.fail_at(n);
     }
 
-    /// The n-th device call from now on, counted from 1, and all later ones fail, until the disk is
+    /// Plans that the n-th device call from now on, counted from 1, and all later ones fail, until the disk is
     /// killed or loses power.
     pub fn stop_at(&mut self, n: u32)
         requires { 1 ≤ n }

@@ -8,7 +8,7 @@ ghost use Rattle.agree_core.specs.declared.messages.Message.{Message};
 use agree_core::{Ask, Asker, DeskId, Position, Vote};
 use notation::Entry;
 
-/// A desk's vote for an entry.
+/// Returns a desk's vote for an entry.
 pub(crate) fn vote_at(desk: DeskId, at: Position, entry: Entry) -> Vote
     ensures { result ≡ vote_of desk (record { at = at; entry = entry }) }
 {
@@ -20,7 +20,7 @@ pub(crate) fn vote_at(desk: DeskId, at: Position, entry: Entry) -> Vote
     }
 }
 
-/// A desk's ask for the votes of a position.
+/// Returns a desk's ask for the votes of a position.
 pub(crate) fn ask_for(desk: DeskId, at: Position) -> Ask
     ensures { Message.Ask result ≡ ask_for (asker desk) at }
 {

@@ -1,4 +1,4 @@
--- The falls by what stands, and by the history.
+-- The falls, computed from the standing items and from the history.
 use Rattle.std.proofs.Common.{arith, ◌≡◌, List, [], ◌∷◌, refl, ap, inl, inr}
 use Rattle.std.proofs.lemmas.Bool.{cases_Bool}
 use Rattle.std.proofs.lemmas.List.{map-append}

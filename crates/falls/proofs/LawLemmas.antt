@@ -1,4 +1,4 @@
--- Whose falls they are, item by item.
+-- Which players' wickets the falls are, item by item.
 use Rattle.std.proofs.Common.{◌≡◌, ℕ, ◌+◌, ◌==◌, ◌&&◌, Bool, List, [], ◌∷◌, ◌++◌, length, Option, Some, None, refl, sym, ◌∙◌, arith, append-nil}
 use Rattle.std.specs.Prelude.{map, filter, if◌then◌else◌}
 use Rattle.std.proofs.lemmas.List.{map-append}
@@ -27,7 +27,7 @@ abbrev listed : Option ℕ → List (Option ℕ)
 listed None = []
 listed (Some p) = Some p ∷ []
 
--- by one item, in this innings or not
+-- the player out by one item, if it is in this innings
 abbrev one : Bool → Plain → Ends → List (Option ℕ)
 one here x ends = if here && is_wicket x then out_by x ends ∷ [] else []
 
@@ -44,7 +44,7 @@ outs-more i x h =
     let w : Wicket = record { before = h; item = x } in
     grind (arith, filter-last (λ v. begun v.before == i + 1) (wickets_of h) w, map-append who (filter (λ v. begun v.before == i + 1) (wickets_of h)) (w ∷ []), append-nil (outs i (wickets_of h)), append-nil (filter (λ v. begun v.before == i + 1) (wickets_of h)))
 
--- a wicket that falls by an item that is taken is somebody's
+-- an accepted item at which a wicket falls puts one player out
 fell : (n : ℕ) (h : History) (x : Plain) (i : ℕ) → refusal n h x ≡ None → listed (fallen i (note_of h x)) ≡ one (begun h == i + 1) x (state_after h).ends
 fell n h (Bowl b) i e =
     let s = state_after h in
@@ -60,7 +60,7 @@ players_stand n (x ∷ h) legal i =
     players-with (falls h i) (fallen i (note_of h x)) _
     ∙ (rw (players_stand n h legal.0 i, fell n h x i legal.1) (sym (outs-more i x h)))
 
--- an innings' places are those of its wickets
+-- the places of an innings' falls are those of its wickets
 places_stand : (i : ℕ) (ws : List Wicket) → falls_in (i + 1) (map fall_of ws) ≡ map fall_of (filter (λ w. begun w.before == i + 1) ws)
 places_stand i [] = refl
 places_stand i (w ∷ ws) = grind (arith, places_stand i ws)

@@ -12,7 +12,7 @@ pub record Wicket : Type 0 where
   pub before : History
   pub item : Plain
 
--- those of all innings, in their order
+-- the wickets of all innings, in order
 abbrev pub wickets_of : History → List Wicket
 wickets_of [] = []
 wickets_of (x ∷ h) = if is_wicket x then wickets_of h ++ record { before = h; item = x } ∷ [] else wickets_of h
@@ -22,7 +22,8 @@ abbrev pub counted : Plain → ℕ
 counted (Plain.Ball b) = one_if (counts b)
 counted _ = 0
 
--- so many overs of its innings had been called, and so many balls of the next one count, its own among them
+-- how many overs of the innings had been called, and how many balls of the next over counted, the wicket's own
+-- included
 abbrev pub fall_of : Wicket → FallAt
 fall_of w = record {
   innings = begun w.before;
@@ -33,7 +34,7 @@ fall_of w = record {
 abbrev pub falls_at : History → List FallAt
 falls_at h = map fall_of (wickets_of h)
 
--- those of an innings, by its number from 1
+-- the falls of one innings, by its number from 1
 abbrev pub falls_in : ℕ → List FallAt → List FallAt
 falls_in number falls = filter (λ fall. fall.innings == number) falls
 

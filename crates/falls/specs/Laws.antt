@@ -1,4 +1,4 @@
--- Whose falls they are.
+-- Which players' wickets the falls are.
 use Rattle.std.specs.Prelude.{◌≡◌, ℕ, ◌+◌, ◌==◌, Option, Some, None, List, map, filter}
 use Rattle.notation.specs.declared.entry.Plain.{Plain}
 use Rattle.ball_laws.specs.declared.ends.Ends.{Ends}
@@ -9,7 +9,7 @@ use Rattle.match_laws.specs.Figures.{falls}
 use Rattle.match_laws.specs.History.{begun}
 use Rattle.falls.specs.Falls.{Wicket, fall_of, falls_at, falls_in, wickets_of}
 
--- who is out by an item, before which these were at the ends
+-- the player who is out by an item, given the batters at the ends before it
 abbrev pub out_by : Plain → Ends → Option ℕ
 out_by (Plain.Ball b) ends = dismissed b.out ends
 out_by (Plain.Gone way p) ends = Some p
@@ -22,8 +22,8 @@ who w = out_by w.item (state_after w.before).ends
 abbrev pub wickets_in : History → ℕ → List Wicket
 wickets_in h i = filter (λ w. begun w.before == i + 1) (wickets_of h)
 
--- The `players` of the card's falls of innings i are those who are out by the items at which its wickets fall, one for each, in
--- their order, and so are the overs and balls of these items, `there`.
+-- The `players` of the card's falls of innings i are those who are out by the items at which its wickets fell,
+-- one for each item, in order; `there`, the overs and balls of the falls are those of these items.
 pub record FallsStand (h : History) (i : ℕ) : Type 0 where
   pub players : map (λ fall. Some fall.player) (falls h i) ≡ map who (wickets_in h i)
   pub there : falls_in (i + 1) (falls_at h) ≡ map fall_of (wickets_in h i)

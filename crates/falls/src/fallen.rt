@@ -14,14 +14,14 @@ use itoa::Buffer;
 use notation::{Leave, Plain};
 use std::alloc::{AllocError, Global};
 
-/// Where a wicket fell.
+/// The point at which a wicket fell.
 #[derive(Clone, Copy)]
 pub struct FallAt {
-    /// The number of its innings, from 1.
+    /// The number of the innings, from 1.
     pub innings: usize,
-    /// How many overs of it had been called.
+    /// How many overs of the innings had been called.
     pub overs: u32,
-    /// How many balls of the next one count, its own among them.
+    /// How many balls of the next over counted, including the wicket's own.
     pub balls: u32,
 }
 
@@ -43,7 +43,7 @@ fn is_wicket(item: &Plain) -> bool
     }
 }
 
-/// How many balls an item adds to its over: 1 or none.
+/// Returns how many balls an item adds to its over: 1 or 0.
 fn counted(item: &Plain) -> u32
     ensures value { result ≡ laws.counted item.now }
     ensures in_range { result ≤ 1 }
@@ -63,7 +63,7 @@ fn counted(item: &Plain) -> u32
     }
 }
 
-/// Where a wicket falls at an item, from where the match stood before.
+/// Returns where a wicket falls at an item, given where the match stood before.
 fn fall_at(at: FallAt, item: &Plain) -> FallAt
     requires { at.balls ≤ PLACES }
     ensures { result ≡ falling.fall_from at item.now }
@@ -74,7 +74,7 @@ fn fall_at(at: FallAt, item: &Plain) -> FallAt
     }
 }
 
-/// Where the match stands behind an item.
+/// Returns where the match stands after an item.
 fn behind(at: FallAt, item: &Plain) -> FallAt
     requires innings { at.innings ≤ PLACES }
     requires overs { at.overs ≤ PLACES }
@@ -105,7 +105,7 @@ fn behind(at: FallAt, item: &Plain) -> FallAt
     }
 }
 
-/// Where the wickets of these items fell.
+/// Returns where the wickets of these items fell.
 fn falls_behind(alloc: Global, items: &[Placed]) -> Result<Vec<FallAt>, AllocError>
     requires { length items.now ≤ PLACES }
     ensures { IfOk result (λ falls.
@@ -126,14 +126,14 @@ fn falls_behind(alloc: Global, items: &[Placed]) -> Result<Vec<FallAt>, AllocErr
     Ok(falls)
 }
 
-/// Where the wickets of a book fell, of all innings, in their order.
+/// Returns where all wickets of a book fell, in every innings, in order.
 pub fn falls_at<B: BookOf>(alloc: Global, book: &B) -> Result<Vec<FallAt>, AllocError>
     ensures { IfOk result (λ falls. falls.items ≡ laws.falls_at (history_of (B.content book.now))) }
 {
     falls_behind(alloc, book.clean_items())
 }
 
-/// Those of an innings, by its number from 1.
+/// Returns the falls of one innings, by its number from 1.
 pub fn falls_in(alloc: Global, number: usize, falls: &[FallAt]) -> Result<Vec<FallAt>, AllocError>
     ensures { IfOk result (λ its. its.items ≡ laws.falls_in number falls.now) }
 {
@@ -146,7 +146,7 @@ pub fn falls_in(alloc: Global, number: usize, falls: &[FallAt]) -> Result<Vec<Fa
     Ok(its)
 }
 
-/// The over and the ball of a fall: so many overs, a point, and so many balls.
+/// Returns the text of a fall's over and ball: the overs, a point, and the balls.
 pub fn over_and_ball(alloc: Global, fall: FallAt) -> Result<String, AllocError>
     ensures { IfOk result (λ text. string_bytes text ≡ laws.over_and_ball fall) }
 {

@@ -1,4 +1,4 @@
--- Deliveries that are named by their over and their number in it, both from 1, as `9.2`.
+-- Deliveries named by their over and their number in it, both from 1, such as `9.2`.
 use Rattle.std.specs.Prelude.{ℕ, ◌+◌, ◌==◌, ◌&&◌, Bool, false, if◌then◌else◌, Option, Some, None, List, [], ◌∷◌}
 use Rattle.std.specs.List.{before_first, after_first}
 use Rattle.notation.specs.declared.entry.{Plain.Plain, Entry.Entry}
@@ -10,22 +10,22 @@ use Rattle.corrections.specs.CleanList.{clean_items_of, history_of}
 use Rattle.over_numbers.specs.declared.{balls.Named.Named, count.Count.Count}
 use Rattle.over_numbers.specs.Counts.{counted, is_in_over}
 
--- the item that comes next is this delivery of innings i
+-- the next item is this delivery of innings i
 abbrev pub is_named : Count → ℕ → Named → Plain → Bool
 is_named c i named (Plain.Ball b) = is_in_over c i named.over && (c.balls + 1 == named.ball)
 is_named c i named _ = false
 
--- its place, among what stands behind the history
+-- the delivery's place among the items that stand after the history
 abbrev pub place_among : ℕ → Named → History → List Placed → Option ℕ
 place_among i named h [] = None
 place_among i named h (x ∷ xs) =
     if is_named (counted h) i named x.item then Some x.place else place_among i named (x.item ∷ h) xs
 
--- its place in a book, if the innings begun last has it
+-- the delivery's place in a book, if the innings that began last has it
 abbrev pub place_of : List Entry → Named → Option ℕ
 place_of book named = place_among (current (history_of book)) named [] (clean_items_of book)
 
--- ---- the over and the number that a token names
+-- ---- the over and the number in a token
 
 abbrev pub is_dot : ℕ → Bool
 is_dot b = b == 46

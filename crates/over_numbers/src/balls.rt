@@ -1,4 +1,4 @@
-//! Deliveries that are named by their over and their number in it.
+//! Deliveries named by their over and their number in it.
 
 ghost use Rattle.std.specs.Prelude.{◌≡◌, ◌≤◌, [], length};
 ghost use Rattle.notation.specs.declared.entry.TheConstants.{PLACES};
@@ -8,7 +8,7 @@ use crate::count::Count;
 use corrections::{BookOf, Placed};
 use notation::{Plain, number_in};
 
-/// A delivery of an innings: its over, as they were called, and its number there, both from 1.
+/// A delivery of an innings: its over, as the overs were called, and its number in that over, both from 1.
 #[derive(Clone, Copy)]
 pub struct Named {
     pub over: u32,
@@ -16,7 +16,7 @@ pub struct Named {
 }
 
 impl Named {
-    /// Whether the item that comes next is this delivery of an innings.
+    /// Whether the next item is this delivery of an innings.
     fn is_next(self, count: Count, innings: usize, item: &Plain) -> bool
         requires innings { innings ≤ PLACES }
         requires overs { count.overs ≤ PLACES }
@@ -32,7 +32,7 @@ impl Named {
     }
 }
 
-/// The place of a delivery of an innings among what stands.
+/// Returns the place of a delivery of an innings, among the standing items.
 fn place_among(items: &[Placed], innings: usize, named: Named) -> Option<u32>
     requires innings { innings ≤ PLACES }
     requires items { length items.now ≤ PLACES }
@@ -49,7 +49,7 @@ fn place_among(items: &[Placed], innings: usize, named: Named) -> Option<u32>
     None
 }
 
-/// The place of a delivery, if the innings begun last has it.
+/// Returns the place of a delivery, if the innings that began last has it.
 pub fn place_of<B: BookOf>(book: &B, named: Named) -> Option<u32>
     ensures { result ≡ balls.place_of (B.content book.now) named }
 {
@@ -57,7 +57,7 @@ pub fn place_of<B: BookOf>(book: &B, named: Named) -> Option<u32>
     place_among(book.clean_items(), innings, named)
 }
 
-/// The delivery that a token names, as `9.2`.
+/// Returns the delivery that a token such as `9.2` names.
 pub fn named_ball(token: &str) -> Option<Named>
     ensures { result ≡ balls.named_ball token.now }
 {

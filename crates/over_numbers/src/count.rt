@@ -7,21 +7,21 @@ ghost use Rattle.over_numbers.specs.Counts as counts;
 
 use notation::Plain;
 
-/// How far an innings has come, before the item that comes next.
+/// How far an innings has come before the next item.
 #[derive(Clone, Copy)]
 pub struct Count {
     /// How many innings have begun.
     pub begun: usize,
-    /// Whether the one that began last is open.
+    /// Whether the innings that began last is open.
     pub is_open: bool,
-    /// How many overs were called in it.
+    /// How many overs were called in that innings.
     pub overs: u32,
-    /// How many deliveries were bowled since, whether they count or not.
+    /// How many deliveries were bowled since the last called over, whether they count or not.
     pub balls: u32,
 }
 
 impl Count {
-    /// Before the first item.
+    /// Returns the count before the first item.
     pub fn none() -> Count
         ensures { result ≡ counts.counted [] }
     {
@@ -33,7 +33,7 @@ impl Count {
         }
     }
 
-    /// Behind an item.
+    /// Returns the count after an item.
     pub fn after(self, item: &Plain) -> Count
         requires begun { self.begun ≤ PLACES }
         requires overs { self.overs ≤ PLACES }
@@ -75,7 +75,7 @@ impl Count {
         }
     }
 
-    /// Whether what comes next belongs to this over, from 1, of an innings.
+    /// Whether the next item belongs to this over, from 1, of an innings.
     pub fn is_in_over(self, innings: usize, over: u32) -> bool
         requires innings { innings ≤ PLACES }
         requires overs { self.overs ≤ PLACES }

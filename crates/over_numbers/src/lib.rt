@@ -1,4 +1,4 @@
-//! Overs and deliveries by number, as `9.2`.
+//! Overs and deliveries by number, such as `9.2`.
 #![tactic(auto)]
 
 mod balls;

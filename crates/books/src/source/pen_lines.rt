@@ -13,7 +13,7 @@ use notation::Lines;
 use std::alloc::Global;
 use streams::LONGEST_INPUT;
 
-/// Takes the lines of an input up to the first that isn't taken.
+/// Takes the lines of an input, up to the first that is rejected.
 fn take_lines(table: &mut Table, input: &[u8]) -> Result<(), BookFault>
     requires short { length input.now ≤ LONGEST_INPUT }
     requires in_step { IsInStep table.old }
@@ -36,7 +36,7 @@ fn take_lines(table: &mut Table, input: &[u8]) -> Result<(), BookFault>
     Ok(())
 }
 
-/// The book of these pen lines, in a match of one or two innings a side. It is refused with the first line that
+/// Returns the book of these pen lines, in a match of one or two innings a side. It refuses the first line that
 /// isn't taken.
 pub fn book_of_lines(alloc: Global, innings: u32, input: &[u8]) -> Result<CheckedBook, BookFault>
     requires short { length input.now ≤ LONGEST_INPUT }

@@ -1,4 +1,4 @@
--- The text of what a row tells of one stage.
+-- The text of one stage in a row.
 use Rattle.std.specs.Prelude.{ℕ, List}
 use Rattle.cards.specs.Sheet.{Sheet}
 use Rattle.changes.specs.declared.halves.Half.{Half}

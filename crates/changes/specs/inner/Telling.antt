@@ -1,4 +1,4 @@
--- The rows of what differs among some changes, where so many rows were told before.
+-- The rows of the changes in a list, after `told` changes before them.
 use Rattle.std.specs.Prelude.{◌≡◌, ⊤, ℕ, ◌+◌, ◌&&◌, nat_lt, if◌then◌else◌, Bool, List, [], ◌∷◌, ◌++◌, Option, Result, Ok, Err}
 use Rattle.std.specs.Io.KnownBytes.{Appends}
 use Rattle.match_laws.specs.History.{one_if}
@@ -11,7 +11,7 @@ use Rattle.changes.specs.Changes.{differs}
 use Rattle.changes.specs.Rows.{row}
 use Rattle.changes.specs.Text.{most}
 
--- how many of these differ
+-- how many of these changes differ
 abbrev pub number_of : (Change → Bool) → List Change → ℕ
 number_of is_other [] = 0
 number_of is_other (c ∷ cs) = one_if (is_other c) + number_of is_other cs
@@ -24,7 +24,7 @@ rows_from is_other line told [] = []
 rows_from is_other line told (c ∷ cs) =
     row_if is_other line told c ++ rows_from is_other line (told + one_if (is_other c)) cs
 
--- the rows are written, and the answer counts them, with those that there was no room for
+-- the rows are written, and the answer counts all changes, including those that had no row left
 abbrev pub Tells :
     {S E : Type 0} → (S → Option (List ℕ)) → Watched S → Watched S → Result ℕ E → Sheet → Stage → Stage → ℕ
     → List Change → Type 0

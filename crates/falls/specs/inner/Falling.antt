@@ -1,4 +1,4 @@
--- The falls of what stands, item by item.
+-- The falls of the standing items, item by item.
 use Rattle.std.specs.Prelude.{◌+◌, if◌then◌else◌, List, [], ◌∷◌, ◌++◌, length}
 use Rattle.notation.specs.declared.entry.Plain.{Plain}
 use Rattle.ball_laws.specs.History.{History, called_overs, is_wicket, open_over}
@@ -7,11 +7,12 @@ use Rattle.match_laws.specs.History.{begun}
 use Rattle.falls.specs.declared.fallen.FallAt.{FallAt}
 use Rattle.falls.specs.Falls.{counted, falls_at}
 
--- where the match stands: how many innings have begun, the overs called in the one in play, and the balls that count since
+-- where the match stands: how many innings have begun, the overs called in the current one, and the counting
+-- balls since
 abbrev pub point_of : History → FallAt
 point_of h = record { innings = begun h; overs = length (called_overs h); balls = counting (open_over h) }
 
--- where a wicket falls at an item, from there
+-- where a wicket falls at an item, given where the match stood before
 abbrev pub fall_from : FallAt → Plain → FallAt
 fall_from at x = record { innings = at.innings; overs = at.overs; balls = at.balls + counted x }
 
@@ -22,7 +23,7 @@ behind (Plain.Innings side) at = record { innings = at.innings + 1; overs = 0; b
 behind (Plain.End cause) at = record { innings = at.innings; overs = 0; balls = 0 }
 behind x at = at
 
--- there, with the falls so far
+-- where the match stands, with the falls so far
 pub record Falling : Type 0 where
   pub at : FallAt
   pub falls : List FallAt

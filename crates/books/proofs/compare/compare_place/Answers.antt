@@ -23,7 +23,7 @@ loop-round-preserved c = (
   c.in_ok-compare_round.ensures.all_entries,
 )
 
--- where a round before it had a vote, it answers so
+-- if an earlier round had a vote, the answer is that something was written
 pub returns-then-not-branch-clause-no_first : goal.returns-then-not-branch-clause-no_first
 returns-then-not-branch-clause-no_first c = λ none.
     grind (arith, nat_tests, c.in_ok-compare_round.ensures.no_first c.if-not-branch.true)

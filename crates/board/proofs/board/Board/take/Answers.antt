@@ -6,7 +6,7 @@ use Rattle.board.proofs.board.Board.take.Goals as goal
 use Rattle.board.proofs.board.Board.take.Given.{Over}
 use Rattle.board.proofs.board.Board.take.Goals.{In-Ok-Vote}
 
--- the vote is one
+-- the vote is a well-formed message
 fine : (g : Over) (c : In-Ok-Vote g) → IsMessage (Message.Vote c.in-Ok-Vote.vote)
 fine g c = subst IsMessage c.in-Ok-Vote.field-0-is (c.requires c.in-Ok-Vote.field-0 c.in-Ok-Vote.is)
 
