@@ -1,4 +1,4 @@
--- What a map keeps.
+-- The votes that a map keeps.
 use Rattle.std.proofs.Common.{◌≡◌, ◌⊎◌, ◌<◌, ◌+◌, ℕ, suc, true, false, List, ◌∷◌, length, slice_index_or, Option, Result, OnOk, IfOk, Ordering, arith, inr}
 use Rattle.std.specs.Prelude.{OnErr, if◌then◌else◌, is_ok, is_some}
 use Rattle.std.specs.List.{IsAmong}
@@ -22,7 +22,7 @@ pub keeps : {K X A E : Type 0} (cmp : K → K → Ordering) (k : K) (v : X) (old
     → OnOk r (new ≡ insert_entry cmp old k v) → OnErr r (new ≡ old) → AreOfOr v (values_of new) (values_of old)
 keeps cmp k v old new r o n = grind (arith, inserted)
 
--- what is among them is one of them
+-- an item at an index of a list is in the list
 at_index : {X : Type 0} (xs : List X) (x : X) (i : ℕ) → i < length xs → x ≡ slice_index_or xs i x → Has xs x
 at_index (y ∷ ys) x (suc i) lt e = inr (at_index ys x i (omega (arith, lt)) e)
 at_index xs x i lt e = grind arith
@@ -30,7 +30,7 @@ at_index xs x i lt e = grind arith
 pub is_one : {X : Type 0} (xs : List X) (x : X) → IsAmong xs x → Has xs x
 is_one xs x among = at_index xs x among.0 among.1.0 among.1.1
 
--- a new key is one more
+-- a new key adds one entry
 pub one_more : {K X Y : Type 0} (old new : List (K × X)) (r : Result (Option X) Y) (was : Option X) → IfOk r (λ o. o ≡ was)
     → IfOk r (λ o. length new ≡ length old + (if is_some o then 0 else 1)) → is_some was ≡ false → is_ok r ≡ true → HasMore (values_of old) (values_of new)
 one_more old new r was same len none ok = grind (arith, length-map)

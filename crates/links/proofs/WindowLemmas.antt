@@ -15,7 +15,7 @@ pub has_last : {X : Type 0} (log : List X) (p : X) → Has (log ++ p ∷ []) p
 has_last [] p = inl refl
 has_last (q ∷ log) p = inr (has_last log p)
 
--- what is in a list with one more was in it, or is the one
+-- an item of a list with one more item was in the list, or is the added one
 pub has_split : {X : Type 0} (log : List X) (q p : X) → Has (log ++ q ∷ []) p → Has log p ⊎ (q ≡ p)
 has_split [] q p (inl e) = inr e
 has_split [] q p (inr h) = absurd h
@@ -43,11 +43,11 @@ sent_is to one m n e = cc
 sent_to_is : (to one : Receivers) (m n : List ℕ) → Sent to m ≡ Sent one n → to ≡ one
 sent_to_is to one m n e = cc
 
--- what was handed is the same, and for the same
+-- equal messages to equal receivers are handed alike
 same_handed : (game : ℕ) (above : List Passed) (to one : Receivers) (m n : List ℕ) → Sent to m ≡ Sent one n → IsHanded game above to m → IsHanded game above one n
 same_handed game above to one m n e h = grind (arith, sent_is, sent_to_is)
 
--- one is handed to the window; one is given by it; one is handed to its link; one is given by that
+-- faithfulness stays when a message is handed to the window, given by it, handed to its link, or given by its link
 pub sent_above : (game : ℕ) (above below : List Passed) (to : Receivers) (m : List ℕ) → IsFaithful game above below → IsFaithful game (above ++ Sent to m ∷ []) below
 sent_above game above below to m f = record {
   given = λ n h. ⊎_elim (f.given n) (λ e. absurd (sent_isn't_came to m n e)) (has_split above (Sent to m) (Came n) h);
@@ -77,7 +77,7 @@ came_below game above below m f = record {
 pub some_of : (P : List ℕ → Type 0) (o : Option (List ℕ)) (m : List ℕ) → IfSome o P → o ≡ Some m → P m
 some_of P o m h e = subst (λ (x : Option (List ℕ)). IfSome x P) e h
 
--- so for a window that keeps what it keeps
+-- the same for a whole window, whose kept votes stay
 pub above_sent : (game : ℕ) (above below : List Passed) (early : List (List ℕ)) (ask : Option (List ℕ)) (to : Receivers) (m : List ℕ)
     → IsWindow game above below early ask
     → IsWindow game (above ++ Sent to m ∷ []) below early ask
@@ -106,7 +106,7 @@ below_came game above below early ask m w = record {
   ask = w.ask;
 }
 
--- by what the calls ensure: one is handed to the link, one comes from it, one is handed to the window, one is given by it
+-- from what the calls ensure: a message is handed to the link, comes from it, is handed to the window, is given by it
 pub hands : {game : ℕ} {above below new : List Passed} {votes : List (List ℕ)} {asked : Option (List ℕ)} {m : List ℕ} (to : Receivers)
     → new ≡ below ++ Sent to m ∷ [] → IsHanded game above to m
     → IsWindow game above below votes asked
@@ -145,7 +145,7 @@ gives {game} {above} {new} {below} {votes} {asked} {m} e b w =
     subst (λ (l : List Passed). IsWindow game l below votes asked) (sym e)
     (above_came game above below votes asked m b w)
 
--- what is kept changes
+-- the kept votes or the kept ask change
 pub with_asked : {game : ℕ} {above below : List Passed} {votes : List (List ℕ)} {asked new : Option (List ℕ)} {m : List ℕ}
     → (new ≡ asked) ⊎ ((new ≡ Some m) × IsAsk game m) → IsWindow game above below votes asked → IsWindow game above below votes new
 with_asked {game} (inl e) k = grind arith
@@ -159,7 +159,7 @@ pub with_votes : {game : ℕ} {above below : List Passed} {votes new : List (Lis
     → AreOf new votes → IsWindow game above below votes asked → IsWindow game above below new asked
 with_votes e k = record { faithful = k.faithful; kept = λ m h. k.kept m (e m h); ask = k.ask }
 
--- read through a value that is open
+-- claims carried over to an equal window
 pub handed_in : {w v : Windowed} {m : List ℕ} (to : Receivers) → v ≡ w → IsHanded w.game w.above to m → IsHanded v.game v.above to m
 handed_in {w} {v} {m} to e h = subst (λ (x : Windowed). IsHanded x.game x.above to m) (sym e) h
 
@@ -179,7 +179,7 @@ pub same_asked : {game : ℕ} {above below : List Passed} {votes : List (List �
     → new ≡ asked → IsWindow game above below votes asked → IsWindow game above below votes new
 same_asked {game} {above} {below} {votes} {asked} e k = subst (λ (o : Option (List ℕ)). IsWindow game above below votes o) (sym e) k
 
--- what the link gives
+-- the link gives something
 pub takes : {game : ℕ} {above below new : List Passed} {votes : List (List ℕ)} {asked : Option (List ℕ)}
     → (taken : Taken) (buffer : List ℕ) → IsTaken taken buffer below new
     → IsWindow game above below votes asked
@@ -189,7 +189,7 @@ takes Taken.Nothing buffer h w = stays_below h w
 takes Taken.Lost buffer h w = stays_below h w
 takes Taken.Unopened buffer h w = stays_below h w
 
--- what is read was taken
+-- whatever is read was taken
 pub is_taken : (game : ℕ) (arrival : Arrival) (buffer : List ℕ) (before after : List Passed) → IsRead game arrival buffer before after
     → IsTaken (taken_of arrival) buffer before after
 is_taken game arrival buffer before after h = grind arith
@@ -201,7 +201,7 @@ taken_brought game below new taken buffer h count e = grind (arith, has_last)
 pub kept_handed : (game : ℕ) {above now : List Passed} (to : Receivers) {m : List ℕ} → now ≡ above → Has above (Sent to m) → IsHanded game now to m
 kept_handed game {above} {now} to {m} e h = inl (subst (λ (l : List Passed). Has l (Sent to m)) (sym e) h)
 
--- what the link gave is noted: what is kept back besides was brought
+-- the window notes what the link gave: any newly kept vote was brought
 pub hears : {game : ℕ} {above below new : List Passed} {votes kept : List (List ℕ)} {asked : Option (List ℕ)} (taken : Taken) (buffer : List ℕ)
     → IsTaken taken buffer below new
     → ((m : List ℕ) → Has kept m → Has votes m ⊎ ((taken ≡ Taken.Datagram 48) × (take 48 buffer ≡ m)))
@@ -216,7 +216,7 @@ hears {game} {above} {below} {new} {votes} {kept} {asked} taken buffer t v w =
           (λ d. subst (λ (l : List ℕ). IsBrought game new l) d.1 (taken_brought game below new taken buffer t 48 d.0).1) (v m h);
     }
 
--- what comes behind
+-- how a list grows
 pub grown_none : {X : Type 0} {old new : List X} → new ≡ old → IsGrown old new
 grown_none {X} {old} e = record { more = []; is = e ∙ sym (append-nil old) }
 
@@ -242,20 +242,20 @@ has_behind (y ∷ front) log x h = inr (has_behind front log x h)
 since_before : {X : Type 0} {old mid new : List X} {x : X} → IsGrown old mid → HasSince mid new x → HasSince old new x
 since_before {X} {old} {mid} {new} {x} g h = grind (arith, append_assoc, has_behind)
 
--- what is sent through a value that is open
+-- growth carried over to an equal window
 pub grown_in : {w v : Windowed} {new : List Passed} → v ≡ w → IsGrown v.below new → IsGrown w.below new
 grown_in {w} {v} {new} e g = subst (λ (x : Windowed). IsGrown x.below new) e g
 
--- a window that stays is the same
+-- a window in which nothing changed is equal to itself before
 pub same_window : (w v : Windowed) → IsStill w v → v.below ≡ w.below → v ≡ w
 same_window w v s b = λ i. record { game = s.0.0 i; above = s.0.1 i; below = b i; kept = s.1 i; readings = s.2 i; quiet_since = s.3 i }
 
--- an ask was said, and more was asked for
+-- an ask was sent, and more asks after it
 pub asked_more : (now : ℕ) (w a v : Windowed) → IsQuietOrAsks now w a → v.quiet_since ≡ a.quiet_since → IsGrown a.below v.below
     → (v.quiet_since ≡ w.quiet_since) ⊎ ((v.quiet_since ≡ now) × HasAsked w v)
 asked_more now w a v h s g = grind (arith, common_steps, since_more, since_now)
 
--- a window at a time, once it has asked for what is due, and then with what its link brings
+-- a window at a time, after it has sent the asks that are due, and after its link has brought something
 module _ (taken : Taken) (buffer : List ℕ) (now : ℕ) (w d v : Windowed) (read : d.readings ≡ w.readings ++ now ∷ []) where
   pub until_news : (d.game ≡ w.game) → (d.kept ≡ w.kept) → (d.quiet_since ≡ w.quiet_since) ⊎ ((d.quiet_since ≡ now) × HasAsked w d)
       → IsGrown d.below v.below → IsGrown d.readings v.readings

@@ -5,20 +5,20 @@ use Rattle.wire.specs.Layout.{written}
 use Rattle.wire.specs.Reading.{Reads}
 use Rattle.links.specs.declared.link.{Arrival.Arrival, Receivers.Receivers, Taken.Taken}
 
--- a datagram that was handed to the link for these, or that it gave
+-- a datagram that the link was handed for these receivers, or that it gave
 pub data Passed : Type 0 where
   Sent : Receivers → List ℕ → Passed
   Came : List ℕ → Passed
 
--- these datagrams were handed to the link for these
+-- the link was handed these datagrams for these receivers
 abbrev pub sent_to : Receivers → List (List ℕ) → List Passed
 sent_to to out = map (Sent to) out
 
--- these messages of a match were handed to the link for these
+-- the link was handed these messages of a match for these receivers
 abbrev pub sends : Receivers → ℕ → List Message → List Passed
 sends to game out = sent_to to (map (written game) out)
 
--- what was taken: the front of the buffer as a datagram of at most so many bytes, nothing, one that was lost, or one that
+-- what was taken: a datagram of at most this many bytes at the front of the buffer, nothing, a lost datagram, or one that
 -- doesn't open
 abbrev pub IsTakenUpTo : ℕ → Taken → List ℕ → List Passed → List Passed → Type 0
 IsTakenUpTo most (Taken.Datagram count) buffer before after =
@@ -30,14 +30,14 @@ IsTakenUpTo most Taken.Unopened buffer before after = after ≡ before
 abbrev pub IsTaken : Taken → List ℕ → List Passed → List Passed → Type 0
 IsTaken = IsTakenUpTo 64
 
--- what was taken, however it is read
+-- what was taken, without its reading
 abbrev pub taken_of : Arrival → Taken
 taken_of (Arrival.Datagram count read) = Taken.Datagram count
 taken_of Arrival.Nothing = Taken.Nothing
 taken_of Arrival.Lost = Taken.Lost
 taken_of Arrival.Unopened = Taken.Unopened
 
--- what was taken, and a datagram is read in the match of this number
+-- what was taken, with a datagram's reading in the match of this number
 abbrev pub IsRead : ℕ → Arrival → List ℕ → List Passed → List Passed → Type 0
 IsRead game (Arrival.Datagram count read) buffer before after =
     IsTaken (Taken.Datagram count) buffer before after × Reads game (take count buffer) read

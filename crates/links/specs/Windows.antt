@@ -1,5 +1,5 @@
--- What a window gives and hands down: what its link gave and what it was handed, and asks that it makes up; and when it
--- hands an ask of its station's down.
+-- What a window gives and hands down: what its link gave and what it was handed, and asks that it makes up; and when it hands
+-- down an ask of its station.
 use Rattle.std.specs.Prelude.{◌≡◌, ◌⊎◌, ◌≤◌, ◌<◌, ◌+◌, ℕ, Bool, true, false, List, [], ◌∷◌, ◌++◌, length, take, Option, IfSome}
 use Rattle.std.specs.Option.{ForSome}
 use Rattle.agree_core.specs.declared.messages.{Ask.Ask, Asker.Asker, DeskId.DeskId, Message.Message, Vote.Vote}
@@ -11,31 +11,31 @@ use Rattle.links.specs.Passed.{Passed, Sent, Came}
 use Rattle.links.specs.declared.link.{Receivers.Receivers, Taken.Taken}
 use Rattle.links.specs.declared.link.Receivers.TheVariants.{ToAll}
 
--- it is in the list
+-- the list contains x
 abbrev pub Has : {X : Type 0} → List X → X → Type 0
 Has [] x = ⊥
 Has (y ∷ ys) x = (y ≡ x) ⊎ Has ys x
 
--- the new list is the old one and what came behind it
+-- the new list extends the old one
 pub record IsGrown {X : Type 0} (old new : List X) : Type 0 where
   pub more : List X
   pub is : new ≡ old ++ more
 
--- it is in the new list behind the old one
+-- the new list extends the old one, and what was added contains x
 pub record HasSince {X : Type 0} (old new : List X) (x : X) : Type 0 where
   pub more : List X
   pub is : new ≡ old ++ more
   pub has : Has more x
 
--- there are more of these than there were
+-- the new list is longer
 abbrev pub HasMore : {X : Type 0} → List X → List X → Type 0
 HasMore old new = length old < length new
 
--- each of these is one of those
+-- each item of xs is in ys
 abbrev pub AreOf : {X : Type 0} → List X → List X → Type 0
 AreOf xs ys = (x : _) → Has xs x → Has ys x
 
--- each of these is one of those, or this one
+-- each item of xs is in ys, or is y
 abbrev pub AreOfOr : {X : Type 0} → X → List X → List X → Type 0
 AreOfOr y xs ys = (x : _) → Has xs x → Has ys x ⊎ (y ≡ x)
 
@@ -47,23 +47,22 @@ IsAsk game m = (q : Ask) × (m ≡ written game (Message.Ask q))
 abbrev pub IsVote : ℕ → List ℕ → Type 0
 IsVote game m = (v : Vote) × Says game m (Message.Vote v)
 
--- what was handed to the window for these, or is an ask
+-- the window was handed the message for these receivers, or the message is an ask
 abbrev pub IsHanded : ℕ → List Passed → Receivers → List ℕ → Type 0
 IsHanded game above to m = Has above (Sent to m) ⊎ IsAsk game m
 
--- what the link brought, or an ask
+-- the link brought the message, or the message is an ask
 abbrev pub IsBrought : ℕ → List Passed → List ℕ → Type 0
 IsBrought game below m = Has below (Came m) ⊎ IsAsk game m
 
--- of a match, what passed at a window and at the link below it: each message that the window gave the link had given, and
--- each that the link was handed for all, or for one, the window had been handed so, but for asks
+-- in a match, the link below gave each message that the window gave, and the window was handed each message that the link was
+-- handed, for all or for one, asks aside
 pub record IsFaithful (game : ℕ) (above below : List Passed) : Type 0 where
   pub given : (m : List ℕ) → Has above (Came m) → IsBrought game below m
   pub handed : (to : Receivers) (m : List ℕ) → Has below (Sent to m) → IsHanded game above to m
 
--- a window: the number of its match, what passed at it, and what passed at the link below it; the votes that it keeps
--- back; what its clock showed; and since when it is quiet: when its station's ask was said to all last, or a vote came that
--- was lacking
+-- a window: the number of its match; what passed at it and at the link below it; the votes that it keeps; its clock's
+-- readings; and since when it is quiet: when its station's ask was last sent to all, or a missing vote came
 pub record Windowed : Type 0 where
   pub game : ℕ
   pub above : List Passed
@@ -72,7 +71,7 @@ pub record Windowed : Type 0 where
   pub readings : List ℕ
   pub quiet_since : ℕ
 
--- the window hands its link this message, for these, and nothing else
+-- the window hands its link this message for these receivers, and nothing else
 abbrev pub HandsDown : Receivers → List ℕ → Windowed → Windowed → Type 0
 HandsDown to m w v = v.below ≡ w.below ++ Sent to m ∷ []
 
@@ -82,13 +81,13 @@ hears Asker.A DeskId.A = false
 hears Asker.B DeskId.B = false
 hears asker desk = true
 
--- among these messages of a match is a vote of this desk for this position
+-- these messages of a match contain a vote of this desk for this position
 abbrev pub HasVote : ℕ → List (List ℕ) → DeskId → Position → Type 0
 HasVote game messages desk at =
     (m : List ℕ) × Has messages m
     × ((v : Vote) × Says game m (Message.Vote v) × (v.desk ≡ desk) × (position_of v ≡ at))
 
--- among them are the votes that answer an ask: for its position, of each desk that its asker hears
+-- the messages contain the answers to an ask: the votes for its position, of each desk that its asker hears
 abbrev pub HasAnswers : ℕ → List (List ℕ) → Ask → Type 0
 HasAnswers game messages q =
     (desk : DeskId) → hears q.from desk ≡ true → HasVote game messages desk (is_at (Message.Ask q))
@@ -97,14 +96,14 @@ HasAnswers game messages q =
 abbrev pub IsQuietAt : ℕ → Windowed → Type 0
 IsQuietAt now w = w.quiet_since + LONGEST_ASK_PAUSE ≤ now
 
--- a window is as quiet as it was, or hands an ask of the match down to all now
+-- a window stays quiet, or hands an ask of the match down to all now
 abbrev pub IsQuietOrAsks : ℕ → Windowed → Windowed → Type 0
 IsQuietOrAsks now w v =
     (v.quiet_since ≡ w.quiet_since)
     ⊎ ((v.quiet_since ≡ now) × ((m : List ℕ) × IsAsk w.game m × HandsDown ToAll m w v))
 
--- A window is handed a message, and reads its clock once. An ask of its match it hands down to all at once where it has
--- been quiet for a quarter of a second, unless it keeps the votes that answer it.
+-- A window that is handed a message reads its clock once. It hands an ask of its match down to all at once if it has been
+-- quiet for a quarter of a second, unless it keeps the votes that answer the ask.
 pub record AsksInTime (m : List ℕ) (w v : Windowed) : Type 0 where
   pub now : ℕ
   pub read : v.readings ≡ w.readings ++ now ∷ []
@@ -112,44 +111,44 @@ pub record AsksInTime (m : List ℕ) (w v : Windowed) : Type 0 where
       → HandsDown ToAll m w v ⊎ HasAnswers w.game v.kept q
   pub quiet : IsQuietOrAsks now w v
 
--- what is taken is a vote of this match
+-- a vote of this match was taken
 abbrev pub GivesVote : ℕ → Taken → List ℕ → Type 0
 GivesVote game taken buffer = (taken ≡ Taken.Datagram 48) × IsVote game (take 48 buffer)
 
--- where a datagram is taken, and the message is known that it says in this match, it says that one
+-- if a datagram was taken, and its message in this match is known, the datagram says that message
 abbrev pub IsSaid : ℕ → Taken → Option Message → List ℕ → Type 0
 IsSaid game taken said buffer =
     (count : ℕ) → taken ≡ Taken.Datagram count → ForSome said (Says game (take count buffer))
 
--- in a call a window gave a vote of the match, or keeps more votes back
+-- in a call the window gave a vote of the match, or came to keep more votes
 abbrev pub BringsVote : Taken → List ℕ → Windowed → Windowed → Type 0
 BringsVote taken buffer w v = GivesVote w.game taken buffer ⊎ HasMore w.kept v.kept
 
--- in a call a window handed an ask of the match down to all
+-- in a call the window handed an ask of the match down to all
 abbrev pub HasAsked : Windowed → Windowed → Type 0
 HasAsked w v = (m : List ℕ) × IsAsk w.game m × HasSince w.below v.below (Sent ToAll m)
 
--- what ends a window's quiet in a call: it handed an ask of the match down to all, or such a vote came
+-- what ends a window's quiet in a call: it handed an ask of the match down to all, or a missing vote came
 abbrev pub BringsNews : Taken → List ℕ → Windowed → Windowed → Type 0
 BringsNews taken buffer w v = HasAsked w v ⊎ BringsVote taken buffer w v
 
--- a window is as quiet as it was, but in a call in which something new came, when its clock showed this
+-- a window stays quiet, or is quiet since a clock reading of this call, which brought news
 abbrev pub IsQuietUntilNews : Taken → List ℕ → Windowed → Windowed → Type 0
 IsQuietUntilNews taken buffer w v =
     (v.quiet_since ≡ w.quiet_since)
     ⊎ (HasSince w.readings v.readings v.quiet_since × BringsNews taken buffer w v)
 
--- the match and what passed at the window stay
+-- the match and what passed at the window stay unchanged
 abbrev pub IsKept : Windowed → Windowed → Type 0
 IsKept w v = (v.game ≡ w.game) × (v.above ≡ w.above)
 
--- all stays but what passed at the link
+-- nothing changes but what passed at the link
 abbrev pub IsStill : Windowed → Windowed → Type 0
 IsStill w v =
     IsKept w v × (v.kept ≡ w.kept) × (v.readings ≡ w.readings) × (v.quiet_since ≡ w.quiet_since)
 
--- a faithful window: of a match, what passed at it and at the link below it, the votes that it keeps back and the ask that
--- it says again
+-- a faithful window: its match, what passed at it and at the link below it, the votes that it keeps and the ask that it sends
+-- again
 pub record IsWindow
     (game : ℕ) (above below : List Passed) (votes : List (List ℕ)) (asked : Option (List ℕ)) : Type 0 where
   pub faithful : IsFaithful game above below

@@ -1,34 +1,34 @@
-//! What a scorer is told of lines that the desk isn't given.
+//! What a scorer is told about lines that aren't passed to the desk.
 
 use arrayvec::{ArrayString, ArrayVec};
 
-/// A line that is held, as it was typed.
+/// A held line, as it was typed.
 pub type HeldLine = ArrayString<128>;
 
-/// Lines that are held, the oldest first: 24 at most.
+/// The held lines, oldest first: at most 24.
 pub type HeldLines = ArrayVec<HeldLine, 24>;
 
-/// What a scorer is told of lines that the desk isn't given yet, or never will be.
+/// What a scorer is told about lines that aren't passed to the desk yet, or never will be.
 #[derive(Drop)]
 pub enum Aside {
-    /// One is held, for this place where all before it are agreed.
+    /// The line is held for this place, until all before it are agreed.
     Held(u32, HeldLine),
-    /// These are held, from this place on.
+    /// These lines are held, from this place on.
     Holds(u32, HeldLines),
-    /// The newest was held for this place, and is taken back.
+    /// The newest held line, for this place, is taken back.
     TakenBack(u32, HeldLine),
-    /// The desk was given one that was held, at this place, and cast no vote for it. Those behind it are dropped.
+    /// The desk was given a held line at this place and cast no vote for it. The lines held after it are dropped.
     NotTaken(u32, HeldLine, HeldLines),
-    /// These are dropped.
+    /// These held lines are dropped.
     Dropped(HeldLines),
-    /// One isn't held: as many are as may be.
+    /// The line isn't held: as many lines as possible are held already.
     Full(HeldLine),
-    /// One isn't held: it is no text.
+    /// The line isn't held: it isn't text.
     NoText,
-    /// `undo` isn't given on: it may be meant for one that was held, was given on a moment ago, and is agreed at this place.
+    /// `undo` isn't passed on: it may be meant for a held line that was just passed on and is now agreed at this place.
     WasHeld(u32, HeldLine),
-    /// The same of one that wasn't taken at this place.
+    /// `undo` isn't passed on: it may be meant for a held line that the desk didn't take at this place.
     Untaken(u32, HeldLine),
-    /// The line of this place is cast: it can't be taken back, nor written again.
+    /// The line of this place is cast: it can't be taken back or rewritten.
     IsCast(u32),
 }

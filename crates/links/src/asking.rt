@@ -1,4 +1,4 @@
-//! When a station's ask is said, and said again.
+//! When a station's ask is sent, and sent again.
 
 ghost use Rattle.std.specs.Prelude.{◌≡◌, ◌≤◌, ◌+◌, ◌⊎◌, IsSome, None, Some, true};
 ghost use Rattle.links.specs.declared.times.TheConstants.{LONGEST_ASK_PAUSE};
@@ -8,13 +8,13 @@ use agree_core::{DeskId, Position};
 use std::mem;
 use wire::MessageBytes;
 
-/// How often an ask is said again, beside what the station itself says.
+/// How many times an ask is sent again at most, apart from the station's own repeats.
 const MOST_TRIES: u32 = 8;
 
-/// How often a pause is doubled at most.
+/// How many times a pause is doubled at most.
 const MOST_DOUBLED: u32 = 3;
 
-/// From how many milliseconds on a round trip is long.
+/// The shortest round trip that counts as long, in milliseconds.
 const LONG_TRIP: u64 = 8;
 
 /// A station's last ask, and how long a round trip takes.
@@ -22,26 +22,26 @@ const LONG_TRIP: u64 = 8;
 pub struct Asking {
     at: Position,
     bytes: Option<MessageBytes>,
-    /// When it was said first.
+    /// When the ask was first sent.
     first: u64,
-    /// When an ask was said last, or a vote came that was lacking.
+    /// When an ask was last sent, or a missing vote came.
     last: u64,
     tries: u32,
-    /// Whether it wasn't said yet.
+    /// Whether the ask wasn't sent yet.
     is_held: bool,
-    /// Whether no earlier ask brings its answer.
+    /// Whether no earlier ask can bring its answer.
     is_first: bool,
-    /// Whether no vote of its position came yet.
+    /// Whether the ask was sent, and no vote for its position has come since.
     is_open: bool,
-    /// Whether the desks' votes of its position came.
+    /// Whether each desk's vote for its position came.
     has_a: bool,
     has_b: bool,
-    /// How long a round trip took, if one was seen: the shortest lately.
+    /// The round-trip time in milliseconds, if any was measured: the shortest lately.
     trip: Option<u64>,
 }
 
 impl Asking {
-    /// Nothing was asked yet.
+    /// Returns the state before the first ask.
     pub fn new() -> Asking
         ensures bytes { result.bytes ≡ None }
         ensures last { result.last ≡ 0 }
@@ -61,12 +61,13 @@ impl Asking {
         }
     }
 
-    /// Whether a round trip is long.
+    /// Whether a round trip takes long.
     pub fn has_long_trip(&self) -> bool {
         self.trip.is_some_and(|trip| trip >= LONG_TRIP)
     }
 
-    /// How long an answer is waited for: a round trip and a half, and twice as long after each try that brought nothing.
+    /// Returns how many milliseconds to wait for an answer: one and a half round trips, doubled after each try that brought
+    /// nothing.
     pub fn pause(&self) -> u64
         ensures { result ≤ LONGEST_ASK_PAUSE }
     {
@@ -78,7 +79,7 @@ impl Asking {
         LONGEST_ASK_PAUSE.min(first.saturating_mul(1 << tries))
     }
 
-    /// A vote that was lacking came: more may come.
+    /// Notes that a missing vote came: more may follow.
     pub fn follow(&mut self, now: u64)
         ensures bytes { self.new.bytes ≡ self.old.bytes }
         ensures last { self.new.last ≡ now }
@@ -87,11 +88,11 @@ impl Asking {
         self.tries = 0;
     }
 
-    /// Notes an ask of the station's, and answers whether it is said: not while the answer to the same may be on its way,
-    /// or that to an earlier one, which stands for it, where it isn't the first.
+    /// Notes an ask of the station, and returns whether to send it: not while its answer may be on its way, or, unless it is
+    /// the first, the answer to an earlier ask that stands for it.
     pub fn ask(&mut self, at: Position, bytes: &MessageBytes, is_first: bool, now: u64) -> bool
         ensures asked { (self.new.bytes ≡ self.old.bytes) ⊎ (self.new.bytes ≡ Some bytes.now) }
-        // it is said where for a quarter of a second no ask was said, and no vote came that was lacking
+        // it is sent if for a quarter of a second no ask was sent and no missing vote came
         ensures said { self.old.last + LONGEST_ASK_PAUSE ≤ now → result ≡ true }
         ensures last { (self.new.last ≡ self.old.last) ⊎ ((self.new.last ≡ now) × (result ≡ true)) }
     {
@@ -112,7 +113,7 @@ impl Asking {
         is_due
     }
 
-    /// The ask is said.
+    /// Notes that the ask is sent now.
     fn say(&mut self, now: u64)
         ensures bytes { self.new.bytes ≡ self.old.bytes }
         ensures last { self.new.last ≡ now }
@@ -125,8 +126,8 @@ impl Asking {
         self.last = now;
     }
 
-    /// Whether the ask for this position may be said without the station's doing: it wasn't said yet, or later votes are here,
-    /// so that votes were lost.
+    /// Whether the ask for this position may be sent without the station: it wasn't sent yet, or later votes are here, so that
+    /// votes were lost, and tries are left.
     pub fn may_say_again(&self, at: Position, has_later: bool) -> bool {
         let is_due = if has_later {
             self.tries < MOST_TRIES
@@ -136,14 +137,14 @@ impl Asking {
         at == self.at && is_due
     }
 
-    /// How long it is until then: nothing that was lacking came for so long.
+    /// Returns how many milliseconds are left of the pause since an ask was last sent or a missing vote came.
     pub fn left(&self, now: u64) -> u64
         ensures { self.now.last + LONGEST_ASK_PAUSE ≤ now → result ≡ 0 }
     {
         self.last.saturating_add(self.pause()).saturating_sub(now)
     }
 
-    /// The ask, to be said for all that it stands for.
+    /// Returns the ask, to be sent now for everything that it stands for.
     pub fn say_again(&mut self, now: u64) -> Option<MessageBytes>
         ensures stays { self.new.bytes ≡ self.old.bytes }
         ensures value { result ≡ self.new.bytes }
@@ -154,7 +155,7 @@ impl Asking {
         Some(bytes)
     }
 
-    /// The ask, to be said where its answer was lost.
+    /// Returns the ask, to be sent for a lost answer, and counts the try.
     pub fn try_again(&mut self) -> Option<MessageBytes>
         ensures stays { self.new.bytes ≡ self.old.bytes }
         ensures value { result ≡ self.new.bytes }
@@ -164,7 +165,7 @@ impl Asking {
         self.bytes
     }
 
-    /// Notes that this desk's vote of the position came, and answers whether it is the first of it.
+    /// Notes that this desk's vote for the position came, and returns whether it is the desk's first.
     fn is_news(&mut self, desk: DeskId) -> bool
         ensures bytes { self.new.bytes ≡ self.old.bytes }
         ensures last { self.new.last ≡ self.old.last }
@@ -175,7 +176,7 @@ impl Asking {
         }
     }
 
-    /// A vote of this desk for this position came: an answer, if it was asked for.
+    /// Notes a vote of this desk for this position. The first one after an ask measures the round trip.
     pub fn hear(&mut self, desk: DeskId, at: Position, now: u64)
         ensures bytes { self.new.bytes ≡ self.old.bytes }
         ensures last { (self.new.last ≡ self.old.last) ⊎ (self.new.last ≡ now) }
@@ -194,8 +195,8 @@ impl Asking {
         }
     }
 
-    /// How long a round trip takes, after an answer that took so long. Where it can be the answer to no earlier ask, a
-    /// shorter one counts at once, and a longer one by an eighth; else it counts by an eighth, if its ask was said once.
+    /// Returns the round-trip time after an answer that took this long. If no earlier ask can have brought the answer, a
+    /// shorter time counts at once and a longer one by an eighth; otherwise it counts by an eighth, if the ask was sent once.
     fn trip_after(&self, took: u64) -> u64 {
         match self.trip {
             None => took,

@@ -1,22 +1,22 @@
-//! How far a station that is behind asks, and how far each desk's votes came.
+//! How far a station that is behind has asked, and how far each desk's votes have come.
 
 ghost use Rattle.std.specs.Prelude.{◌≡◌, ◌≤◌, ◌<◌, ◌+◌, IfSome, nat_le, true};
 
 use agree_core::{Asker, DeskId, PLACES};
 
-/// How many places a block has. An ask for one of them stands for those behind it in its block.
+/// How many places a block has. An ask for one of them stands for those after it in its block.
 pub const BLOCK: u32 = 64;
 
-/// How many places ahead of the station's own votes are kept.
+/// How many places ahead of the station's position votes are kept.
 pub const PLACES_AHEAD: u32 = 2_048;
 
-/// How many places at most are asked for ahead of what came, so that no socket overflows.
+/// How many places to ask for at most ahead of what came, so that no socket overflows.
 const FEW_ASKED: u32 = 64;
 
-/// How many where a round trip is long: most of them are on their way.
+/// How many instead where a round trip takes long: most of their votes are on their way.
 const MANY_ASKED: u32 = 192;
 
-/// The first place behind the block of this place.
+/// Returns the first place after this place's block.
 pub fn end_of_block(place: u32) -> u32 {
     (place / BLOCK).saturating_add(1).saturating_mul(BLOCK)
 }
@@ -24,23 +24,23 @@ pub fn end_of_block(place: u32) -> u32 {
 /// What a station that is behind has asked for, and what of it came.
 #[derive(Clone, Copy)]
 pub struct CatchUp {
-    /// Where it began.
+    /// The place where it began.
     from: u32,
     /// The first place of the next block that isn't asked for.
     unasked: u32,
-    /// The first places behind each desk's votes that came of what was asked for.
+    /// The first place after each desk's votes that came of what was asked for.
     heard_a: u32,
     heard_b: u32,
-    /// When what was lost was asked for last.
+    /// When lost votes were last asked for.
     last: u64,
-    /// The first places that weren't asked for then, and the last two times before.
+    /// The value of `unasked` then, and at the two times before.
     unasked_then: u32,
     unasked_before: u32,
     unasked_first: u32,
 }
 
 impl CatchUp {
-    /// Nothing was asked yet.
+    /// Returns the state before the first ask.
     pub fn new() -> CatchUp {
         CatchUp {
             from: 0,
@@ -61,7 +61,7 @@ impl CatchUp {
         place >= self.unasked
     }
 
-    /// The station asks for this place.
+    /// Notes that the station asks for this place.
     pub fn ask(&mut self, place: u32) {
         if self.is_first(place) {
             self.from = place;
@@ -69,7 +69,7 @@ impl CatchUp {
         }
     }
 
-    /// A vote of this desk came for this place.
+    /// Notes that a vote of this desk came for this place.
     pub fn hear(&mut self, desk: DeskId, place: u32) {
         if self.is_first(place) {
             return;
@@ -81,7 +81,7 @@ impl CatchUp {
         }
     }
 
-    /// The first place behind all that came of the desks that this station hears.
+    /// Returns the first place after what came of every desk that this asker hears.
     fn heard_by(&self, from: Asker) -> u32 {
         match from {
             Asker::A => self.heard_b,
@@ -90,8 +90,8 @@ impl CatchUp {
         }
     }
 
-    /// The next block that a station at this place asks for, where it may: at first as many places as came, and then no more
-    /// than may be on their way.
+    /// Returns the next block that a station at this place asks for, if it may: at first as many places as came, and then no
+    /// more than may be on their way.
     pub fn next_block(&mut self, from: Asker, at: u32, is_long: bool) -> Option<u32>
         ensures next { IfSome result (λ place. place ≡ self.old.unasked) }
         ensures ahead { IfSome result (λ place. at < place) }
@@ -111,14 +111,14 @@ impl CatchUp {
         Some(place)
     }
 
-    /// How long it is until what was lost is asked for, with this pause.
+    /// Returns how many milliseconds are left until lost votes are asked for, with this pause.
     pub fn left(&self, pause: u64, now: u64) -> u64
         ensures { self.now.last + pause ≤ now → result ≡ 0 }
     {
         self.last.saturating_add(pause).saturating_sub(now)
     }
 
-    /// What was lost is asked for now.
+    /// Notes that lost votes are asked for now.
     pub fn ask_again(&mut self, now: u64) {
         self.last = now;
         self.unasked_first = self.unasked_before;
@@ -126,8 +126,8 @@ impl CatchUp {
         self.unasked_then = self.unasked;
     }
 
-    /// The first place whose vote of this desk may be on its way: those before it came, or were lost. A desk answers in order.
-    /// Where its answers are over, so is what was asked for two pauses ago.
+    /// Returns the first place whose vote of this desk may be on its way: earlier votes came or were lost, as a desk answers
+    /// in order. Once its answers are over, so is what was asked for two pauses ago.
     pub fn lost_until(&self, desk: DeskId, is_over: bool) -> u32
         ensures { is_over ≡ true → self.now.unasked_first ≤ result }
     {

@@ -2,13 +2,13 @@
 
 ghost use Rattle.std.specs.Prelude.{◌≡◌, ◌∷◌, ◌++◌, ℕ, List, []};
 
-/// Tells the time. Of it no more is known than what it showed: it may stand still, jump, or go back. A station whose clock
-/// is wrong says what it has to say too often, or too seldom.
+/// Tells the time. Nothing but its readings is known: it may stand still, jump or go back. A station whose clock is wrong
+/// sends too often or too seldom.
 pub trait Clock {
-    /// What it showed each time that it was read, the oldest first.
+    /// Its readings, oldest first.
     ghost readings: { Self → List ℕ };
 
-    /// Milliseconds since some moment.
+    /// Returns the milliseconds since some moment.
     fn millis(&mut self) -> u64
         ensures { readings self.new ≡ readings self.old ++ result ∷ [] };
 }

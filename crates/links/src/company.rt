@@ -1,4 +1,4 @@
-//! Places that a peer's ask stands for: those behind it in its block.
+//! The places that a peer's ask stands for: those after it in its block.
 
 use crate::catch_up::{BLOCK, end_of_block};
 use crate::times::{WINDOW_PAUSE, WINDOW_REFILL};
@@ -7,20 +7,20 @@ use agree_core::PLACES;
 /// How many blocks a book has.
 const BLOCKS: usize = (PLACES / BLOCK) as usize;
 
-/// How many peers are known apart.
+/// How many peers are told apart.
 const PEERS: usize = 8;
 
-/// How many windows a peer may have opened at once: enough for a whole book.
+/// How many windows a peer may open at once: enough for a whole book.
 const MOST_WINDOWS: u32 = 130;
 
-/// A peer's window: the next place that is asked for, and the first behind those that are.
+/// A peer's window: the next place to ask for, and the first place after the window.
 #[derive(Clone, Copy)]
 struct Order {
     next: u32,
     until: u32,
-    /// From when on each block may be asked for as one.
+    /// From when on each block may be asked for as a whole again.
     rests: [u64; BLOCKS],
-    /// How many more may be opened, and when the last was added.
+    /// How many more windows may be opened, and when the last was added.
     left: u32,
     refilled: u64,
 }
@@ -34,7 +34,7 @@ impl Order {
         refilled: 0,
     };
 
-    /// Adds the windows that may be opened by now.
+    /// Adds the windows that have become available by now.
     fn refill(&mut self, now: u64) {
         if self.left >= MOST_WINDOWS || now < self.refilled {
             self.refilled = now;
@@ -48,7 +48,8 @@ impl Order {
         }
     }
 
-    /// An ask for this place was answered: those behind it in its block are asked for too, unless the block was lately.
+    /// Opens a window once an ask for this place is answered: the places after it in its block are asked for too, unless the
+    /// block was lately or no window is left.
     fn open(&mut self, place: u32, now: u64) {
         self.refill(now);
         let block = (place / BLOCK) as usize;
@@ -69,21 +70,21 @@ pub struct Company {
 }
 
 impl Company {
-    /// None yet.
+    /// Returns the windows of all peers, none of them open.
     pub fn new() -> Company {
         Company {
             orders: [Order::NONE; PEERS],
         }
     }
 
-    /// A peer's ask for this place was answered: those behind it are asked for too, where they may be.
+    /// Notes that a peer's ask for this place was answered: the places after it are asked for too, if they may be.
     pub fn open(&mut self, peer: usize, place: u32, now: u64) {
         if peer < PEERS {
             self.orders[peer].open(place, now);
         }
     }
 
-    /// A peer's window ends here: there was no answer.
+    /// Ends a peer's window here: there was no answer.
     pub fn close(&mut self, peer: usize) {
         if peer < PEERS {
             let order = &mut self.orders[peer];
@@ -91,7 +92,7 @@ impl Company {
         }
     }
 
-    /// The next place of a window, and whose it is.
+    /// Returns the next place of an open window, and its peer.
     pub fn next(&mut self) -> Option<(usize, u32)> {
         for peer in 0..PEERS {
             let order = &mut self.orders[peer];

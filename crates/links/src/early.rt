@@ -1,4 +1,4 @@
-//! Votes that came before the station was there.
+//! Votes that came before the station reached their position.
 
 ghost use Rattle.std.specs.Prelude.{◌≡◌, ◌↔◌, [], IfNone, IfSome, IsTrue, true};
 ghost use Rattle.std.specs.BTreeMap.{values};
@@ -11,10 +11,10 @@ use std::alloc::Global;
 use std::collections::BTreeMap;
 use wire::{MessageBytes, message_of};
 
-/// How many votes are kept at most: both desks'.
+/// How many votes are kept at most, of both desks together.
 const MOST_KEPT: usize = 4_096;
 
-/// How many votes on end aren't lost one by one: what asked for them was lost, or they aren't cast.
+/// How many missing votes in a row weren't lost one by one: their ask was lost, or they aren't cast.
 const MANY_LOST: u32 = 16;
 
 /// Whether a station has to hear this desk's votes: they aren't its own.
@@ -24,14 +24,14 @@ pub fn hears(from: Asker, desk: DeskId) -> bool
     !matches!((from, desk), (Asker::A, DeskId::A) | (Asker::B, DeskId::B))
 }
 
-/// Whose vote, and for which position.
+/// A vote's position and desk.
 #[derive(Clone, Copy, PartialEq, Eq, PartialOrd, Ord)]
 struct VoteAt {
     at: Position,
     desk: u8,
 }
 
-/// The votes that came for positions ahead of the station's, as they came.
+/// The votes for positions ahead of the station's, in the bytes that came.
 #[derive(Drop)]
 pub struct EarlyVotes {
     at: Position,
@@ -39,7 +39,7 @@ pub struct EarlyVotes {
 }
 
 impl EarlyVotes {
-    /// None yet, at the first position.
+    /// Returns no votes, at the first position.
     pub fn new(alloc: Global) -> EarlyVotes
         ensures { values result.votes ≡ [] }
     {
@@ -49,19 +49,19 @@ impl EarlyVotes {
         }
     }
 
-    /// Whether there is none.
+    /// Whether no vote is kept.
     pub fn is_empty(&self) -> bool
         ensures { IsTrue result ↔ (values self.now.votes ≡ []) }
     {
         self.votes.is_empty()
     }
 
-    /// The station's position.
+    /// Returns the station's position.
     pub fn position(&self) -> Position {
         self.at
     }
 
-    /// Lets the first vote go, if it is for an earlier position, and answers whether it was.
+    /// Drops the first vote if it is for an earlier position, and returns whether it was.
     fn let_go(&mut self, at: Position) -> bool
         ensures { AreOf (values self.new.votes) (values self.old.votes) }
     {
@@ -74,7 +74,7 @@ impl EarlyVotes {
         false
     }
 
-    /// The station is at this position: what came for earlier ones isn't wanted any more.
+    /// Notes that the station is at this position, and drops the votes for earlier ones.
     pub fn reach(&mut self, at: Position)
         ensures { AreOf (values self.new.votes) (values self.old.votes) }
     {
@@ -89,13 +89,12 @@ impl EarlyVotes {
         }
     }
 
-    /// Whether a vote for this position came early, and not too early to be kept.
+    /// Whether a vote for this position is early, and not too early to be kept.
     pub fn is_early(&self, at: Position) -> bool {
         self.at.is_before(at) && at.place.saturating_sub(self.at.place) <= PLACES_AHEAD
     }
 
-    /// Keeps a vote that came early, unless it is here, and answers whether it is kept now and wasn't. Where there is no room
-    /// for it, it is lost.
+    /// Keeps an early vote unless it is kept already, and returns whether it is newly kept. Without room for it, it is lost.
     pub fn keep(&mut self, vote: &Vote, bytes: &MessageBytes) -> bool
         ensures kept { AreOfOr bytes.now (values self.new.votes) (values self.old.votes) }
         ensures more { result ≡ true → HasMore (values self.old.votes) (values self.new.votes) }
@@ -109,7 +108,7 @@ impl EarlyVotes {
         self.votes.insert(voted, *bytes).is_ok()
     }
 
-    /// Takes a vote that was kept for the station's position.
+    /// Takes a kept vote for the station's position, if there is one.
     pub fn take(&mut self) -> Option<MessageBytes>
         ensures given { IfSome result (Has (values self.old.votes)) }
         ensures kept { AreOf (values self.new.votes) (values self.old.votes) }
@@ -123,14 +122,14 @@ impl EarlyVotes {
         Some(bytes)
     }
 
-    /// Whether a vote of this desk is kept for a place in its first round.
+    /// Whether this desk's first-round vote at a place is kept.
     pub fn has_at(&self, desk: DeskId, place: u32) -> bool {
         let at = Position { place, round: 0 };
         let desk = desk.number();
         self.votes.contains_key(&VoteAt { at, desk })
     }
 
-    /// Whether none of this desk is kept for many places on end, from this one on to before the other.
+    /// Whether no first-round vote of this desk is kept at many places in a row, from `from` on and before `end`.
     pub fn lacks_many(&self, desk: DeskId, from: u32, end: u32) -> bool {
         if end.saturating_sub(from) < MANY_LOST {
             return false;
@@ -149,7 +148,7 @@ impl EarlyVotes {
         self.votes.contains_key(&VoteAt { at, desk })
     }
 
-    /// Whether a station that has heard nothing of its position yet lacks this desk's vote.
+    /// Whether a station that has received nothing for its position yet lacks this desk's vote.
     pub fn lacks(&self, from: Asker, desk: DeskId) -> bool {
         hears(from, desk) && !self.has(desk)
     }
@@ -168,14 +167,14 @@ impl EarlyVotes {
         }
     }
 
-    /// Whether an ask for this position lacks nothing of this desk.
+    /// Whether an ask for this position needs nothing more of this desk: its vote is kept, or the asker doesn't hear it.
     fn lacks_none(&self, game: u64, from: Asker, desk: DeskId, at: Position) -> bool
         ensures { result ≡ true → is_heard from desk ≡ true → HasVote game (values self.now.votes) desk at }
     {
         !hears(from, desk) || self.has_vote(game, desk, at)
     }
 
-    /// Whether all is kept that answers an ask for this position, in the match of this number.
+    /// Whether all votes that answer an ask for this position are kept, in the match of this number.
     pub fn answers(&self, game: u64, from: Asker, at: Position) -> bool
         ensures { result ≡ true → (d : ADesk) → is_heard from d ≡ true
             → HasVote game (values self.now.votes) d at }

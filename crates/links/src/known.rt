@@ -1,4 +1,4 @@
-//! What a window knows by what it heard and what its station said.
+//! What a window knows from what it received and what its station sent.
 
 ghost use Rattle.std.specs.Prelude.{◌≡◌, ◌⊎◌, ◌≤◌, ◌+◌, IsSome, None, Some, [], true};
 ghost use Rattle.std.specs.BTreeMap.{values};
@@ -12,7 +12,7 @@ use agree_core::{Ask, Asker, DeskId, Position};
 use std::alloc::Global;
 use wire::MessageBytes;
 
-/// Which peers sent votes of the desks last.
+/// The peers that last sent a vote of each desk.
 #[derive(Clone, Copy)]
 pub struct Voters {
     a: Option<usize>,
@@ -27,7 +27,7 @@ impl Voters {
         }
     }
 
-    /// This one sent a vote of the desk.
+    /// Notes that this peer sent a vote of the desk.
     pub fn note(&mut self, desk: DeskId, peer: usize) {
         match desk {
             DeskId::A => self.a = Some(peer),
@@ -36,33 +36,33 @@ impl Voters {
     }
 }
 
-/// What was given to the station last, by which its reply is handed down.
+/// What was given to the station last, which decides where its reply goes.
 #[derive(Clone, Copy)]
 pub enum Given {
-    /// Nothing that it replies to.
+    /// Nothing that the station replies to.
     Other,
-    /// An ask that came.
+    /// An ask that a peer sent.
     Ask,
     /// An ask that was made up for this peer.
     MadeUp(usize),
-    /// The same, and there was a reply.
+    /// An ask that was made up for this peer, and has been answered.
     Answered(usize),
 }
 
-/// What a window knows: what came early, what its station asked, who sends which desk's votes, and what was given last.
+/// What a window knows: early votes, its station's asks, who sends which desk's votes, and what was given last.
 #[derive(Drop)]
 pub struct Known {
     pub early: EarlyVotes,
     pub asking: Asking,
     pub catch_up: CatchUp,
     pub given: Given,
-    /// As whom the station asks.
+    /// The asker as which the station asks.
     pub from: Asker,
     pub voters: Voters,
 }
 
 impl Known {
-    /// Nothing yet.
+    /// Returns the knowledge of a new window: none.
     pub fn new(alloc: Global) -> Known
         ensures votes { values result.early.votes ≡ [] }
         ensures asked { result.asking.bytes ≡ None }
@@ -78,18 +78,18 @@ impl Known {
         }
     }
 
-    /// Which peer sent this desk's votes last.
+    /// Returns the peer that last sent a vote of this desk.
     pub fn voter(&self, desk: DeskId) -> Option<usize> {
         self.voters.of(desk)
     }
 
-    /// Whether the station's ask may be said without its doing: it was held, or later votes are here.
+    /// Whether the station's ask may be sent without the station: it was held, or later votes are here.
     pub fn may_ask_again(&self) -> bool {
         let has_later = !self.early.is_empty();
         self.asking.may_say_again(self.early.position(), has_later)
     }
 
-    /// How long it is until it is said.
+    /// Returns how many milliseconds are left until that ask is sent.
     pub fn left(&self, now: u64) -> u64 {
         if self.early.is_empty() {
             return self.asking.left(now);
@@ -97,7 +97,7 @@ impl Known {
         self.catch_up.left(self.asking.pause(), now)
     }
 
-    /// The station's ask, to be said now, or, where later votes are here, to be said for what was lost.
+    /// Returns the station's ask, to be sent to all now, or, if later votes are here, to be sent for the lost votes.
     pub fn say_again(&mut self, now: u64) -> Option<MessageBytes>
         ensures votes { self.new.early ≡ self.old.early }
         ensures stays { self.new.asking.bytes ≡ self.old.asking.bytes }
@@ -112,7 +112,7 @@ impl Known {
         self.asking.try_again()
     }
 
-    /// The first place of the next block that is asked for ahead, where one is.
+    /// Returns the first place of the next block to ask for ahead, if any.
     pub fn next_block(&mut self) -> Option<u32>
         ensures votes { self.new.early ≡ self.old.early }
         ensures stays { self.new.asking ≡ self.old.asking }
@@ -122,20 +122,20 @@ impl Known {
         self.catch_up.next_block(self.from, at, is_long)
     }
 
-    /// Whether nothing that was lacking came for a pause.
+    /// Whether a whole pause has passed since an ask was last sent or a missing vote came.
     pub fn is_silent(&self, now: u64) -> bool {
         self.asking.left(now) == 0
     }
 
-    /// The first place whose vote of this desk may be on its way. Where a round trip is long, answers are over after a pause
-    /// even if others still come.
+    /// Returns the first place whose vote of this desk may still be on its way. Where a round trip takes long, answers count
+    /// as over after a pause even if others still come.
     pub fn lost_until(&self, desk: DeskId, is_silent: bool) -> u32 {
         let end = self.early.position().place.saturating_add(PLACES_AHEAD);
         let is_over = is_silent || self.asking.has_long_trip();
         self.catch_up.lost_until(desk, is_over).min(end)
     }
 
-    /// Notes an ask of the station's, and answers whether it is handed down.
+    /// Notes an ask of the station, and returns whether to hand it down.
     pub fn note_ask(&mut self, game: u64, ask: &Ask, bytes: &MessageBytes, now: u64) -> bool
         ensures votes { AreOf (values self.new.early.votes) (values self.old.early.votes) }
         ensures asked { (self.new.asking.bytes ≡ self.old.asking.bytes) ⊎ (self.new.asking.bytes ≡ Some bytes.now) }

@@ -1,5 +1,5 @@
-//! What carries datagrams between stations, and what tells them the time and what was typed: the seams to the machine. With
-//! them a link that stands over others: a window for stations that are behind.
+//! The seams to the machine: links that carry datagrams between stations, the clock, and what scorers type. With them, a link
+//! over another one: a window for stations that are behind.
 #![tactic(auto)]
 
 mod aside;

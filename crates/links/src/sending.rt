@@ -1,4 +1,4 @@
-//! Handing datagrams to a link.
+//! Sending datagrams over a link.
 
 ghost use Rattle.std.specs.Prelude.{◌≡◌, ◌++◌, map};
 ghost use Rattle.links.specs.Passed.{sent_to};
@@ -7,7 +7,7 @@ ghost use Rattle.links.specs.declared.link.Receivers.TheVariants.{ToAll};
 use crate::link::Link;
 use wire::Datagram;
 
-/// Hands datagrams to the link for all.
+/// Sends datagrams to every peer, in order.
 pub fn send_each<L: Link>(link: &mut L, datagrams: &[Datagram])
     ensures { L.log link.new ≡ L.log link.old ++ sent_to ToAll (map (λ d. d.bytes) datagrams.now) }
 {

@@ -1,25 +1,25 @@
 //! How long asks and windows wait.
 
-/// How many milliseconds an ask's answer is waited for at least, before the ask is said again.
-/// On one machine an answer takes about one, so none that is on its way is asked for twice.
+/// How many milliseconds to wait at least for an answer before the ask is sent again.
+/// On one machine an answer takes about one, so no ask is repeated while its answer is on its way.
 pub const SHORTEST_ASK_PAUSE: u64 = 4;
 
-/// How many milliseconds as long as no round trip was seen.
+/// How many milliseconds to wait for an answer while no round trip was measured.
 /// As long as the first repeat: nothing is known of the network yet.
 pub const FIRST_ASK_PAUSE: u64 = 20;
 
-/// How many milliseconds at most, and how many a round trip takes at most.
-/// What takes longer is no round trip: a scorer is thinking.
+/// How many milliseconds to wait at most for an answer, and how many a round trip takes at most.
+/// Anything longer is no round trip: a scorer is thinking.
 pub const LONGEST_ASK_PAUSE: u64 = 250;
 
-/// For how many milliseconds a place that was asked for with another isn't so once more: its ask stands for itself alone.
-/// Otherwise each recorded ask, which anybody may repeat, brings 63 votes.
+/// How many milliseconds after a window opens on a block no other opens on it: until then an ask stands for itself alone.
+/// Otherwise each recorded ask, which anybody may repeat, would bring 63 votes.
 pub const WINDOW_PAUSE: u64 = 500;
 
 /// After how many milliseconds a peer may open one more window.
-/// Ten a second: who has used up those of a whole book still gets on, and no flood of asks brings more.
+/// Ten a second: a peer that has used up those of a whole book still gets on, and a flood of asks brings no more.
 pub const WINDOW_REFILL: u64 = 100;
 
-/// After how many milliseconds without a word of the station's its window asks for the votes of its position.
-/// Less than half the time after which the other desk isn't heard, so one such ask may be lost.
+/// After how many milliseconds without sending anything a station asks for the votes of its position.
+/// Less than half the time after which the other desk counts as not heard, so one such ask may be lost.
 pub const LONGEST_STATION_SILENCE: u64 = 2_000;

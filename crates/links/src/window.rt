@@ -1,4 +1,4 @@
-//! A window over a link: what is said and heard through it.
+//! A window over a link: what its station sends and receives through it.
 
 ghost use Rattle.std.specs.Prelude.{◌≡◌, ◌≤◌, ℕ, List, [], IfSome, take, true};
 ghost use Rattle.std.specs.Option.{ForSome};
@@ -21,14 +21,14 @@ use std::alloc::Global;
 use std::marker::Model;
 use wire::{MessageBytes, SIZE, WireFault, message_of};
 
-/// Puts a message into the front of a buffer.
+/// Copies a message into the first 48 bytes of a buffer.
 fn put(message: &MessageBytes, buffer: &mut DatagramBuffer)
     ensures { take 48 buffer.new ≡ message.now }
 {
     buffer[..SIZE].copy_from_slice(message.as_slice());
 }
 
-/// The front of a buffer.
+/// Returns the first 48 bytes of a buffer.
 fn front(buffer: &DatagramBuffer) -> MessageBytes
     ensures { result ≡ take 48 buffer.now }
 {
@@ -37,7 +37,7 @@ fn front(buffer: &DatagramBuffer) -> MessageBytes
     message
 }
 
-/// How bytes are read in a match, of which it may be known what they say in this one.
+/// Reads bytes as a message of match `game`. `said` is the message that they are known to say in match `own`, if any.
 fn read_in(game: u64, bytes: &[u8], said: Option<Message>, own: u64) -> Result<Message, WireFault>
     requires { ForSome said (Says own bytes.now) }
     ensures { Reads game bytes.now result }
@@ -48,11 +48,11 @@ fn read_in(game: u64, bytes: &[u8], said: Option<Message>, own: u64) -> Result<M
     }
 }
 
-/// A link as another is, which saves a station that is behind most of its round trips. It does what a network may: it
-/// keeps back votes that came early until the station is there, says an ask later or once more, and leaves out asks whose
-/// answers are here. And it makes asks up, as anybody may: an ask that came stands for those for the places behind it, and
-/// the station's for those for the places whose votes were lost; a station that is behind asks ahead for blocks of places;
-/// and one that is silent asks for the votes of its position, so that others hear it.
+/// A link over another one, which saves a station that is behind most of its round trips. It does what a network may do: it
+/// gives early votes again once the station reaches their position, sends an ask later or once more, and drops asks whose
+/// answers are here. It also makes up asks, as anybody may: a peer's ask stands for asks for the places after it, and the
+/// station's ask for asks for the places whose votes were lost; a station that is behind asks ahead for blocks of places; a
+/// silent station asks for the votes of its position, so that others hear it.
 pub struct Window<L: PeerLink, C: Clock> {
     link: L,
     clock: C,
@@ -64,7 +64,7 @@ pub struct Window<L: PeerLink, C: Clock> {
     log: Log,
 }
 
-// one step for whoever lets it go, in place of one a part
+// one drop step instead of one per field
 impl<L: PeerLink + Drop, C: Clock + Drop> Drop for Window<L, C> {
     fn drop(self) {
         let Window {
@@ -110,7 +110,7 @@ impl<L: PeerLink, C: Clock> Window<L, C> {
     ghost use Rattle.links.specs.Windows.{IsQuietUntilNews, IsSaid, IsStill, IsVote};
     ghost use Rattle.links.specs.declared.link.Receivers.TheVariants.{ToAll, ToOne};
 
-    /// A window over a link, in the match of this number.
+    /// Returns a window over a link, in the match of this number.
     pub fn new(alloc: Global, link: L, clock: C, game: u64) -> Window<L, C>
         requires { L.log link ≡ [] }
         ensures game { result.game ≡ game }
@@ -130,14 +130,14 @@ impl<L: PeerLink, C: Clock> Window<L, C> {
         }
     }
 
-    /// What its station has said and heard, which clauses alone read.
+    /// Returns what its station has sent and received; only clauses read it.
     pub fn passed(&self) -> &Log
         ensures { passed_of result.now ≡ self.now.above }
     {
         &self.log
     }
 
-    /// The link below it: what that gave was given, and what it was handed had been said, but for asks.
+    /// Returns the link below: it gave whatever the window gave, and was handed only what the window was, asks aside.
     pub fn link(&self) -> &L
         ensures log { L.log result.now ≡ self.now.below }
         ensures faithful { IsFaithful self.now.game self.now.above self.now.below }
@@ -145,7 +145,7 @@ impl<L: PeerLink, C: Clock> Window<L, C> {
         &self.link
     }
 
-    /// Notes what the station says, as it is read, and answers whether it is handed down.
+    /// Notes a message that the station sends, with its reading, and returns whether to hand it down.
     fn note(&mut self, read: Result<Message, WireFault>, bytes: &MessageBytes, now: u64) -> bool
         requires { Reads self.old.game bytes.now read }
         ensures kept { IsKept self.old self.new }
@@ -167,7 +167,7 @@ impl<L: PeerLink, C: Clock> Window<L, C> {
         }
     }
 
-    /// Hands a message to all.
+    /// Sends a message to all peers.
     fn say(&mut self, bytes: &MessageBytes, now: u64)
         requires { IsHanded self.old.game self.old.above ToAll bytes.now }
         ensures still { IsStill self.old self.new }
@@ -177,7 +177,7 @@ impl<L: PeerLink, C: Clock> Window<L, C> {
         self.silence.end(now);
     }
 
-    /// Takes what the station says to all, as it is read. A vote is handed down at once, and an ask in time.
+    /// Takes a message that the station sends to all, with its reading. Hands a vote down at once, and an ask in time.
     fn send_read(&mut self, read: Result<Message, WireFault>, bytes: &MessageBytes)
         requires { Reads self.old.game bytes.now read }
         ensures log { self.new.above ≡ self.old.above ++ Sent ToAll bytes.now ∷ [] }
@@ -191,8 +191,7 @@ impl<L: PeerLink, C: Clock> Window<L, C> {
         }
     }
 
-    /// The next datagram is to be given. Where the last one was an ask that was made up and brought no reply, its peer's
-    /// window ends.
+    /// Prepares for the next datagram. If the last one was a made-up ask that brought no reply, its peer's window ends.
     fn begin_take(&mut self)
         ensures still { IsStill self.old self.new }
         ensures below { self.new.below ≡ self.old.below }
@@ -203,8 +202,8 @@ impl<L: PeerLink, C: Clock> Window<L, C> {
         self.known.given = Given::Other;
     }
 
-    /// The next ask that is made up, where one is. It is as of a board, whoever the peer is, so that no desk passes for heard
-    /// by it.
+    /// Returns the next made-up ask, if any. It asks as a board, whoever the peer is, so that it never makes a desk count as
+    /// heard.
     fn made_up(&mut self) -> Option<MessageBytes>
         ensures still { IsStill self.old self.new }
         ensures below { self.new.below ≡ self.old.below }
@@ -215,7 +214,7 @@ impl<L: PeerLink, C: Clock> Window<L, C> {
         ask_for(self.game, Asker::Board, Position { place, round: 0 })
     }
 
-    /// What the link gives, and the message that it says, where it says one. A vote that comes early is lost for now.
+    /// Takes what the link gives, with the message that it says, if any. A vote that comes early is also kept for later.
     fn brought(&mut self, buffer: &mut DatagramBuffer, wait: u64) -> (Taken, Option<Message>)
         ensures kept { IsKept self.old self.new }
         ensures grown { IsGrown self.old.below self.new.below }
@@ -233,7 +232,7 @@ impl<L: PeerLink, C: Clock> Window<L, C> {
         self.known.hear(self.game, taken, buffer, peer, now)
     }
 
-    /// What the link brings, once what it is time for is asked for.
+    /// Sends the asks that are due, and then takes what the link brings.
     fn fetch(&mut self, buffer: &mut DatagramBuffer, wait: u64) -> (Taken, Option<Message>)
         ensures kept { IsKept self.old self.new }
         ensures brought { (count : ℕ) → result.0 ≡ Taken.Datagram count
@@ -246,8 +245,8 @@ impl<L: PeerLink, C: Clock> Window<L, C> {
         self.brought(buffer, wait)
     }
 
-    /// The next datagram, and the message that was read of it, if one was: a vote that was kept for the station's position, an
-    /// ask that is made up, or what the link brings.
+    /// Returns the next datagram, with its message if it was read: a vote kept for the station's position, a made-up ask, or
+    /// what the link brings.
     fn next(&mut self, buffer: &mut DatagramBuffer, wait: u64) -> (Taken, Option<Message>)
         ensures kept { IsKept self.old self.new }
         ensures quiet { IsQuietUntilNews result.0 buffer.new self.old self.new }
@@ -267,7 +266,7 @@ impl<L: PeerLink, C: Clock> Window<L, C> {
         self.fetch(buffer, wait)
     }
 
-    /// Hands a reply to who asked.
+    /// Sends a reply to the peer that asked.
     fn hand_back(&mut self, bytes: &MessageBytes)
         requires { IsHanded self.old.game self.old.above ToOne bytes.now }
         ensures kept { IsKept self.old self.new }
@@ -283,7 +282,7 @@ impl<L: PeerLink, C: Clock> Window<L, C> {
         }
     }
 
-    /// Notes that an ask that came was answered: the places behind it are asked for too.
+    /// Notes that a peer's ask was answered: the places after it are asked for too.
     fn note_reply(&mut self, bytes: &MessageBytes)
         ensures kept { IsKept self.old self.new }
         ensures below { self.new.below ≡ self.old.below }
@@ -306,8 +305,8 @@ impl Known {
     ghost use Rattle.agree_core.specs.declared.messages.Vote.{Vote as AVote};
     ghost use Rattle.links.specs.Windows.{AreOfOr, GivesVote, Has, HasMore, IsSaid};
 
-    /// Notes a vote that came from this peer, and answers whether it is for now: not one that is kept for later. A repeat, and
-    /// the station's own, change nothing of when it asks.
+    /// Notes a vote from this peer, and returns whether it is for now: an early vote is kept for later. Repeats and the
+    /// station's own votes don't change when it asks.
     fn is_for_now(&mut self, vote: &Vote, bytes: &MessageBytes, peer: usize, now: u64) -> bool
         ensures votes { AreOfOr bytes.now (values self.new.early.votes) (values self.old.early.votes) }
         ensures asked { self.new.asking.bytes ≡ self.old.asking.bytes }
@@ -329,7 +328,7 @@ impl Known {
         true
     }
 
-    /// Notes a message that came from this peer in these bytes, and answers whether it is for now.
+    /// Notes a message that this peer sent in these bytes, and returns whether it is for now.
     fn hear_message(
         &mut self,
         message: &Message,
@@ -352,9 +351,9 @@ impl Known {
         }
     }
 
-    /// Notes what the link gave, from this peer in the match of this number, and answers it with the message that it says, where
-    /// it says one. A vote that comes early is given at once too: a desk sees by it whether its own file lacks lines, and a
-    /// board whether the desks told it different ones. What doesn't open changes nothing.
+    /// Notes what the link gave from this peer, and returns it with the message that it says in match `game`, if any. An early
+    /// vote is given at once too: by it a desk sees whether its own file lacks lines, and a board whether the desks told it
+    /// different ones. A datagram that doesn't open changes nothing.
     fn hear(
         &mut self,
         game: u64,
@@ -402,7 +401,7 @@ impl<L: PeerLink, C: Clock> Link for Window<L, C> {
         self.send_read(read, bytes);
     }
 
-    // what its bytes say isn't read
+    // in its own match the bytes aren't read: the message is given
     fn send_message(&mut self, game: u64, message: &Message, bytes: &MessageBytes)
         requires { Says game bytes.now message.now }
         ensures log { self.new.above ≡ self.old.above ++ Sent ToAll bytes.now ∷ [] }
@@ -413,7 +412,7 @@ impl<L: PeerLink, C: Clock> Link for Window<L, C> {
         self.send_read(read, bytes);
     }
 
-    // an answer is handed down at once, to one
+    // an answer is handed down at once, to one peer
     fn reply(&mut self, bytes: &MessageBytes)
         ensures log { self.new.above ≡ self.old.above ++ Sent ToOne bytes.now ∷ [] }
         ensures handed { HandsDown ToOne bytes.now self.old self.new }
@@ -424,7 +423,7 @@ impl<L: PeerLink, C: Clock> Link for Window<L, C> {
         self.note_reply(bytes);
     }
 
-    // it is quiet until something new comes
+    // the window stays quiet until something new comes
     fn take(&mut self, buffer: &mut DatagramBuffer, wait: u64) -> Taken
         ensures log { IsTaken result buffer.new self.old.above self.new.above }
         ensures quiet { IsQuietUntilNews result buffer.new self.old self.new }
@@ -433,7 +432,7 @@ impl<L: PeerLink, C: Clock> Link for Window<L, C> {
         self.take_message(game, buffer, wait).taken()
     }
 
-    // likewise; what its link brings is read once
+    // as `take`; what the link brings is read only once
     fn take_message(&mut self, game: u64, buffer: &mut DatagramBuffer, wait: u64) -> Arrival
         ensures log { IsRead game result buffer.new self.old.above self.new.above }
         ensures quiet { IsQuietUntilNews (taken_of result) buffer.new self.old self.new }
@@ -452,8 +451,8 @@ impl<L: PeerLink, C: Clock> Link for Window<L, C> {
     }
 }
 
-/// What a window gave its link had given, and what its link was handed for all, or for one, it had been handed so, but for
-/// asks: votes are neither made up nor changed.
+/// Whatever a window gave, its link gave, and whatever its link was handed, for all or for one, the window was handed so, asks
+/// aside: votes are neither made up nor changed.
 pub fn what_passes_is_kept<L: PeerLink, C: Clock>(window: &Window<L, C>)
     ensures { IsFaithful window.now.game window.now.above window.now.below }
 {

@@ -1,4 +1,4 @@
--- The lines of what is held and of what comes behind it.
+-- The lines of unread bytes and of the bytes that follow them.
 use Rattle.std.proofs.Common.{◌≡◌, ◌==◌, ℕ, zero, suc, ◌+◌, ◌<◌, ◌≤◌, Bool, true, false, List, [], ◌∷◌, ◌++◌, length, take, drop, Option, Some, None, arith, refl, sym, append-nil, append_assoc, length-append, length-take, add-one}
 use Rattle.std.specs.Io.KnownBytes.{Consumes, IsAtEnd, Keeps}
 use Rattle.machine.specs.Keyboards.{GivesLine, HasNoLines, KeepsLines, first_newline, left_of, lines_from}
@@ -9,7 +9,7 @@ ends_within bs at e = grind arith
 longer : (front : List ℕ) (b : ℕ) → length (front ++ b ∷ []) ≡ length front + 1
 longer front b = length-append front (b ∷ [])
 
--- one byte more
+-- one more byte
 goes_on : (front bs : List ℕ) (b : ℕ) → (b == 10) ≡ false → (length front == 127) ≡ false
     → lines_from false front (b ∷ bs) ≡ lines_from false (front ++ b ∷ []) bs
 goes_on front bs b e n = rw (e, n) refl
@@ -29,7 +29,7 @@ none_there b bs e = grind arith
 at_once : (b : ℕ) (bs : List ℕ) → first_newline (b ∷ bs) ≡ Some zero → (b == 10) ≡ true
 at_once b bs e = grind arith
 
--- up to a newline
+-- a line that ends with a newline
 line_ends : (front bs t : List ℕ) (at : ℕ) → first_newline bs ≡ Some at → length front + at < 128
     → lines_from false front (bs ++ t) ≡ (front ++ take at bs) ∷ lines_from false [] (drop (suc at) bs ++ t)
 line_ends front [] t at e h = absurd (grind arith)
@@ -45,7 +45,7 @@ rest_ends [] t at e = absurd (grind arith)
 rest_ends (b ∷ bs) t zero e = rw (at_once b bs e) refl
 rest_ends (b ∷ bs) t (suc at) e = let p = later b bs at e in rw (skips_on (bs ++ t) b p.0) (rest_ends bs t at p.1)
 
--- where there is none
+-- a line that fills the buffer without a newline
 front_fills : (front bs t : List ℕ) → first_newline bs ≡ None → 0 < length bs → length front + length bs ≡ 128
     → lines_from false front (bs ++ t) ≡ (front ++ bs) ∷ lines_from true [] t
 front_fills front [] t e some h = absurd (omega (arith, some))
@@ -70,7 +70,7 @@ none_ends front (b ∷ bs) e h =
     let p = none_there b bs e in
     rw (goes_on front bs b p.0 (is_short front (omega (arith, h)))) (none_ends (front ++ b ∷ []) bs p.1 (let l = longer front b in omega (arith, h, l)))
 
--- what was put into a buffer is its front
+-- bytes that were put into a buffer are its front
 pub was_put : (held slice buffer : List ℕ) (n : ℕ) → slice ≡ held → n ≤ length held → take (length (take n slice)) buffer ≡ take n slice
     → take n buffer ≡ take n held
 was_put held slice buffer n is within put =
@@ -114,7 +114,7 @@ pub stays : (left : Option (List (List ℕ))) → KeepsLines left left
 stays None = tt
 stays (Some xs) = refl
 
--- one thing after another
+-- one step after another
 pub kept_then : (count : Option ℕ) (buffer : List ℕ) (old mid new : Option (List (List ℕ))) → KeepsLines old mid
     → GivesLine count buffer mid new → GivesLine count buffer old new
 kept_then None buffer None mid new k g = tt

@@ -1,3 +1,3 @@
--- Lemmas on a keyboard's lines, and on what a screen has.
+-- Lemmas on a keyboard's lines, and on a screen's contents.
 mod KeyboardLemmas
 mod ScreenLemmas

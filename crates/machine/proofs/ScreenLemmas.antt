@@ -1,4 +1,4 @@
--- Where rows end in a text, and that what is shown is plain.
+-- The ends of rows in a text, and that what is shown is plain.
 use Rattle.std.proofs.lemmas.Grind.{common_steps}
 use Rattle.std.proofs.Common.{◌≡◌, ◌<◌, ◌+◌, ◌≤◌, ◌&&◌, ℕ, Bool, true, false, List, [], ◌∷◌, ◌++◌, if◌then◌else◌, map, take, drop, length, length-append, length-drop, get_or, refl, ap, append_assoc, arith, sym, ◌∙◌}
 use Rattle.std.specs.List.{list_all}
@@ -7,13 +7,13 @@ use Rattle.std.proofs.lemmas.List.{length-map, take_more}
 use Rattle.machine.specs.Rows.{ends_row, is_plain, lacks_last, plain, points, shown_in}
 use Rattle.machine.specs.declared.row_log.{RowLog.RowLog, RowLog.Empty, RowLog.Shown', RowLog.LeftOut'}
 
--- a text with a row's end behind it
+-- a text followed by a newline ends a row
 ends_row-push : (xs : List ℕ) → ends_row (xs ++ 10 ∷ []) ≡ true
 ends_row-push [] = refl
 ends_row-push (x ∷ []) = refl
 ends_row-push (x ∷ (y ∷ rest)) = ends_row-push (y ∷ rest)
 
--- the front up to a row's end
+-- the front of a text up to a newline ends a row
 pub ends_row-take : (xs : List ℕ) (i : ℕ) → i < length xs → get_or xs i 0 ≡ 10 → ends_row (take (i + 1) xs) ≡ true
 ends_row-take xs i within is_end =
     ap ends_row (take_more xs i 0 within ∙ ap (λ x. take i xs ++ x ∷ []) is_end) ∙ ends_row-push (take i xs)
@@ -24,7 +24,7 @@ both_true b c h h2 = grind (arith, common_steps)
 first_true : (b c : Bool) → (b && c) ≡ true → b ≡ true
 first_true b c h = grind (arith, common_steps)
 
--- what a byte is shown as is plain
+-- a byte as it is shown is plain
 plain_is_plain : (byte : ℕ) → is_plain (plain byte) ≡ true
 plain_is_plain byte = by_test (is_plain byte) refl
   where
@@ -50,13 +50,13 @@ shown_is_plain (Shown' marker before bytes count) =
     (map_is_plain (take count.value bytes.value.items))
 shown_is_plain (LeftOut' marker before bytes count) = with_points (lacks_last before) (shown_in before) (shown_is_plain before)
 
--- so is what is taken of it
+-- the front of what is shown is plain
 pub front_is_plain : (xs ys : List ℕ) (log : RowLog) → xs ++ ys ≡ shown_in log → list_all is_plain xs ≡ true
 front_is_plain xs ys log e =
     first_true (list_all is_plain xs) (list_all is_plain ys)
     (sym (list_all-append is_plain xs ys) ∙ ap (list_all is_plain) e ∙ shown_is_plain log)
 
--- what waits behind it
+-- what waits after the rest
 pub with_waits : (taken rest waits shown : List ℕ) → taken ++ rest ≡ shown → taken ++ (rest ++ waits) ≡ shown ++ waits
 with_waits taken rest waits shown e = sym (append_assoc taken rest waits) ∙ ap (λ xs. xs ++ waits) e
 

@@ -1,13 +1,12 @@
--- What a keyboard gives of what it reads.
+-- The lines that a keyboard gives of what it reads.
 use Rattle.std.specs.Prelude.{◌≡◌, ◌⊎◌, ◌==◌, ⊤, ℕ, Bool, true, false, nat_lt, List, [], ◌∷◌, ◌++◌, length, take, Option, None, Some, MatchOption, option_map, if◌then◌else◌}
 use Rattle.std.specs.List.{position_or_len}
 use Rattle.links.specs.declared.keys.Typed.{Typed}
 use Rattle.links.specs.declared.keys.Typed.TheVariants.{Aside, Ended, Line, Nothing}
 use Rattle.machine.specs.declared.keyboard.Keyboard.{Keyboard}
 
--- The lines of bytes of which these stand open before them: what stands before each newline, and of what is longer the first
--- 128 bytes, as soon as they are there. Amid a line of which those were given, its rest is skipped. What stands behind the
--- last newline is none.
+-- The lines in bytes, after the front of an open line: what comes before each newline, or, of a longer line, the first 128
+-- bytes as soon as they are there. The rest of such a line is skipped. What follows the last newline is no line.
 abbrev pub lines_from : Bool → List ℕ → List ℕ → List (List ℕ)
 lines_from skips front [] = []
 lines_from true front (b ∷ bs) = if b == 10 then lines_from false [] bs else lines_from true [] bs
@@ -18,41 +17,41 @@ lines_from false front (b ∷ bs) =
 abbrev pub newline : ℕ → Bool
 newline b = b == 10
 
--- where the first newline stands
+-- the index of the first newline
 abbrev pub first_newline : List ℕ → Option ℕ
 first_newline bs =
     if nat_lt (position_or_len newline bs) (length bs) then Some (position_or_len newline bs) else None
 
--- the lines that are left of bytes that are held and of those that a reader gives from here on, where these are known
+-- the lines left in unread bytes and in those that a reader gives from here on, if these are known
 abbrev pub left_of : Bool → List ℕ → Option (List ℕ) → Option (List (List ℕ))
 left_of skips held known = option_map (λ bytes. lines_from skips [] (held ++ bytes)) known
 
--- the lines that a keyboard gives from here on, where what its reader gives is known
+-- the lines that a keyboard gives from here on, if what its reader gives is known
 abbrev pub lines_left : {R M : Type 0} {g : _} {h : _} → (R → Option (List ℕ)) → Keyboard R M g h → Option (List (List ℕ))
 lines_left remaining k = left_of k.skips k.held.items (remaining k.reader)
 
--- known lines stay
+-- known lines stay unchanged
 abbrev pub KeepsLines : Option (List (List ℕ)) → Option (List (List ℕ)) → Type 0
 KeepsLines None new = ⊤
 KeepsLines (Some xs) None = ⊥
 KeepsLines (Some xs) (Some ys) = ys ≡ xs
 
--- known lines begin with this one, and lose it
+-- known lines begin with this one, which is removed
 abbrev pub LosesLine : List ℕ → Option (List (List ℕ)) → Option (List (List ℕ)) → Type 0
 LosesLine line None new = ⊤
 LosesLine line (Some xs) None = ⊥
 LosesLine line (Some xs) (Some ys) = xs ≡ line ∷ ys
 
--- the front of the buffer is the next of the lines, where there is one, and otherwise they stay
+-- the front of the buffer is the next line, if there is one; otherwise the lines stay unchanged
 abbrev pub GivesLine : Option ℕ → List ℕ → Option (List (List ℕ)) → Option (List (List ℕ)) → Type 0
 GivesLine count buffer old new = MatchOption count (KeepsLines old new) (λ n. LosesLine (take n buffer) old new)
 
--- where the lines are known, none is left
+-- if the lines are known, none is left
 abbrev pub HasNoLines : Option (List (List ℕ)) → Type 0
 HasNoLines None = ⊤
 HasNoLines (Some xs) = xs ≡ []
 
--- What it gives is the next line that was read, or, where none was, the next one from elsewhere. It ends once no line is left, or
+-- A keyboard gives the next line that was read, or, if none was, the next one from elsewhere. It ends once no line is left, or
 -- a read failed.
 abbrev pub Gives : Typed → List ℕ → Bool → Option (List (List ℕ)) → Option (List (List ℕ)) → List (List ℕ) → List (List ℕ) → Type 0
 Gives (Line count) buffer failed old new more after =

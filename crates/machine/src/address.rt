@@ -10,7 +10,7 @@ pub struct Address<'a> {
     pub socket: SocketAddr,
 }
 
-/// Whether a station can be found at an address: its port isn't 0, and it isn't everybody's.
+/// Whether a station can be reached at an address: its port isn't 0, and it isn't the broadcast address.
 fn is_a_place(socket: SocketAddr) -> bool {
     let is_everybodys = match socket.ip() {
         IpAddr::V4(address) => address.is_broadcast(),
@@ -19,7 +19,7 @@ fn is_a_place(socket: SocketAddr) -> bool {
     socket.port() != 0 && !is_everybodys
 }
 
-/// The address that a text is: numbers, a colon and a port.
+/// Returns the address that a text says: numbers, a colon and a port.
 fn address_in(text: &str) -> Option<Address<'_>> {
     match text.parse::<SocketAddr>() {
         Ok(socket) if is_a_place(socket) => Some(Address { text, socket }),
@@ -27,15 +27,15 @@ fn address_in(text: &str) -> Option<Address<'_>> {
     }
 }
 
-/// The address of a peer of a station at this address, if the text is one machine's, and of the same family: no socket
-/// reaches both. A group's, and the one that stands for no machine, are nobody's.
+/// Returns a peer's address for a station at `at`, if the text is one machine's address, of the same family: no socket reaches
+/// both. A group's address, and the unspecified one, are no machine's.
 fn peer_in(text: &str, at: SocketAddr) -> Option<SocketAddr> {
     let peer = address_in(text)?.socket;
     let is_nobodys = peer.ip().is_multicast() || peer.ip().is_unspecified();
     (peer.is_ipv4() == at.is_ipv4() && !is_nobodys).then_some(peer)
 }
 
-/// The address that one of these texts is, if there are so many.
+/// Returns the address that the text at this index says, if there is one.
 fn peer_of(texts: &[&str], index: usize, at: SocketAddr) -> Option<Option<SocketAddr>> {
     match texts.get(index) {
         Some(text) => Some(Some(peer_in(*text, at)?)),
@@ -43,7 +43,8 @@ fn peer_of(texts: &[&str], index: usize, at: SocketAddr) -> Option<Option<Socket
     }
 }
 
-/// Where a station listens, and the addresses of its peers, if these texts are addresses of one family and not too many.
+/// Returns where a station listens, and the addresses of its peers, if these texts are addresses of one family and not too
+/// many.
 pub fn addresses_in<'a>(
     at: &'a str,
     first: &str,

@@ -1,4 +1,4 @@
-//! What a scorer entered at a keyboard and elsewhere.
+//! What a scorer entered at the keyboard and elsewhere.
 
 ghost use Rattle.std.specs.Prelude.{◌≡◌, ◌≤◌, ◌∷◌, ◌++◌, [], MatchOption, take};
 ghost use Rattle.links.specs.Logs.{elsewhere_of, inputs_of};
@@ -6,7 +6,7 @@ ghost use Rattle.links.specs.Typing.{End, GivesMore, Line};
 
 use links::{InputLog, LineBuffer, MoreLines, Stand};
 
-/// Lines from elsewhere than a keyboard, and all lines that were given with them, in order.
+/// A source of lines other than the keyboard, and a log of all lines that were given, in order.
 #[derive(Drop)]
 pub struct Entered<M: MoreLines> {
     more: M,
@@ -15,7 +15,7 @@ pub struct Entered<M: MoreLines> {
 }
 
 impl<M: MoreLines> Entered<M> {
-    /// With these lines, of which none was given yet.
+    /// Returns an empty log with this source, which has given no line yet.
     pub fn of(more: M) -> Entered<M>
         requires { M.given more ≡ [] }
         ensures { inputs_of result.given ≡ [] }
@@ -26,26 +26,26 @@ impl<M: MoreLines> Entered<M> {
         }
     }
 
-    /// What was given.
+    /// Returns the log of what was given.
     pub fn given(&self) -> &InputLog
         ensures { result.now ≡ self.now.given }
     {
         &self.given
     }
 
-    /// Whether there is one more from elsewhere.
+    /// Whether there is another line from elsewhere.
     pub fn has_lines(&self) -> bool {
         self.more.has_lines()
     }
 
-    /// The lines from elsewhere.
+    /// Returns the source of the lines from elsewhere.
     pub fn more(&self) -> &M
         ensures { result.now ≡ self.now.more }
     {
         &self.more
     }
 
-    /// Takes the next line of the keyboard, which is given: the front of the buffer.
+    /// Notes that the keyboard's next line is given: the first `count` bytes of the buffer.
     pub fn line(&mut self, buffer: &LineBuffer, count: usize)
         ensures typed { inputs_of self.new.given ≡ inputs_of self.old.given ++ Line (take count buffer.now) ∷ [] }
         ensures more { self.new.more ≡ self.old.more }
@@ -53,7 +53,7 @@ impl<M: MoreLines> Entered<M> {
         self.given = self.given.line(buffer, count);
     }
 
-    /// Gives the next line from elsewhere, if there is one: the front of the buffer.
+    /// Puts the next line from elsewhere into the front of the buffer and returns its length, if there is one.
     pub fn next_line(&mut self, at: Stand, buffer: &mut LineBuffer) -> Option<usize>
         ensures typed { MatchOption result (self.new.given ≡ self.old.given) (λ count. (count ≤ 128)
             × (inputs_of self.new.given ≡ inputs_of self.old.given ++ Line (take count buffer.new) ∷ [])) }
@@ -64,7 +64,7 @@ impl<M: MoreLines> Entered<M> {
         Some(count)
     }
 
-    /// Takes that no more lines come.
+    /// Notes that no more lines come.
     pub fn end(&mut self)
         ensures typed { inputs_of self.new.given ≡ inputs_of self.old.given ++ End ∷ [] }
         ensures more { self.new.more ≡ self.old.more }

@@ -12,32 +12,32 @@ use std::io::{self, ErrorKind, Read};
 use std::os::fd::{AsRawFd, RawFd};
 use std::rt::Stdin;
 
-/// What was read and not given yet.
+/// The bytes that were read and not given yet.
 type Unread = ArrayVec<u8, LINE_ROOM>;
 
-/// A scorer's lines, from a reader that answers `WouldBlock` where nothing was typed. A line ends with its newline:
-/// what stands behind the last one is none. Of a line that is too long the front is given, and the rest passed over. Where
-/// none was typed, the next one from elsewhere is given, as if it were typed.
+/// A scorer's lines, from a reader that returns `WouldBlock` when nothing was typed. A line ends with its newline: bytes after
+/// the last newline are no line. Of a line that is too long the first 128 bytes are given, and the rest is skipped. If no line
+/// was typed, the next one from elsewhere is given, as if it were typed.
 #[derive(Drop)]
 pub struct Keyboard<R: Read, M: MoreLines> {
     reader: R,
     entered: Entered<M>,
     held: Unread,
-    /// Whether the rest of a line that was too long is passed over.
+    /// Whether the rest of a line that was too long is being skipped.
     skips: bool,
     ended: bool,
-    /// Whether a read failed, which ends the lines too.
+    /// Whether a read failed, which also ends the lines.
     failed: bool,
     ghost at_end: { ended ≡ true → failed ≡ false → (bytes : List ℕ) → R.remaining reader ≡ Some bytes → bytes ≡ [] },
 }
 
-/// Standard input, of which a read never waits: it answers `WouldBlock` where nothing is there.
+/// Standard input, read without waiting: a read returns `WouldBlock` if nothing is there.
 #[derive(Drop)]
 pub struct StandardInput {
     stream: Stdin,
 }
 
-/// Whether a read of a descriptor answers at once.
+/// Whether a read of a descriptor would return at once.
 fn can_read(descriptor: RawFd) -> bool {
     let asked = pollfd {
         fd: descriptor,
@@ -58,8 +58,8 @@ impl Read for StandardInput {
 }
 
 impl<M: MoreLines> Keyboard<StandardInput, M> {
-    /// Standard input, from where it stands. It isn't opened anew and none of its flags is changed: so it may be a file, a
-    /// pipe, a terminal or a socket of whomever, and stays as it is for other programs.
+    /// Returns a keyboard on standard input, from where it stands. It isn't reopened, and none of its flags is changed: so it
+    /// may be a file, a pipe, a terminal or anyone's socket, and stays as it is for other programs.
     pub fn of_standard_input(rt: &HostRuntime, more: M) -> Keyboard<StandardInput, M>
         requires { M.given more ≡ [] }
         ensures { inputs_of result.entered.given ≡ [] }
@@ -67,13 +67,13 @@ impl<M: MoreLines> Keyboard<StandardInput, M> {
         Keyboard::new(StandardInput { stream: rt.stdin() }, more)
     }
 
-    /// Its descriptor, at which it can be waited for.
+    /// Returns the descriptor of standard input, to wait at.
     pub fn descriptor(&self) -> RawFd {
         self.reader.stream.as_raw_fd()
     }
 }
 
-/// What stands behind so many bytes.
+/// Returns the bytes after the first `count`.
 fn behind(held: &Unread, count: usize) -> Unread
     requires { count ≤ length held.now.items }
     ensures { result.items ≡ drop count held.now.items }
@@ -84,7 +84,7 @@ fn behind(held: &Unread, count: usize) -> Unread
     rest
 }
 
-/// Puts a line into the front of a buffer.
+/// Copies a line into the front of a buffer.
 fn put(line: &[u8], buffer: &mut LineBuffer)
     requires { length line.now ≤ 128 }
     ensures { take (length line.now) buffer.new ≡ line.now }
@@ -95,7 +95,7 @@ fn put(line: &[u8], buffer: &mut LineBuffer)
 impl<R: Read, M: MoreLines> Keyboard<R, M> {
     ghost use Rattle.machine.specs.Keyboards.{GivesLine, HasNoLines, KeepsLines, first_newline, left_of, lines_left};
 
-    /// The lines of this reader, and these.
+    /// Returns a keyboard that gives the lines of this reader, and those from elsewhere.
     pub fn new(reader: R, more: M) -> Keyboard<R, M>
         requires { M.given more ≡ [] }
         ensures lines { lines_left R.remaining result ≡ left_of false [] (R.remaining reader) }
@@ -111,7 +111,7 @@ impl<R: Read, M: MoreLines> Keyboard<R, M> {
         }
     }
 
-    /// Reads what there is, as far as there is room.
+    /// Reads what is there, as far as there is room.
     fn fill(&mut self)
         requires room { length self.old.held.items < 128 }
         requires going { self.old.ended ≡ false }
@@ -133,14 +133,15 @@ impl<R: Read, M: MoreLines> Keyboard<R, M> {
         }
     }
 
-    /// The length of the first line held, where its newline is there.
+    /// Returns the length of the first unread line, if its newline is there.
     fn first_line(&self) -> Option<usize>
         ensures { result ≡ first_newline self.now.held.items }
     {
         self.held.as_slice().iter().position(|byte| *byte == b'\n')
     }
 
-    /// Takes the first line held, with its newline. It is given, unless it is the rest of one that was too long.
+    /// Takes the first line of the unread bytes, with its newline, and gives it unless it is the rest of a line that was too
+    /// long.
     fn take_line(&mut self, count: usize, buffer: &mut LineBuffer) -> Option<usize>
         requires { first_newline self.old.held.items ≡ Some count }
         ensures count { IfSome result (λ count. count ≤ 128) }
@@ -154,7 +155,7 @@ impl<R: Read, M: MoreLines> Keyboard<R, M> {
         if is_rest { None } else { Some(count) }
     }
 
-    /// Takes the front of a line that is too long, or more of its rest.
+    /// Takes the front of a line that is too long, or more of its rest, which isn't given.
     fn take_front(&mut self, buffer: &mut LineBuffer) -> Option<usize>
         requires none { first_newline self.old.held.items ≡ None }
         requires full { length self.old.held.items ≡ 128 }
@@ -169,7 +170,7 @@ impl<R: Read, M: MoreLines> Keyboard<R, M> {
         if is_rest { None } else { Some(LINE_ROOM) }
     }
 
-    /// Takes what is held up to the first newline, or all of it where it is full without one.
+    /// Takes the unread bytes up to the first newline, or all of them if they fill the buffer without one.
     fn take_held(&mut self, buffer: &mut LineBuffer) -> Option<usize>
         ensures count { IfSome result (λ count. count ≤ 128) }
         ensures lines { GivesLine result buffer.new (lines_left R.remaining self.old) (lines_left R.remaining self.new) }
@@ -182,8 +183,8 @@ impl<R: Read, M: MoreLines> Keyboard<R, M> {
         }
     }
 
-    /// The length of the next line that was typed, which is put into the front of the buffer, if there is one: each is the next
-    /// line of what is read, and none is left out or given twice.
+    /// Puts the next typed line into the front of the buffer and returns its length, if there is one. Lines come in the order
+    /// in which they are read; none is left out or given twice.
     fn next(&mut self, buffer: &mut LineBuffer) -> Option<usize>
         ensures count { IfSome result (λ count. count ≤ 128) }
         ensures lines { GivesLine result buffer.new (lines_left R.remaining self.old) (lines_left R.remaining self.new) }
@@ -195,14 +196,14 @@ impl<R: Read, M: MoreLines> Keyboard<R, M> {
         self.take_held(buffer)
     }
 
-    /// What was given.
+    /// Returns the log of what was given.
     pub fn given(&self) -> &InputLog
         ensures { result.now ≡ self.now.entered.given }
     {
         self.entered.given()
     }
 
-    /// The lines from elsewhere, of which each that was given is among these.
+    /// Returns the source of the lines from elsewhere: each such line that was given came from it.
     pub fn more(&self) -> &M
         ensures more { result.now ≡ self.now.entered.more }
         ensures each { elsewhere_of self.now.entered.given ≡ M.given result.now }
@@ -235,7 +236,7 @@ impl<R: Read, M: MoreLines> Keys for Keyboard<R, M> {
 
     ghost inputs = { λ keyboard. inputs_of keyboard.entered.given };
 
-    /// Each line that was typed comes as it was, in its turn.
+    /// Gives each typed line unchanged, in its turn.
     fn line(&mut self, at: Stand, buffer: &mut LineBuffer) -> Typed
         ensures typed { IsTyped result buffer.new (inputs_of self.old.entered.given) (inputs_of self.new.entered.given) }
         ensures lines { Gives result buffer.new self.new.failed (lines_left R.remaining self.old) (lines_left R.remaining self.new)

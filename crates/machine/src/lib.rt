@@ -1,5 +1,5 @@
-//! The machine: sockets, a scorer's keyboard and screen, the standard streams, a clock. Nothing is known of what the machine does with what it is
-//! given; it stands behind traits.
+//! The machine: sockets, a scorer's keyboard and screen, the standard streams and a clock, each behind a trait. Nothing is
+//! known of what the machine does with what it is given.
 #![tactic(auto)]
 
 mod address;

@@ -11,7 +11,7 @@ pub struct MonotonicClock<'a, R> {
 }
 
 impl<'a, R: std::time::Clock> MonotonicClock<'a, R> {
-    /// A clock that wasn't read yet.
+    /// Returns a clock that wasn't read yet.
     pub fn new(machine: &'a R) -> MonotonicClock<'a, R> {
         MonotonicClock {
             machine,
@@ -26,7 +26,7 @@ impl<R: std::time::Clock> Clock for MonotonicClock<'_, R> {
 
     ghost readings = { λ clock. readings_of clock.log };
 
-    /// Where the machine's clock can't be read, the time of the last read.
+    /// Returns the time of the last reading if the machine's clock can't be read.
     fn millis(&mut self) -> u64 {
         if let Ok(time) = self.machine.monotonic() {
             let millis = u64::from(time.subsec_millis());

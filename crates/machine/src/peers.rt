@@ -1,4 +1,4 @@
-//! A socket at which a station waits for datagrams, and for its scorer's keyboard too; and the addresses of its peers.
+//! A socket at which a station waits for datagrams and for its scorer's keyboard too, and the addresses of its peers.
 
 ghost use Rattle.std.specs.Prelude.{◌≡◌, ◌≤◌, ◌⊎◌, ℕ, [], IfOk, length};
 
@@ -15,16 +15,16 @@ use std::net::{Net, SocketAddr, UdpSocket};
 use std::os::fd::AsRawFd;
 use std::time::Duration;
 
-/// Whether a call failed only because it could wait no longer.
+/// Whether a call failed only because its wait ran out.
 pub fn is_late(error: &io::Error) -> bool {
     matches!(error.kind(), ErrorKind::WouldBlock | ErrorKind::TimedOut)
 }
 
-/// A socket of which each call waits 10 ms at most.
+/// A socket whose calls wait at most 10 ms each.
 #[derive(Drop)]
 pub struct Port {
     socket: UdpSocket,
-    /// What a wait for datagrams ends for, too.
+    /// What else ends a wait for datagrams.
     ends: WaitEnds,
     /// Whether the last receive failed.
     fails: bool,
@@ -33,7 +33,7 @@ pub struct Port {
 }
 
 impl Port {
-    /// A socket at this address.
+    /// Opens a socket at this address.
     pub fn new(net: &impl Net, at: SocketAddr) -> io::Result<Port> {
         let socket = UdpSocket::bind(net, at)?;
         let limit = Some(Duration::from_millis(SOCKET_CALL_WAIT));
@@ -47,12 +47,12 @@ impl Port {
         })
     }
 
-    /// From here on a wait for datagrams ends for these too.
+    /// From now on these, too, end a wait for datagrams.
     pub fn watch(&mut self, ends: WaitEnds) {
         self.ends = ends;
     }
 
-    /// Its address.
+    /// Returns the socket's address.
     pub fn address(&self) -> io::Result<SocketAddr> {
         self.socket.local_addr()
     }
@@ -62,8 +62,8 @@ impl Port {
         self.socket.send_to(bytes, to)
     }
 
-    /// Waits until a receive may answer at once, so many milliseconds at most, and tells whether it may. A socket that
-    /// failed is left alone for a moment: so one that always fails doesn't keep the processor busy.
+    /// Waits at most `wait` milliseconds until a receive may return at once, and returns whether it may. A socket that failed
+    /// is left alone for a moment, so that one that always fails doesn't keep the processor busy.
     fn is_ready(&mut self, wait: u64) -> bool {
         let (socket, wait) = if self.fails {
             (NO_DESCRIPTOR, SOCKET_CALL_WAIT.min(wait))
@@ -80,8 +80,8 @@ impl Port {
         self.is_page_ready
     }
 
-    /// The next datagram, of so many bytes, as far as there is room, and where it came from. It is waited for, so many
-    /// milliseconds at most, and no longer than until one of its ends can be read.
+    /// Receives the next datagram, cut to the buffer's length, and returns its length and its sender's address. Waits at most
+    /// `wait` milliseconds, and only until one of its ends can be read.
     pub fn receive(&mut self, buffer: &mut [u8], wait: u64) -> io::Result<(usize, SocketAddr)>
         ensures { IfOk result (λ came. came.0 ≤ length buffer.old) }
     {
@@ -96,7 +96,7 @@ impl Port {
     }
 }
 
-/// What a failed receive took: nothing, or one that was lost.
+/// Returns what a failed receive took: nothing, or a lost datagram.
 pub fn missed(error: &io::Error) -> Taken
     ensures { (result ≡ Taken.Nothing) ⊎ (result ≡ Taken.Lost) }
 {
@@ -107,12 +107,12 @@ pub fn missed(error: &io::Error) -> Taken
     }
 }
 
-/// Whether a send was refused by the machine, and not held up for a moment.
+/// Whether the machine refused a send, rather than holding it up for a moment.
 fn is_refusal(error: &io::Error) -> bool {
     !is_late(error) && error.kind() != ErrorKind::Interrupted
 }
 
-/// Whether something for all, or for the one at an address, is for this one.
+/// Whether what is meant for all, or only for one address, is meant for this address.
 fn is_meant(only: Option<SocketAddr>, address: SocketAddr) -> bool {
     match only {
         Some(one) => one == address,
@@ -120,22 +120,22 @@ fn is_meant(only: Option<SocketAddr>, address: SocketAddr) -> bool {
     }
 }
 
-/// A socket, the addresses of its peers, and what standard error was told of them. That it can't be told anything is
-/// no fault.
+/// A socket, the addresses of its peers, and what standard error was told about them. It is no fault if nothing can be written
+/// there.
 #[derive(Drop)]
 struct Mail<'w, E> {
     port: Port,
-    /// Where it is noted that somebody came or asks at the station's page.
+    /// Whether somebody came or asks at the station's page, noted for the station.
     called: &'w Cell<bool>,
     peers: [Option<SocketAddr>; MOST_PEERS],
-    /// Whose datagram was taken last.
+    /// The peer whose datagram was taken last.
     last: Option<SocketAddr>,
-    /// What tells of strangers' datagrams whether they are of the match. It can seal none.
+    /// Tells whether strangers' datagrams are of the match; it can't seal any.
     opener: Opener,
     errors: E,
-    /// To which peers the machine sends nothing now, as it was told.
+    /// The peers that the machine refuses to send to now, as standard error was told.
     refused: [bool; MOST_PEERS],
-    /// Whether it was told of a datagram of the match that came from no peer.
+    /// Whether standard error was told about a datagram of the match that came from no peer.
     is_stranger_told: bool,
 }
 
@@ -145,8 +145,8 @@ impl<E: Write + Drop> Mail<'_, E> {
         self.peers.iter().any(|peer| *peer == Some(from))
     }
 
-    /// Sends bytes to a peer. That the machine refuses it is told where it begins to, and so is that it sends again. It
-    /// answers whether it is refused now; what was held up for a moment says nothing.
+    /// Sends bytes to a peer, and returns whether the machine refuses it now. Reports when it begins to refuse, and when it
+    /// sends again; a send that was held up for a moment changes nothing.
     fn send_to(&mut self, bytes: &SealedForm, address: SocketAddr, is_refused: bool) -> bool {
         match self.port.send(bytes.as_slice(), address) {
             Ok(_) => {
@@ -165,7 +165,7 @@ impl<E: Write + Drop> Mail<'_, E> {
         }
     }
 
-    /// Sends a message to every peer, or to the one at an address: to each with the tag that is for it.
+    /// Sends a message to every peer, or only to the one at an address, each with its own tag.
     fn send(&mut self, message: &TaggedMessage, only: Option<SocketAddr>) {
         for index in 0..MOST_PEERS {
             if let Some(address) = self.peers[index]
@@ -184,20 +184,20 @@ impl<E: Write + Drop> Mail<'_, E> {
         }
     }
 
-    /// Sends a message to the peer at this place.
+    /// Sends a message to the peer of this number.
     fn send_one(&mut self, peer: usize, message: &TaggedMessage) {
         if peer < MOST_PEERS && self.peers[peer].is_some() {
             self.send(message, self.peers[peer]);
         }
     }
 
-    /// The place of the peer whose datagram was taken last.
+    /// Returns the number of the peer whose datagram was taken last.
     fn last_index(&self) -> usize {
         let found = self.peers.iter().position(|peer| *peer == self.last);
         found.unwrap_or(0)
     }
 
-    /// Tells once that a datagram of the match, which opens, came from an address that isn't a peer's.
+    /// Reports once that a datagram of the match, which opens, came from an address that isn't a peer's.
     fn pass_over(&mut self, bytes: &[u8], from: SocketAddr) {
         if !self.is_stranger_told && self.opener.opens(bytes) {
             let _ = writeln!(self.errors, "not a peer: {from}");
@@ -205,7 +205,7 @@ impl<E: Write + Drop> Mail<'_, E> {
         }
     }
 
-    /// The next datagram, if it is a peer's and comes in time. That of a stranger is passed over, one a call.
+    /// Takes the next datagram, if it is a peer's and comes in time. A stranger's datagram is skipped, one per call.
     fn receive(&mut self, buffer: &mut SealedBuffer, wait: u64) -> Taken
         ensures { (count : ℕ) → result ≡ Taken.Datagram count → count ≤ 81 }
     {
@@ -226,14 +226,14 @@ impl<E: Write + Drop> Mail<'_, E> {
     }
 }
 
-/// A socket at an address, which sends to its peers and takes what they sent. Standard error is told of each peer to
-/// which the machine begins to send nothing, or sends again, and once of a datagram of the match that comes from elsewhere.
+/// A socket at an address, which sends to its peers and takes what they sent. It writes to standard error when the machine
+/// begins to refuse a peer, when it sends to it again, and once if a datagram of the match comes from anyone else.
 pub struct Peers<'w, E> {
     mail: Mail<'w, E>,
     log: CarriedLog,
 }
 
-// one step for whoever lets it go, in place of one a part
+// one drop step instead of one per field
 impl<E: Drop> Drop for Peers<'_, E> {
     fn drop(self) {
         let Peers { mail: _, log: _ } = self;
@@ -243,8 +243,8 @@ impl<E: Drop> Drop for Peers<'_, E> {
 impl<'w, E: Write + Drop> Peers<'w, E> {
     ghost use Rattle.seal.specs.Carried.{carried_of};
 
-    /// A socket at this address, in the match whose datagrams this opens, of which no call waits without a limit. A
-    /// wait for datagrams ends for these too: where that is for their page, it is noted.
+    /// Opens a socket at this address, in the match whose datagrams the opener opens; each of its calls has a time limit. The
+    /// ends, too, end a wait for datagrams, and if the page does, that is noted.
     pub fn new(
         net: &impl Net,
         at: SocketAddr,
@@ -273,7 +273,7 @@ impl<'w, E: Write + Drop> Peers<'w, E> {
         })
     }
 
-    /// What passed at it, which clauses alone read.
+    /// Returns the log of what passed at the socket, which only clauses read.
     pub fn passed(&self) -> &CarriedLog
         ensures { result.now ≡ self.now.log }
     {

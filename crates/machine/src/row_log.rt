@@ -1,11 +1,11 @@
-//! What became of the rows that were written to a screen, and what a stream has taken. Clauses alone read both: they take
+//! What became of the rows that were written to a screen, and what a stream has taken. Only clauses read these logs: they take
 //! no memory, and have no last value.
 
 ghost use Rattle.std.specs.Prelude.{◌≡◌, ◌++◌, ◌&&◌, if◌then◌else◌, false, true, drop, map, take};
 
 use std::snapshot::Snapshot;
 
-/// The rows that were written to a screen, in order. Each time it is so many bytes at the front of these.
+/// The rows that were written to a screen, in order, each time as a count of bytes at the front of a buffer.
 #[derive(Drop)]
 pub enum RowLog {
     Empty,
@@ -16,7 +16,7 @@ pub enum RowLog {
 impl RowLog {
     ghost use Rattle.machine.specs.Rows.{are_whole, ends_row, lacks_last, plain, points, shown_in, written_in};
 
-    /// These, and then rows that are shown.
+    /// Returns this log with rows added that are shown.
     pub fn shown(&self, bytes: &Vec<u8>, count: usize) -> RowLog
         ensures written { written_in result ≡ written_in self.now ++ take count bytes.now.items }
         ensures shown { shown_in result ≡ shown_in self.now ++ map plain (take count bytes.now.items) }
@@ -30,7 +30,7 @@ impl RowLog {
         )
     }
 
-    /// These, and then rows that are left out.
+    /// Returns this log with rows added that are left out.
     pub fn left_out(&self, bytes: &Vec<u8>, count: usize) -> RowLog
         ensures written { written_in result ≡ written_in self.now ++ take count bytes.now.items }
         ensures shown { shown_in result ≡ (if lacks_last self.now then shown_in self.now else shown_in self.now ++ points) }
@@ -45,7 +45,7 @@ impl RowLog {
     }
 }
 
-/// The bytes that a stream has taken, in order. Each time it is so many of these, from one on.
+/// The bytes that a stream has taken, in order, each time as a count of bytes of a buffer, from an index on.
 #[derive(Drop)]
 pub enum TakenLog {
     Empty,
@@ -55,7 +55,7 @@ pub enum TakenLog {
 impl TakenLog {
     ghost use Rattle.machine.specs.Rows.{bytes_in};
 
-    /// These, and then so many more.
+    /// Returns this log with `count` bytes added, from the index `from` on.
     pub fn more(&self, bytes: &Vec<u8>, from: usize, count: usize) -> TakenLog
         ensures { bytes_in result ≡ bytes_in self.now ++ take count (drop from bytes.now.items) }
     {
@@ -68,7 +68,7 @@ impl TakenLog {
     }
 }
 
-/// All that was written to a screen, as its rows and what waits behind them tell it.
+/// All that was written to a screen: its rows, and what waits after them.
 #[derive(Drop)]
 pub struct Written {
     pub rows: Snapshot<RowLog>,

@@ -1,4 +1,4 @@
-//! A screen that keeps nobody waiting, and the standard streams.
+//! A screen that makes nobody wait, and the standard streams.
 
 ghost use Rattle.std.specs.Prelude.{◌≡◌, ◌++◌, ◌+◌, ◌-◌, ◌≤◌, ℕ, List, MatchResult, OnOk, if◌then◌else◌, IfOk, Some, [], true, drop, length, map, take, vec_len};
 ghost use Rattle.machine.specs.Rows as rows;
@@ -16,36 +16,36 @@ use std::os::fd::{AsRawFd, RawFd};
 use std::rt::{Stderr, Stdout};
 use std::snapshot::Snapshot;
 
-/// The most bytes of one write: a terminal or a pipe that says that it can be written has room for as many.
+/// The most bytes of one write: a terminal or a pipe that reports itself writable has room for them.
 const PIECE: usize = 128;
 
-/// The most bytes that wait, and the most of rows whose writing has begun.
+/// The most bytes that wait, and the most bytes of rows whose writing has begun.
 const ROOM: usize = 32_768;
 
-/// The row that stands in place of rows that are left out.
+/// The row that replaces rows that are left out.
 const POINTS: [u8; 3] = [b'.', b'.', b'\n'];
 
-/// How often a screen that takes bytes may let a wait for a piece pass, before it is left alone.
+/// How many waits for a piece a screen that takes bytes may let pass before it is left alone.
 const PATIENCE: u8 = 50;
 
-/// How long a terminal is waited for that takes nothing of a drawing, in milliseconds.
+/// How many milliseconds to wait for a terminal that takes nothing of a drawing.
 const DRAWING_WAIT: u64 = 200;
 
-/// The most pieces that are handed on at once.
+/// The most pieces that are handed on in one go.
 const MOST_PIECES: u32 = 400;
 
-/// Standard output or standard error. It isn't opened anew, and none of its flags is changed: so it stays as it is for
-/// other programs. Where it is a file, a write past the limit on this user's files isn't made, but fails.
+/// Standard output or standard error. It isn't reopened, and none of its flags is changed: so it stays as it is for other
+/// programs. If it is a file, a write past this user's file size limit isn't made, but fails.
 #[derive(Drop)]
 pub struct StandardStream<'a, S> {
     rt: &'a HostRuntime,
     stream: S,
-    /// What names it among this process's open files.
+    /// The path that names it among this process's open files.
     path: &'static str,
 }
 
 impl<'a> StandardStream<'a, Stdout> {
-    /// Standard output.
+    /// Returns standard output.
     pub fn output(rt: &'a HostRuntime) -> StandardStream<'a, Stdout> {
         StandardStream {
             rt,
@@ -56,7 +56,7 @@ impl<'a> StandardStream<'a, Stdout> {
 }
 
 impl<'a> StandardStream<'a, Stderr> {
-    /// Standard error.
+    /// Returns standard error.
     pub fn errors(rt: &'a HostRuntime) -> StandardStream<'a, Stderr> {
         StandardStream {
             rt,
@@ -67,7 +67,7 @@ impl<'a> StandardStream<'a, Stderr> {
 }
 
 impl<S> StandardStream<'_, S> {
-    /// Whether there is room for so many more bytes, where it is a file.
+    /// Whether there is room for this many more bytes, if it is a file.
     fn has_room(&self, count: usize) -> bool {
         if may_have(u64::MAX) {
             return true;
@@ -98,12 +98,12 @@ impl<S: Write> Write for StandardStream<'_, S> {
     }
 }
 
-/// A stream that takes bytes, or takes none for the present.
+/// A stream that takes bytes, or takes none for now.
 pub trait Outlet {
-    /// What it has taken, the oldest first.
+    /// The bytes that it has taken, oldest first.
     ghost taken: { Self → List ℕ };
 
-    /// Hands it a piece of these bytes, from one on, and tells how many it took: none where it takes none within so many
+    /// Hands it a piece of these bytes, starting at `from`, and returns how many it took: 0 if it takes none within `wait`
     /// milliseconds.
     fn hand(&mut self, bytes: &Vec<u8>, from: usize, wait: u64) -> io::Result<usize>
         requires { from ≤ vec_len bytes.now }
@@ -112,13 +112,13 @@ pub trait Outlet {
             (λ count. taken self.new ≡ taken self.old ++ take count (drop from bytes.now.items))
             (λ _. taken self.new ≡ taken self.old) };
 
-    /// Hands it all of these bytes from one on, however long it takes.
+    /// Hands it all of these bytes from `from` on, however long it takes.
     fn hand_all(&mut self, bytes: &Vec<u8>, from: usize) -> io::Result<()>
         requires { from ≤ vec_len bytes.now }
         ensures { OnOk result (taken self.new ≡ taken self.old ++ drop from bytes.now.items) };
 }
 
-/// Whether a write of a few bytes to a descriptor answers at once, or comes to that within so many milliseconds.
+/// Whether a write of a few bytes to a descriptor would return at once, now or within this many milliseconds.
 fn can_write(descriptor: RawFd, limit: u64) -> bool {
     let asked = pollfd {
         fd: descriptor,
@@ -129,12 +129,12 @@ fn can_write(descriptor: RawFd, limit: u64) -> bool {
     poll(&mut [asked], limit) > 0
 }
 
-/// Whether a write failed only for the present.
+/// Whether a write failed only for now.
 fn is_passing(error: &io::Error) -> bool {
     matches!(error.kind(), ErrorKind::WouldBlock | ErrorKind::Interrupted)
 }
 
-/// A stream that is handed a piece at a time, where it takes one.
+/// A stream that is handed one piece at a time, when it can take one.
 #[derive(Drop)]
 pub struct Pieces<S> {
     stream: S,
@@ -144,7 +144,7 @@ pub struct Pieces<S> {
 impl<S> Pieces<S> {
     ghost use Rattle.machine.specs.Outlets.{taken_by};
 
-    /// This stream, which has taken nothing yet.
+    /// Returns the pieces of this stream, which has taken nothing yet.
     pub fn of(stream: S) -> Pieces<S>
         ensures { taken_by result ≡ [] }
     {
@@ -181,8 +181,8 @@ impl<S: Write + AsRawFd> Outlet for Pieces<S> {
     }
 }
 
-/// Draws on standard error, where that is a terminal, what a terminal obeys and no screen hands on: a drawing of the program's
-/// own, as a code. A terminal that takes nothing of it for long gets no more of it.
+/// Draws on standard error, for a terminal, what a terminal obeys and no screen hands on: a drawing of the program's own, such
+/// as a code. A terminal that takes nothing for long gets no more of it.
 pub fn draw(rt: &HostRuntime, drawing: &Vec<u8>) {
     let mut outlet = Pieces::of(StandardStream::errors(rt));
     let mut done = 0;
@@ -197,7 +197,7 @@ pub fn draw(rt: &HostRuntime, drawing: &Vec<u8>) {
     }
 }
 
-/// The length of the whole rows at the front of these bytes.
+/// Returns the length of the whole rows at the front of these bytes.
 fn rows_len(bytes: &[u8]) -> usize
     ensures bound { result ≤ length bytes.now }
     ensures rows { ends_row (take result bytes.now) ≡ true }
@@ -212,7 +212,7 @@ fn rows_len(bytes: &[u8]) -> usize
     0
 }
 
-/// A byte as it is shown: one that a terminal may obey is a question mark.
+/// Returns a byte as it is shown: a byte that a terminal may obey becomes a question mark.
 fn plain(byte: u8) -> u8
     ensures { result ≡ rows.plain byte }
 {
@@ -223,7 +223,7 @@ fn plain(byte: u8) -> u8
     }
 }
 
-/// Adds bytes as they are shown.
+/// Appends bytes as they are shown.
 fn put_plain(out: &mut Vec<u8>, bytes: &[u8]) -> Result<(), AllocError>
     ensures { OnOk result (out.new.items ≡ out.old.items ++ map rows.plain bytes.now) }
 {
@@ -233,7 +233,7 @@ fn put_plain(out: &mut Vec<u8>, bytes: &[u8]) -> Result<(), AllocError>
     Ok(())
 }
 
-/// Puts bytes as they are shown in place of others. Where there is no memory for them, none are left.
+/// Replaces the contents by bytes as they are shown. If there is no memory for them, the contents are empty.
 fn set_plain(out: &mut Vec<u8>, bytes: &[u8]) -> Result<(), AllocError>
     ensures { MatchResult result (λ _. out.new.items ≡ map rows.plain bytes.now) (λ _. out.new.items ≡ []) }
 {
@@ -245,7 +245,7 @@ fn set_plain(out: &mut Vec<u8>, bytes: &[u8]) -> Result<(), AllocError>
     put
 }
 
-/// Takes so many bytes off the front.
+/// Removes this many bytes from the front.
 fn drop_front(held: &mut Vec<u8>, count: usize)
     requires { count ≤ vec_len held.old }
     ensures items { held.new.items ≡ drop count held.old.items }
@@ -254,22 +254,22 @@ fn drop_front(held: &mut Vec<u8>, count: usize)
     held.drain(..count);
 }
 
-/// A writer to a screen that may not be read for long, as a terminal after Ctrl-S or a full pipe. No write and no flush waits
-/// longer than a moment. Rows are handed on as far as they are taken, and the others wait. Where too many wait, the older
-/// half is left out, by whole rows, and a row of two points stands in their place. Whatever is written, from wherever it
-/// came, each byte that is handed on is a newline or printable ASCII: so no terminal obeys it.
+/// A writer to a screen that may not be read for long, such as a terminal after Ctrl-S or a full pipe. No write or flush waits
+/// longer than a moment. Rows are handed on as far as they are taken, and the others wait. If too many wait, the older half is
+/// left out, by whole rows, and a row of two points replaces it. Whatever is written, wherever it came from, each byte handed
+/// on is a newline or printable ASCII: so no terminal obeys it.
 #[derive(Drop)]
 pub struct Screen<O: Outlet> {
     outlet: O,
     /// Rows whose writing has begun.
     begun: Vec<u8>,
-    /// How many bytes of them are taken.
+    /// How many bytes of those rows are taken.
     done: usize,
-    /// What was written since.
+    /// The bytes that were written since.
     waits: Vec<u8>,
-    /// Whether the rows before these are left out.
+    /// Whether the rows before the waiting ones are left out.
     lacks: bool,
-    /// Whether it wasn't left alone when it was last handed something.
+    /// Whether the screen wasn't left alone when it was last handed something.
     takes: bool,
     log: RowLog,
     ghost within: { done ≤ vec_len begun },
@@ -283,7 +283,7 @@ pub struct Screen<O: Outlet> {
 impl<O: Outlet> Screen<O> {
     ghost use Rattle.machine.specs.Screens.{shown_of, text_of, written_of};
 
-    /// A screen over a stream that has taken nothing yet.
+    /// Returns a screen over a stream that has taken nothing yet.
     pub fn new(alloc: Global, outlet: O) -> Result<Screen<O>, AllocError>
     where
         O: Drop,
@@ -303,7 +303,7 @@ impl<O: Outlet> Screen<O> {
         })
     }
 
-    /// What was written to it, which clauses alone read.
+    /// Returns what was written to the screen, which only clauses read.
     pub fn written(&self) -> Written
         ensures { text_of result ≡ written_of self.now }
     {
@@ -313,7 +313,7 @@ impl<O: Outlet> Screen<O> {
         }
     }
 
-    /// Hands on a piece of what has begun, and tells how many bytes were taken within so many milliseconds.
+    /// Hands on a piece of the begun rows, and returns how many bytes were taken within this many milliseconds.
     fn hand_piece(&mut self, wait: u64) -> io::Result<usize>
         ensures { written_of self.new ≡ written_of self.old }
     {
@@ -322,8 +322,8 @@ impl<O: Outlet> Screen<O> {
         Ok(count)
     }
 
-    /// Hands on a piece of what has begun, and tells whether to go on. Where nothing is taken it is waited for, as long as
-    /// there is patience.
+    /// Hands on a piece of the begun rows, and returns whether to go on. If nothing is taken, waits as long as there is
+    /// patience.
     fn hand_patiently(&mut self, patience: &mut u8) -> io::Result<bool>
         ensures { written_of self.new ≡ written_of self.old }
     {
@@ -343,7 +343,7 @@ impl<O: Outlet> Screen<O> {
         Ok(true)
     }
 
-    /// Hands on what has begun, as far as it is taken.
+    /// Hands on the begun rows, as far as they are taken.
     fn hand_on(&mut self) -> io::Result<()>
         ensures { written_of self.new ≡ written_of self.old }
     {
@@ -359,7 +359,7 @@ impl<O: Outlet> Screen<O> {
         Ok(())
     }
 
-    /// Begins the writing of the rows that wait, where all that had begun is taken.
+    /// Begins writing the rows that wait, if all begun rows are taken.
     fn begin(&mut self) -> io::Result<()>
         ensures { written_of self.new ≡ written_of self.old }
     {
@@ -375,7 +375,7 @@ impl<O: Outlet> Screen<O> {
         Ok(())
     }
 
-    /// Hands on what is taken now.
+    /// Hands on as much as is taken now.
     fn put(&mut self) -> io::Result<()>
         ensures { written_of self.new ≡ written_of self.old }
     {
@@ -384,7 +384,7 @@ impl<O: Outlet> Screen<O> {
         self.hand_on()
     }
 
-    /// Leaves out the older half of what waits, by whole rows.
+    /// Leaves out the older half of the waiting bytes, by whole rows.
     fn leave_out(&mut self) -> io::Result<()>
         ensures { written_of self.new ≡ written_of self.old }
     {
@@ -402,7 +402,7 @@ impl<O: Outlet> Screen<O> {
         Ok(())
     }
 
-    /// Makes room where none is left.
+    /// Makes room if none is left.
     fn make_room(&mut self) -> io::Result<()>
         ensures { written_of self.new ≡ written_of self.old }
     {
@@ -415,7 +415,7 @@ impl<O: Outlet> Screen<O> {
         Ok(())
     }
 
-    /// Hands on all that was written, and waits for the screen as any program does that ends.
+    /// Hands on everything that was written, waiting for the screen as any program does at its end.
     pub fn end(self) -> io::Result<O>
     where
         O: Drop,
@@ -443,7 +443,7 @@ impl<O: Outlet> Write for Screen<O> {
 
     ghost contents = { λ screen. Some (written_of screen) };
 
-    /// Takes what there is room for.
+    /// Takes as many bytes as there is room for.
     fn write(&mut self, bytes: &[u8]) -> io::Result<usize> {
         self.make_room()?;
         let count = bytes.len().min(ROOM - self.waits.len());
@@ -451,7 +451,7 @@ impl<O: Outlet> Write for Screen<O> {
         Ok(count)
     }
 
-    /// Hands on what is taken now. What isn't waits until the next flush.
+    /// Hands on as much as is taken now. The rest waits until the next flush.
     fn flush(&mut self) -> io::Result<()>
         ensures bytes { Keeps (Some (written_of self.old)) (Some (written_of self.new)) }
         ensures held { IsHeld O.taken self.new }

@@ -1,4 +1,4 @@
-//! The link of a match on loopback.
+//! A match's link on loopback.
 
 ghost use Rattle.std.specs.Prelude.{◌≤◌, length, IfOk, IfSome};
 
@@ -9,10 +9,10 @@ use std::io;
 use std::net::{Ipv4Addr, Net, SocketAddr, SocketAddrV4};
 use wire::MessageBytes;
 
-/// How many datagrams of others than the stations are passed over before one counts as lost.
+/// How many datagrams from strangers are skipped before one counts as lost.
 const MOST_STRANGERS: usize = 256;
 
-/// The other two stations.
+/// Returns the other two stations.
 fn others(station: Asker) -> [Asker; 2] {
     match station {
         Asker::A => [Asker::B, Asker::Board],
@@ -21,13 +21,13 @@ fn others(station: Asker) -> [Asker; 2] {
     }
 }
 
-/// A socket of a port of its own.
+/// Opens a socket at a port of its own.
 fn port(net: &impl Net) -> io::Result<Port> {
     let anywhere = SocketAddrV4::new(Ipv4Addr::LOCALHOST, 0);
     Port::new(net, SocketAddr::V4(anywhere))
 }
 
-/// A station's socket, and how many datagrams were sent to it that it hasn't received.
+/// A station's socket, and how many datagrams that were sent to it haven't been received.
 #[derive(Drop)]
 struct Inbox {
     port: Port,
@@ -40,12 +40,13 @@ impl Inbox {
         Ok(Inbox { port, under_way: 0 })
     }
 
-    /// How long its next datagram is waited for: not at all where none is under way.
+    /// Returns how long to wait for the next datagram: not at all if none is under way.
     fn wait(&self, longest: u64) -> u64 {
         if self.under_way > 0 { longest } else { 0 }
     }
 
-    /// Its next datagram, and where it came from. Where none comes in time, none is under way any more.
+    /// Receives the next datagram, and returns its length and its sender's address. If none comes in time, none is under way
+    /// any more.
     fn receive(&mut self, buffer: &mut [u8], longest: u64) -> io::Result<(usize, SocketAddr)>
         ensures { IfOk result (λ came. came.0 ≤ length buffer.old) }
     {
@@ -58,7 +59,7 @@ impl Inbox {
     }
 }
 
-/// An inbox on loopback for each station, and how many of the next datagrams are dropped.
+/// An inbox on loopback for each station, and how many of the next datagrams to drop.
 #[derive(Drop)]
 struct Ports {
     a: Inbox,
@@ -68,7 +69,7 @@ struct Ports {
 }
 
 impl Ports {
-    /// The inbox of a station.
+    /// Returns the inbox of a station.
     fn of(&self, station: Asker) -> &Inbox {
         match station {
             Asker::A => &self.a,
@@ -77,7 +78,7 @@ impl Ports {
         }
     }
 
-    /// The same, to change it.
+    /// Returns the inbox of a station, to change it.
     fn at(&mut self, station: Asker) -> &mut Inbox {
         match station {
             Asker::A => &mut self.a,
@@ -94,7 +95,7 @@ impl Ports {
         Ok(())
     }
 
-    /// Whether this is the address of a station.
+    /// Whether this is the address of this station.
     fn is_of(&self, station: Asker, address: SocketAddr) -> bool {
         match self.of(station).port.address() {
             Ok(own) => own == address,
@@ -102,7 +103,7 @@ impl Ports {
         }
     }
 
-    /// The length of the next datagram for a station, if it comes from one of the other two.
+    /// Receives the next datagram for a station, and returns its length if it comes from one of the other two.
     fn receive(&mut self, station: Asker, buffer: &mut [u8], wait: u64) -> io::Result<Option<usize>>
         ensures { IfOk result (λ came. IfSome came (λ count. count ≤ length buffer.old)) }
     {
@@ -117,7 +118,7 @@ impl Ports {
         }
     }
 
-    /// The same, where those of strangers are passed over.
+    /// Receives the next datagram for a station as `receive` does, skipping those of strangers.
     fn take(&mut self, station: Asker, buffer: &mut [u8], wait: u64) -> io::Result<Option<usize>>
         ensures { IfOk result (λ came. IfSome came (λ count. count ≤ length buffer.old)) }
     {
@@ -150,7 +151,7 @@ pub struct Sockets {
 }
 
 impl Sockets {
-    /// Three sockets, each of a port of its own, of which the first `to_drop` datagrams are dropped.
+    /// Opens three sockets, each at a port of its own, which drop the first `to_drop` datagrams.
     pub fn new(net: &impl Net, to_drop: u16) -> io::Result<Sockets> {
         let a = Inbox::new(net)?;
         let b = Inbox::new(net)?;
@@ -178,7 +179,7 @@ impl Link for Sockets {
         self.log = self.log.sent(Receivers::ToAll, bytes);
     }
 
-    /// It goes to both others, as what is sent does.
+    /// A reply goes to both others, as any datagram does.
     fn reply(&mut self, bytes: &MessageBytes) {
         self.ports.send(self.turn, bytes);
         self.log = self.log.sent(Receivers::ToOne, bytes);

@@ -4,10 +4,10 @@ use libc::net::{POLLIN, poll};
 use libc::types::pollfd;
 use std::os::fd::RawFd;
 
-/// What is passed over by a wait.
+/// The descriptor that a wait ignores.
 pub const NO_DESCRIPTOR: RawFd = -1;
 
-/// What ends a wait for datagrams besides: a keyboard at which something was typed, and a page at which somebody came or asks.
+/// What else ends a wait for datagrams: a keyboard at which something was typed, and a page at which somebody came or asks.
 #[derive(Clone, Copy)]
 pub struct WaitEnds {
     pub keyboard: Option<RawFd>,
@@ -15,14 +15,14 @@ pub struct WaitEnds {
 }
 
 impl WaitEnds {
-    /// Nothing does.
+    /// Nothing else ends a wait.
     pub const NONE: WaitEnds = WaitEnds {
         keyboard: None,
         page: None,
     };
 }
 
-/// What asks whether a descriptor can be read.
+/// Returns the request that asks whether a descriptor can be read.
 fn reads_of(descriptor: RawFd) -> pollfd {
     pollfd {
         fd: descriptor,
@@ -31,14 +31,15 @@ fn reads_of(descriptor: RawFd) -> pollfd {
     }
 }
 
-/// What may be read behind a wait. Where the wait failed all may be: so whoever waits reads it, and no wait ends at once for ever.
+/// What may be read after a wait. If the wait failed, all may be: so the waiting station reads it, and no wait ends at once
+/// for ever.
 #[derive(Clone, Copy)]
 pub struct Ready {
     pub socket: bool,
     pub page: bool,
 }
 
-/// Waits until a socket or one of these can be read, so many milliseconds at most, and tells which may be.
+/// Waits at most `limit` milliseconds until the socket or one of these ends can be read, and returns which may be.
 pub fn wait_at(socket: RawFd, ends: WaitEnds, limit: u64) -> Ready {
     let keyboard = ends.keyboard.unwrap_or(NO_DESCRIPTOR);
     let page = ends.page.unwrap_or(NO_DESCRIPTOR);

@@ -17,11 +17,11 @@ use Rattle.seal.specs.Opening.{GivenWasBrought, WasBrought, came_open, opening, 
 use Rattle.links.specs.Passed.{Passed, Sent, Came}
 use Rattle.links.specs.declared.link.Receivers.{Receivers}
 
--- one more
+-- one more item in the log
 pub opening_more : (ring : Ring) (carried : List Passed) (p : Passed) → opening ring (carried ++ p ∷ []) ≡ opening ring carried ++ opening_of ring p
 opening_more ring carried p = flat_map-append (opening_of ring) carried (p ∷ []) ∙ ap (λ (l : List Passed). opening ring carried ++ l) (append-nil (opening_of ring p))
 
--- a message that was sent
+-- one more message that was sent
 pub sent_more : (to : Receivers) (ring : Ring) (receipts : Receipts) (old new : List Passed) (m : List ℕ) (sent : TaggedMessage)
     → length m ≡ 48 → sent ≡ outgoing ring receipts m
     → new ≡ old ++ Sent to (bytes_of sent) ∷ [] → opening ring new ≡ opening ring old ++ Sent to m ∷ []
@@ -29,7 +29,7 @@ sent_more to ring receipts old new m sent h e is =
     ap (opening ring) is ∙ opening_more ring old (Sent to (bytes_of sent))
     ∙ ap (λ (l : List ℕ). opening ring old ++ Sent to l ∷ []) (ap (λ (t : TaggedMessage). take 48 (bytes_of t)) e ∙ front_outgoing (kept_for receipts m) ring m h)
 
--- by a seal of a list bytes open where the test of each says so
+-- bytes open by a list of seals if the test by one of them says so
 abbrev any_test : List ℕ → List ℕ → List (List ℕ) → Bool
 any_test front bytes seals = list_any (λ seal. bytes_eq bytes (sealed seal front)) seals
 
@@ -46,7 +46,7 @@ some_opens [] m bytes e = absurd (cc)
 some_opens (s ∷ seals) m bytes e =
     by_first s seals m bytes (bytes_eq bytes (sealed s m)) refl (λ no. some_opens seals m bytes (rw no at e))
 
--- by one seal more
+-- one more seal in the list
 pub before_or_last : (seals : List (List ℕ)) (s m bytes : List ℕ) → IsFormBy (seals ++ s ∷ []) m bytes → IsFormBy seals m bytes ⊎ IsSealed s m bytes
 before_or_last [] s m bytes (zero, is) = let one : is.0 ≡ s = cc in inr (subst (λ (l : List ℕ). IsSealed l m bytes) one is.2)
 before_or_last [] s m bytes (suc i, is) = absurd (cc)
@@ -69,11 +69,11 @@ opens_some (s ∷ seals) m bytes zero seal there e =
 opens_some (s ∷ seals) m bytes (suc i) seal there e =
     ap (λ (b : Bool). bytes_eq bytes (sealed s m) || b) (opens_some seals m bytes i seal there e) ∙ any_true (bytes_eq bytes (sealed s m))
 
--- what opens has its message in front
+-- bytes that open begin with their message
 pub front_of : (seals : List (List ℕ)) (m bytes : List ℕ) → length m ≡ 48 → IsFormBy seals m bytes → take 48 bytes ≡ m
 front_of seals m bytes h is = front is.1.0 m bytes h is.1.2
 
--- the number of its sender is where it is in the message
+-- the sender's number is at the same index in the bytes as in the message
 pub sender_before : (seals : List (List ℕ)) (m bytes : List ℕ) → length m ≡ 48 → IsFormBy seals m bytes → slice_index bytes 12 ≡ sender_in m
 sender_before seals m bytes h is = sym (get_or-take 48 bytes 12 0 (omega arith)) ∙ ap (λ (l : List ℕ). slice_index l 12) (front_of seals m bytes h is)
 
@@ -99,14 +99,14 @@ open_form ring bytes t =
     let found = some_opens (seals_by ring (take 48 bytes)) (untagged bytes) bytes fine.1 in
     (found.0, (found.1.0, found.1.1, whole found.1.0 bytes fine.0 found.1.2))
 
--- what opens has a message in front
+-- bytes that open begin with a message
 open_size : (ring : Ring) (bytes : List ℕ) → opens ring bytes ≡ true → length (take 48 bytes) ≡ 48
 open_size ring bytes t =
     let fine = each_of (has_size bytes) _ t in
     let size = long bytes fine.0 in
     length-take-le 48 bytes (omega (arith, size))
 
--- bytes that are a message's sealed form open as it
+-- the sealed form of a message opens as that message
 pub opens_as : (ring : Ring) (m bytes : List ℕ) → length m ≡ 48 → IsForm ring m bytes → opening_of ring (Came bytes) ≡ Came m ∷ []
 opens_as ring m bytes h is =
     ap (λ (b : Bool). came_open b bytes) (is_open ring m bytes h is) ∙ ap (λ (l : List ℕ). Came l ∷ []) (front_of (seals_by ring m) m bytes h is)
@@ -115,7 +115,7 @@ never : (b : Bool) → (b ≡ true → ⊥) → b ≡ false
 never true n = absurd (n refl)
 never false n = refl
 
--- what tells of bytes that they are a message's sealed form, where they are, tells whether they open
+-- a test that tells whether bytes are the sealed form of a message tells whether they open
 pub tells_open : (b : Bool) (ring : Ring) (m bytes : List ℕ) → length m ≡ 48 → (b ≡ true → IsForm ring m bytes)
     → ((n : List ℕ) → length n ≡ 48 → IsForm ring n bytes → b ≡ true) → b ≡ opens ring bytes
 tells_open true ring m bytes h only each = sym (is_open ring m bytes h (only refl))
@@ -125,11 +125,11 @@ tells_open false ring m bytes h only each = sym (never (opens ring bytes) (λ t.
 closed : (b : Bool) (bytes : List ℕ) → (b ≡ true → ⊥) → came_open b bytes ≡ []
 closed b bytes n = grind arith
 
--- bytes that are no message's sealed form open as nothing
+-- bytes that aren't the sealed form of any message open as nothing
 pub opens_not : (ring : Ring) (bytes : List ℕ) → ((m : List ℕ) → length m ≡ 48 → IsForm ring m bytes → ⊥) → opening_of ring (Came bytes) ≡ []
 opens_not ring bytes none = closed (opens ring bytes) bytes (λ t. none (take 48 bytes) (open_size ring bytes t) (open_form ring bytes t))
 
--- one that came and opens, and one that doesn't
+-- one more datagram that came and opens, or doesn't
 pub came_more : (ring : Ring) (old new : List Passed) (m bytes : List ℕ) → length m ≡ 48 → IsForm ring m bytes → new ≡ old ++ Came bytes ∷ []
     → opening ring new ≡ opening ring old ++ Came m ∷ []
 came_more ring old new m bytes h e is =
@@ -140,11 +140,11 @@ pub came_none : (ring : Ring) (old new : List Passed) (bytes : List ℕ) → ((m
 came_none ring old new bytes none is =
     ap (opening ring) is ∙ opening_more ring old (Came bytes) ∙ ap (λ (l : List Passed). opening ring old ++ l) (opens_not ring bytes none) ∙ append-nil (opening ring old)
 
--- one more was brought before
+-- what was brought stays brought with one more item in the log
 later : (ring : Ring) (p : Passed) (carried : List Passed) (m : List ℕ) → WasBrought ring carried m → WasBrought ring (p ∷ carried) m
 later ring p carried m h = (h.0, h.1, h.2, (suc h.3.0, h.3.1))
 
--- bytes that came first open, or they don't
+-- the first bytes that came open, or they don't
 came_first : (ring : Ring) (bytes : List ℕ) (carried : List Passed) (m : List ℕ) → ((i : ℕ) → slice_get (opening ring carried) i ≡ Some (Came m) → WasBrought ring carried m)
     → (b : Bool) → opens ring bytes ≡ b → (i : ℕ) → slice_get (came_open b bytes ++ opening ring carried) i ≡ Some (Came m) → WasBrought ring (Came bytes ∷ carried) m
 came_first ring bytes carried m rest true t zero e =

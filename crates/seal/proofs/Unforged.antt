@@ -7,7 +7,7 @@ use Rattle.wire.proofs.MessageLemmas.{message_once, message_body_length}
 use Rattle.seal.proofs.SealedForms.{front}
 use Rattle.seal.specs.Unforged.{OpenedWasSent}
 
--- what stands at a place of a list of messages is one
+-- each item of a list of messages is a message
 message_at : (xs : List Message) (i : ℕ) (n : Message) → All IsMessage xs → slice_get xs i ≡ Some n → IsMessage n
 message_at [] i n fine e = absurd (cc)
 message_at (x ∷ xs) zero n fine e = let same : x ≡ n = cc in subst IsMessage same (fine 0 x (omega arith))

@@ -1,4 +1,4 @@
--- What a log of sealed datagrams tells.
+-- What a log of sealed datagrams records.
 use Rattle.std.specs.Prelude.{List, [], ◌∷◌, ◌++◌, take}
 use Rattle.links.specs.Passed.{Passed, Sent, Came}
 use Rattle.seal.specs.Tagged.{bytes_of}

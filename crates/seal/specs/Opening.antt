@@ -6,12 +6,12 @@ use Rattle.seal.specs.Sealed.{has_size, sealed, untagged}
 use Rattle.seal.specs.declared.ring.Ring.{Ring}
 use Rattle.links.specs.Passed.{Passed, Sent, Came}
 
--- the bytes are the sealed form of a message, which is their front, by a seal of who sent it: behind it they may have a receipt
+-- the bytes are the sealed form of their first 48, a message, by a seal of its sender, with a receipt or without
 abbrev pub opens : Ring → List ℕ → Bool
 opens ring bytes =
     has_size bytes && list_any (λ seal. bytes_eq bytes (sealed seal (untagged bytes))) (seals_by ring (take 48 bytes))
 
--- of bytes that came the message, where they open, and nothing where they don't
+-- the message of bytes that came, if they open, and nothing otherwise
 abbrev pub came_open : Bool → List ℕ → List Passed
 came_open true bytes = Came (take 48 bytes) ∷ []
 came_open false bytes = []
@@ -23,7 +23,7 @@ opening_of ring (Came bytes) = came_open (opens ring bytes) bytes
 abbrev pub opening : Ring → List Passed → List Passed
 opening ring carried = flat_map (opening_of ring) carried
 
--- bytes that were brought, of which this message is the opening
+-- bytes were brought whose opening is this message
 abbrev pub WasBrought : Ring → List Passed → List ℕ → Type 0
 WasBrought ring carried message =
     (bytes : List ℕ) × (length message ≡ 48) × IsForm ring message bytes

@@ -1,4 +1,4 @@
--- A message with its receipt and its tags, as bytes: in a log alone, since no peer is sent them all.
+-- A message with its receipt and all its tags, as bytes: only in a log, since no peer is sent all of them.
 use Rattle.std.specs.Prelude.{ℕ, List, ◌++◌}
 use Rattle.std.specs.List.{flat_map}
 use Rattle.seal.specs.Sealed.{covered}

@@ -1,2 +1,2 @@
--- What serves private functions and proofs only.
+-- For private functions and proofs only.
 pub mod Hashers

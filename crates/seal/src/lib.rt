@@ -1,4 +1,4 @@
-//! Datagrams that only those make who have the match's key and its sheet, and a link that takes no others.
+//! Datagrams that only holders of the match's key and sheet can make, and a link that takes no others.
 #![tactic(auto)]
 
 mod carrier;

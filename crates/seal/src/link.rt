@@ -13,7 +13,7 @@ use crate::ring::Ring;
 use links::{DatagramBuffer, Link, PeerLink, Taken};
 use wire::{MessageBytes, SIZE};
 
-/// A message with this tag for whoever is sent it.
+/// Returns a message with this receipt as its tag for every peer.
 fn handed_back(message: &MessageBytes, receipt: Tag) -> TaggedMessage
     ensures { result ≡ laws.handed_back message.now receipt }
 {
@@ -24,7 +24,7 @@ fn handed_back(message: &MessageBytes, receipt: Tag) -> TaggedMessage
     }
 }
 
-/// What goes out for a message: with the receipt that is kept for it, if there is one, in place of the station's own tags.
+/// Returns what is sent for a message: with the receipt that is kept for it, if any, instead of the station's own tags.
 fn outgoing(ring: &Ring, receipts: &Receipts, message: &MessageBytes) -> TaggedMessage
     ensures { result ≡ laws.outgoing ring.now receipts.now message.now }
 {
@@ -34,7 +34,7 @@ fn outgoing(ring: &Ring, receipts: &Receipts, message: &MessageBytes) -> TaggedM
     }
 }
 
-/// Keeps the receipt in bytes that opened, where they have one and the station keeps it.
+/// Keeps the receipt in bytes that opened, if they have one and the station keeps receipts.
 fn keep(ring: &Ring, receipts: &mut Receipts, bytes: &[u8])
     ensures { laws.IsKeptOf ring.now receipts.old receipts.new bytes.now }
 {
@@ -48,9 +48,9 @@ fn keep(ring: &Ring, receipts: &mut Receipts, bytes: &[u8])
     receipts.keep(&message, &receipt);
 }
 
-/// A link that seals what is sent for each peer, and opens what comes by the seal of who sent it. What doesn't open is told as
-/// such, and nothing of it is handed on: so what is taken was opened, whatever the carrier brings. At a board with keys for each pair
-/// it keeps the receipts of desks' votes, and a vote for which it has one goes out with that.
+/// A link that seals what it sends for each peer, and opens what comes by its sender's seal. It reports what doesn't open as
+/// such and passes none of it on: so whatever is taken was opened, whatever the carrier brings. At a board with a key for each
+/// pair it keeps the receipts of desks' votes, and sends a vote with its receipt where it has one.
 #[derive(Drop)]
 pub struct Sealed<R> {
     carrier: R,
@@ -59,7 +59,7 @@ pub struct Sealed<R> {
 }
 
 impl<R: SealedCarrier> Sealed<R> {
-    /// A link over a carrier, with the seals of a station and the receipts that it keeps.
+    /// Returns a link over a carrier, with a station's seals and the receipts that it keeps.
     pub fn new(carrier: R, ring: Ring, receipts: Receipts) -> Sealed<R>
         ensures carrier { result.carrier ≡ carrier }
         ensures ring { result.ring ≡ ring }
@@ -72,7 +72,7 @@ impl<R: SealedCarrier> Sealed<R> {
         }
     }
 
-    /// What carries its sealed datagrams.
+    /// Returns the carrier of its sealed datagrams.
     pub fn carrier(&self) -> &R
         ensures { result.now ≡ self.now.carrier }
     {

@@ -1,4 +1,4 @@
-//! What a board with keys for each pair keeps of desks' votes, to hand them back: the receipt that came with each.
+//! The receipts that came with desks' votes: a board with a key for each pair keeps them, to hand the votes back.
 
 ghost use Rattle.std.specs.Prelude.{◌≡◌, ◌≤◌, ◌+◌, List, [], IfOk, if◌then◌else◌};
 ghost use Rattle.indexmap.specs.IndexMap.{spare};
@@ -10,13 +10,13 @@ use indexmap::IndexMap;
 use std::alloc::{AllocError, Global};
 use wire::MessageBytes;
 
-/// How many receipts of a desk are kept: a desk's file has no more votes.
+/// How many receipts of each desk are kept: a desk's file has no more votes.
 pub const MOST_RECEIPTS: usize = 16_384;
 
-/// A desk's messages, each with the receipt that came with it first.
+/// A desk's messages, each with the first receipt that came with it.
 type Kept = IndexMap<MessageBytes, Tag>;
 
-/// Keeps the receipt of a message that has none yet, where there is room.
+/// Keeps the receipt of a message that has none yet, if there is room.
 fn keep_in(kept: &mut Kept, message: &MessageBytes, receipt: &Tag)
     ensures kept { laws.IsKeptIn kept.old kept.new message.now receipt.now }
     ensures room { spare kept.old ≤ spare kept.new + 1 }
@@ -26,13 +26,13 @@ fn keep_in(kept: &mut Kept, message: &MessageBytes, receipt: &Tag)
     }
 }
 
-/// The receipts that a board keeps: those of desk A, and those of desk B.
+/// The receipts that a board keeps: desk A's, and desk B's.
 pub struct Receipts {
     a: Kept,
     b: Kept,
 }
 
-// one step for whoever lets it go, in place of one a part
+// one drop step instead of one per field
 impl Drop for Receipts {
     fn drop(self) {
         let Receipts { a: _, b: _ } = self;
@@ -40,7 +40,8 @@ impl Drop for Receipts {
 }
 
 impl Receipts {
-    /// None yet, and room for those that a station with this ring keeps: 16,384 of each desk at a board with keys for each pair.
+    /// Returns no receipts, with room for those that a station with this ring keeps: 16,384 of each desk at a board with a key
+    /// for each pair.
     pub fn of(alloc: Global, ring: &Ring) -> Result<Receipts, AllocError>
         ensures none { IfOk result (λ receipts. (receipts.a.entries ≡ []) × (receipts.b.entries ≡ [])) }
         ensures room { IfOk result (λ receipts. (laws.room_of ring.now ≤ spare receipts.a) × (laws.room_of ring.now ≤ spare receipts.b)) }
@@ -56,7 +57,7 @@ impl Receipts {
         })
     }
 
-    /// The receipt that is kept for a message.
+    /// Returns the receipt that is kept for a message.
     pub fn kept_for(&self, message: &MessageBytes) -> Option<Tag>
         ensures { result ≡ laws.kept_for self.now message.now }
     {
@@ -67,7 +68,7 @@ impl Receipts {
         }
     }
 
-    /// Keeps the receipt of a desk's message, the first that comes, where there is room.
+    /// Keeps the receipt of a desk's message, the first that comes, if there is room.
     pub fn keep(&mut self, message: &MessageBytes, receipt: &Tag)
         ensures kept { laws.IsKept self.old self.new message.now receipt.now }
         ensures room { (spare self.old.a ≤ spare self.new.a + 1) × (spare self.old.b ≤ spare self.new.b + 1) }

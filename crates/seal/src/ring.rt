@@ -1,4 +1,4 @@
-//! A station's seals, one for each of its peers, and by which of them what comes opens.
+//! A station's seals, one for each of its peers, and which of them open a datagram.
 
 ghost use Rattle.std.specs.Prelude.{◌≡◌, ◌<◌, ◌≤◌, ◌+◌, ◌++◌, [], ℕ, List, drop, false, if◌then◌else◌, length, nat_eq, slice_get, take, true};
 ghost use Rattle.arrayvec.specs.ArrayVec.{array_vec_len};
@@ -13,19 +13,19 @@ use arrayvec::ArrayVec;
 use links::{DatagramBuffer, ROOM};
 use wire::MessageBytes;
 
-/// How many peers a station has at most: a desk has the other one and four boards.
+/// How many peers a station has at most: a desk has the other desk and four boards.
 pub const MOST_PEERS: usize = 5;
 
-/// Where the number of its sender stands in a message.
+/// The index of the sender's number in a message.
 pub const SENDER: usize = 12;
 
-/// Where the kind of a message stands in it: 1 is a vote.
+/// The index of a message's kind: 1 is a vote.
 const KIND: usize = 3;
 
 /// A sealed datagram, with a receipt or without.
 pub type SealedForm = ArrayVec<u8, 80>;
 
-/// Puts bytes behind others, where there is room.
+/// Appends bytes, where there is room.
 fn put(form: &mut SealedForm, bytes: &[u8])
     requires { array_vec_len form.old + length bytes.now ≤ 80 }
     ensures items { form.new.items ≡ form.old.items ++ bytes.now }
@@ -34,7 +34,7 @@ fn put(form: &mut SealedForm, bytes: &[u8])
     let _fits = form.try_extend_from_slice(bytes);
 }
 
-/// Puts a tag behind a message.
+/// Appends a tag.
 fn put_tag(form: &mut SealedForm, tag: &Tag)
     requires { array_vec_len form.old ≤ 64 }
     ensures items { form.new.items ≡ form.old.items ++ tag.now }
@@ -43,7 +43,7 @@ fn put_tag(form: &mut SealedForm, tag: &Tag)
     put(form, tag.as_slice());
 }
 
-/// A message, and its receipt where it has one.
+/// Returns the bytes that a tag covers: a message, and its receipt if it has one.
 fn covered_by(message: &MessageBytes, receipt: Option<Tag>) -> SealedForm
     ensures items { result.items ≡ covered message.now receipt }
     ensures len { array_vec_len result ≤ 64 }
@@ -56,7 +56,8 @@ fn covered_by(message: &MessageBytes, receipt: Option<Tag>) -> SealedForm
     form
 }
 
-/// What goes to a peer of a message with its tags: the message, its receipt but for the first peer, and the tag that is for this peer.
+/// Returns the bytes of a tagged message that go to a peer: the message, its receipt unless the peer is the first, and the
+/// peer's tag.
 pub fn form_for(peer: usize, message: &TaggedMessage) -> SealedForm
     requires { peer < 5 }
     ensures { result.items ≡ rings.form_for peer message.now }
@@ -67,7 +68,7 @@ pub fn form_for(peer: usize, message: &TaggedMessage) -> SealedForm
     form
 }
 
-/// Whether a message of who has this number opens at a station by the seal that it shares with its first peer.
+/// Whether a station opens messages from the sender of this number by the seal that it shares with its first peer.
 fn is_by_first(station: Asker, sender: u8) -> bool
     ensures { result ≡ rings.is_by_first station sender }
 {
@@ -77,8 +78,8 @@ fn is_by_first(station: Asker, sender: u8) -> bool
     }
 }
 
-/// Puts the message of which these bytes are the sealed form by one of these seals into the front of a buffer, and tells whether
-/// there is one: a buffer stays where there is none.
+/// If these bytes are the sealed form of a message by one of these seals, puts the message into the front of the buffer and
+/// returns true. Otherwise the buffer stays unchanged.
 fn opened_by(seals: &[Seal], bytes: &[u8], buffer: &mut DatagramBuffer) -> bool
     ensures only { result ≡ true → rings.IsFormBy seals.now (take 48 buffer.new) bytes.now }
     ensures each { (message : List ℕ) → length message ≡ 48
@@ -93,18 +94,19 @@ fn opened_by(seals: &[Seal], bytes: &[u8], buffer: &mut DatagramBuffer) -> bool
     false
 }
 
-/// A station's seals, one that it shares with each of its peers. A desk's first peer is the other desk, the others are boards. A
-/// board's first peer is desk A, and all others are desk B.
+/// A station's seals, one shared with each of its peers. A desk's first peer is the other desk, and its others are boards. A
+/// board's first peer is desk A, and all its others are desk B.
 #[derive(Drop)]
 pub struct Ring {
     station: Asker,
     seals: [Seal; MOST_PEERS],
-    /// Whether they are of keys for each pair.
+    /// Whether each pair of stations has a key of its own.
     is_of_pairs: bool,
 }
 
 impl Ring {
-    /// The ring of a station, of the seals that it shares with its peers, and whether they are of keys for each pair.
+    /// Returns the ring of a station with the seals that it shares with its peers; `is_of_pairs` tells whether each pair has a
+    /// key of its own.
     pub fn new(station: Asker, seals: [Seal; MOST_PEERS], is_of_pairs: bool) -> Ring
         ensures { result ≡ rings.ring_of station seals is_of_pairs }
     {
@@ -115,7 +117,7 @@ impl Ring {
         }
     }
 
-    /// The same ring once more.
+    /// Returns a copy of the ring.
     pub fn copied(&self) -> Ring
         ensures { result ≡ self.now }
     {
@@ -133,7 +135,7 @@ impl Ring {
         }
     }
 
-    /// The seal that is shared with a peer.
+    /// Returns the seal that is shared with a peer.
     pub fn seal_for(&self, peer: usize) -> &Seal
         requires { peer < 5 }
         ensures { result.now ≡ rings.seal_for self.now peer }
@@ -141,7 +143,7 @@ impl Ring {
         &self.seals[peer]
     }
 
-    /// What tells whether datagrams open, and can seal none.
+    /// Returns an opener, which tells whether datagrams open but can't seal any.
     pub fn opener(&self) -> Opener
         ensures { result.ring ≡ self.now }
     {
@@ -150,21 +152,21 @@ impl Ring {
         }
     }
 
-    /// Whether this is a board's ring, of keys for each pair: then it keeps receipts.
+    /// Whether this is a board's ring with a key for each pair, so that the board keeps receipts.
     pub fn keeps_receipts(&self) -> bool
         ensures { result ≡ keeps self.now }
     {
         self.is_of_pairs && matches!(self.station, Asker::Board)
     }
 
-    /// Whether a message is a desk's vote, and the desk gives boards a receipt of it.
+    /// Whether this desk gives boards a receipt of the message: it is a vote, and each pair has a key of its own.
     fn gives_receipt(&self, message: &MessageBytes) -> bool
         ensures { result ≡ rings.gives_receipt self.now message.now }
     {
         self.is_of_pairs && !matches!(self.station, Asker::Board) && message[KIND] == 1
     }
 
-    /// A message with its tags, one for each peer, and with the receipt that a desk gives boards of a vote.
+    /// Returns a message with its tags, one for each peer, and with the receipt that a desk gives boards of a vote.
     pub fn tagged(&self, message: &MessageBytes) -> TaggedMessage
         ensures { result ≡ rings.tagged self.now message.now }
     {
@@ -190,7 +192,7 @@ impl Ring {
         }
     }
 
-    /// The seals by which a message of who has this number opens.
+    /// Returns the seals that open messages from the sender of this number.
     fn seals_of(&self, sender: u8) -> &[Seal]
         ensures { result.now ≡ rings.seals_of self.now sender }
     {
@@ -202,8 +204,8 @@ impl Ring {
         }
     }
 
-    /// Puts the message of which these bytes are the sealed form, by a seal of who sent it, into the front of a buffer, and tells
-    /// whether there is one: a buffer stays where there is none.
+    /// If these bytes are the sealed form of a message by a seal of its sender, puts the message into the front of the buffer
+    /// and returns true. Otherwise the buffer stays unchanged.
     pub fn opened(&self, bytes: &[u8], buffer: &mut DatagramBuffer) -> bool
         ensures only { result ≡ true → rings.IsForm self.now (take 48 buffer.new) bytes.now }
         ensures each { (message : List ℕ) → length message ≡ 48
@@ -217,7 +219,7 @@ impl Ring {
     }
 }
 
-/// What tells whether bytes are sealed with a ring's seals, and can seal nothing.
+/// Tells whether bytes are sealed with a ring's seals, but can't seal any.
 #[derive(Drop)]
 pub struct Opener {
     ring: Ring,

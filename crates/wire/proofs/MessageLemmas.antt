@@ -1,4 +1,4 @@
--- What the bytes of a message are made of, and that no other message has them.
+-- The parts of a message's bytes, and that no other message has the same bytes.
 use Rattle.std.proofs.Common.{◌≡◌, ◌∙◌, ◌<◌, ℕ, List, ◌++◌, drop, length, replicate, Option, Some, None, arith, refl, sym, ap, slice_index, Bool, false, true≢false, IsTrue, ◌↔◌}
 use Rattle.std.specs.Option.{option_map}
 use Rattle.std.proofs.lemmas.Nat.{from_be_bytes-to_be_bytes_2, from_be_bytes-to_be_bytes_4}
@@ -33,13 +33,13 @@ pub message_body_length : (m : Message) → length (body m) ≡ 24
 message_body_length (Vote v) = code_length v.entry
 message_body_length (Ask q) = refl
 
--- behind its head stand the body and zeros
+-- after a message's head come the body and zeros
 pub body_part : (game : ℕ) (m : Message) → body_in (written game m) ≡ body m
 body_part game m =
     let long = message_body_length m in
     take-append-le 24 (body m) (replicate 5 0) (omega (arith, long)) ∙ take_all 24 (body m) (omega (arith, long))
 
--- bytes that end before a body does have no entry's code there
+-- bytes too short for a body have no entry's code there
 pub short_body : (bytes : List ℕ) (e : Entry) → length bytes < 43 → body_in bytes ≡ code e → ⊥
 short_body bytes e short same =
     let rest = length-drop 19 bytes in
@@ -87,11 +87,11 @@ same_desk d e h = let both = sym (desk_back d) ∙ ap desk_numbered h ∙ desk_b
 same_asker : (d e : Asker) → asker_number d ≡ asker_number e → d ≡ e
 same_asker d e h = let both = sym (asker_back d) ∙ ap asker_numbered h ∙ asker_back e in cc
 
--- an answer that is none, where there is one
+-- None isn't Some
 pub not_none : {X : Type 0} {x : X} → None ≡ Some x → ⊥
 not_none h = cc
 
--- what reads each vote reads each message of that kind, and likewise for asks
+-- a reader of every vote reads every message of that kind, and so for asks
 pub vote_by_kind : (bytes : List ℕ) (o : Option AVote) → slice_index bytes 3 ≡ 1
     → ((game : ℕ) (v : AVote) → Says game bytes (Vote v) → o ≡ Some v)
     → (game : ℕ) (m : Message) → Says game bytes m → option_map Vote o ≡ Some m

@@ -1,5 +1,5 @@
-//! What a window asks: what its station asked once more, what was lost, and what comes next. It makes asks up, as anybody may:
-//! a desk answers with its own votes, whoever asks.
+//! A window's asks: its station's ask again, asks for lost votes, and asks ahead. Anybody may make up asks: a desk answers
+//! with its own votes, whoever asks.
 
 ghost use Rattle.std.specs.Prelude.{IfSome};
 ghost use Rattle.links.specs.Windows.{IsAsk};
@@ -12,7 +12,7 @@ use crate::window::Window;
 use agree_core::{Ask, Asker, DeskId, Message, Position};
 use wire::{MessageBytes, bytes_of};
 
-/// An ask for the votes of a position, in the match of this number, unless the position is full.
+/// Returns an ask for the votes of a position, in the match of this number, unless the position is full.
 pub fn ask_for(game: u64, from: Asker, at: Position) -> Option<MessageBytes>
     ensures { IfSome result (IsAsk game) }
 {
@@ -28,7 +28,7 @@ impl<L: PeerLink, C: Clock> Window<L, C> {
     ghost use Rattle.links.specs.Windows.{HandsDown, HasAsked, IsAsk, IsGrown, IsKept, IsQuietOrAsks, IsStill};
     ghost use Rattle.links.specs.declared.link.Receivers.TheVariants.{ToAll};
 
-    /// Sends an ask to who sent this desk's votes last, or to all.
+    /// Sends an ask to the peer that last sent a vote of this desk, or to all if none did.
     fn send_to_voter(&mut self, desk: DeskId, bytes: &MessageBytes)
         requires { IsAsk self.old.game bytes.now }
         ensures still { IsStill self.old self.new }
@@ -40,7 +40,7 @@ impl<L: PeerLink, C: Clock> Window<L, C> {
         }
     }
 
-    /// Asks a desk for its vote of a place, in its first round.
+    /// Asks a desk for its first-round vote at a place.
     fn ask_for_vote(&mut self, desk: DeskId, place: u32)
         ensures still { IsStill self.old self.new }
         ensures grown { IsGrown self.old.below self.new.below }
@@ -50,8 +50,8 @@ impl<L: PeerLink, C: Clock> Window<L, C> {
         }
     }
 
-    /// Asks a desk for its votes that are lacking of the places from the one on to before the other, of one block. Where many on
-    /// end are, the first stands for them.
+    /// Asks a desk for its missing first-round votes at the places `from..end`, all in one block. One ask stands for many
+    /// missing votes in a row.
     fn ask_block(&mut self, desk: DeskId, from: u32, end: u32)
         ensures still { IsStill self.old self.new }
     {
@@ -66,7 +66,7 @@ impl<L: PeerLink, C: Clock> Window<L, C> {
         }
     }
 
-    /// Asks a desk for what was lost of it: the vote of the station's position, and those of the places behind it.
+    /// Asks a desk for its lost votes: at the station's position, and at the places after it.
     fn ask_desk(&mut self, desk: DeskId, bytes: &MessageBytes, is_silent: bool)
         requires { IsAsk self.old.game bytes.now }
         ensures still { IsStill self.old self.new }
@@ -87,7 +87,7 @@ impl<L: PeerLink, C: Clock> Window<L, C> {
         }
     }
 
-    /// Hands the station's ask to all, or, where later votes are here, asks each desk for what was lost of it.
+    /// Sends the station's ask to all, or, if later votes are here, asks each desk for its lost votes.
     fn ask(&mut self, bytes: &MessageBytes, is_silent: bool)
         requires { IsAsk self.old.game bytes.now }
         ensures still { IsStill self.old self.new }
@@ -105,7 +105,7 @@ impl<L: PeerLink, C: Clock> Window<L, C> {
         }
     }
 
-    /// Says the station's ask once more.
+    /// Sends the station's ask once more.
     fn say_again(&mut self, now: u64)
         ensures kept { IsKept self.old self.new }
         ensures votes { self.new.kept ≡ self.old.kept }
@@ -119,7 +119,7 @@ impl<L: PeerLink, C: Clock> Window<L, C> {
         }
     }
 
-    /// Says the station's ask, where that is due. It answers how long a datagram is waited for.
+    /// Sends the station's ask if it is due, and returns how many milliseconds to wait for a datagram.
     fn ask_again(&mut self, wait: u64, now: u64) -> u64
         ensures kept { IsKept self.old self.new }
         ensures votes { self.new.kept ≡ self.old.kept }
@@ -136,7 +136,7 @@ impl<L: PeerLink, C: Clock> Window<L, C> {
         }
     }
 
-    /// Asks a desk for its vote of a place, in its first round, where the station hears it.
+    /// Asks a desk for its first-round vote at a place, if the station hears that desk.
     fn ask_where_heard(&mut self, desk: DeskId, place: u32)
         ensures still { IsStill self.old self.new }
         ensures grown { IsGrown self.old.below self.new.below }
@@ -146,7 +146,7 @@ impl<L: PeerLink, C: Clock> Window<L, C> {
         }
     }
 
-    /// Asks for the next block ahead, where it is time for it.
+    /// Asks for the next block ahead, if it is time.
     fn ask_ahead(&mut self)
         ensures still { IsStill self.old self.new }
         ensures grown { IsGrown self.old.below self.new.below }
@@ -157,8 +157,8 @@ impl<L: PeerLink, C: Clock> Window<L, C> {
         }
     }
 
-    /// Asks for the votes of the station's position, where it has said nothing for two seconds: so others hear that it is
-    /// there, also while it has nothing to say unasked.
+    /// Asks for the votes of the station's position if the station has sent nothing for two seconds, so that others hear that
+    /// it is there even while it has nothing to send.
     fn break_silence(&mut self, now: u64)
         ensures still { IsStill self.old self.new }
         ensures grown { IsGrown self.old.below self.new.below }
@@ -171,7 +171,7 @@ impl<L: PeerLink, C: Clock> Window<L, C> {
         }
     }
 
-    /// Asks for what it is time for. It answers how long a datagram is waited for.
+    /// Sends the asks that are due, and returns how many milliseconds to wait for a datagram.
     pub(super) fn ask_what_is_due(&mut self, wait: u64, now: u64) -> u64
         ensures kept { IsKept self.old self.new }
         ensures votes { self.new.kept ≡ self.old.kept }

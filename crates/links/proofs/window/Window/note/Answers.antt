@@ -9,7 +9,7 @@ use Rattle.links.specs.Windows.{HasAnswers, IsAsk, IsQuietAt, Windowed}
 use Rattle.links.proofs.WindowLemmas.{with_asked, with_votes}
 use Rattle.links.proofs.window.Window.note.Goals as goal
 
--- the bytes say the ask that was read, no other ask and no vote
+-- the bytes say the ask that was read
 said : (game : ℕ) (bytes : List ℕ) (read : Result Message WireFault) (m : Message) (q : Ask) → read ≡ Ok m → m ≡ Message.Ask q → Reads game bytes read
     → Says game bytes (Message.Ask q)
 said game bytes read m q is same reads = subst (Says game bytes) same (subst (Reads game bytes) is reads)
@@ -20,7 +20,7 @@ one_ask game bytes p q s t = let same = says_once game bytes (Message.Ask p) (Me
 no_vote : (game : ℕ) (bytes : List ℕ) (q : Ask) (v : Vote) → Says game bytes (Message.Ask q) → Says game bytes (Message.Vote v) → ⊥
 no_vote game bytes q v s t = let same = says_once game bytes (Message.Ask q) (Message.Vote v) s t in cc
 
--- so for a window that is open
+-- the same for an equal window
 is_ask : (w v : Windowed) (bytes : List ℕ) (q : Ask) → v ≡ w → Says w.game bytes (Message.Ask q) → IsAsk v.game bytes
 is_ask w v bytes q e s = subst (λ (x : Windowed). IsAsk x.game bytes) (sym e) (q, s.1)
 
