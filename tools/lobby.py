@@ -31,9 +31,14 @@ def scripts():
 # A sheet, of what was chosen
 
 
+# What lists have before a name, a number, and behind it: that he is the captain or keeps the wicket.
+NUMBER = re.compile(r"^[0-9]{1,2}[.)]?\s+|^[0-9]{1,2}[.)]")
+MARKS = re.compile(r"( *(\((c|vc|wk?|c ?[&/] ?wk?|wk? ?[&/] ?c)\)|[*†]))+$", re.I)
+
+
 def players(text):
-    """The names of a list: one a line, or with commas between; numbers before them are left out."""
-    names = [re.sub(r"^\d{1,2}[.)]?\s+|^\d{1,2}[.)]", "", it.strip()).strip() for it in re.split(r"[,;\t\r\n]", text)]
+    """The names of a list: one a line, or with commas between; numbers before them and marks behind them are left out."""
+    names = [MARKS.sub("", NUMBER.sub("", it.strip()).strip()).strip() for it in re.split(r"[,;\t\r\n]", text)]
     return [it for it in names if it]
 
 

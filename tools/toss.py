@@ -87,7 +87,7 @@ def main(program, side="", decision=""):
     if side not in SIDES or decision not in DECISIONS:
         sys.exit("who won it, and what they chose, as: toss home bat, or toss away field")
     try:
-        print(f"{write(program, side, decision)} won the toss, and chose to {decision}: that is in sheet.toml, for exports and pages")
+        print(f"{write(program, side, decision)} won the toss and chose to {decision}: written into sheet.toml")
     except Refused as why:
         sys.exit(f"the toss isn't written: {why}")
     except (OSError, ValueError) as why:
