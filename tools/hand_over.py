@@ -143,8 +143,9 @@ class Offer:
         except (OSError, EOFError, ValueError):
             pass
         finally:
-            it.close()
+            # (counted first: who sees it closed may come again at once)
             self.leaves(host, is_wrong)
+            it.close()
 
     def answer(self, it, end):
         """Answers whether it was a wrong try. Who hasn't the code gets a nonce alone."""
