@@ -18,7 +18,7 @@ use Rattle.live.specs.Runs.{Moment, Run, last_of, typed_in}
 use Rattle.station_texts.specs.Saying.{IsNoWord}
 use Rattle.station_texts.specs.declared.said.Said.{Said}
 
--- what is no word may be an entry's line
+-- a line that is no word may say an entry
 sort_casts : (undo quit again : Bool) (word : Option Word) → quit ≡ false → word ≡ None
     → casts (if undo then Sort.Undo else if quit then Sort.Quit else if again then Sort.Again else by_word word) ≡ true
 sort_casts undo quit again word q w = grind arith

@@ -1,4 +1,4 @@
--- Opening a file on a disk whose length was asked before.
+-- Opening a file on a disk whose length was read before.
 use Rattle.std.proofs.Common.{arith, ◌∙◌}
 use Rattle.agree_core.specs.declared.messages.DeskId.{DeskId}
 use Rattle.agree_core.specs.Books.{Rules}

@@ -51,12 +51,12 @@ module _ {B : Type 0} {g : _} {content : B → List Entry} {innings_of : B → �
     pub silent : BoardGoes content innings_of sheet k l p q a b → BoardGoes content innings_of sheet k l p q (record a { told = None }) (record b { told = None })
     silent v = record { same = v.same; goes = unsaid v.goes }
 
-    -- the same log
+    -- the log may be given by an equal one
     pub logged : {after : List Passed} → b.passed ≡ after → BoardGoes content innings_of sheet k l p q a b
         → BoardGoes content innings_of sheet k l p q a (record b { passed = after })
     logged e v = rw (← e) v
 
-  -- one call, at which the clock showed this
+  -- one call
   called : {l : Board B g} {p q : BoardTurn} {a b : Logs} (call : BoardCall) (out : List Message) → SameMatch innings_of k l → All IsMessage out
       → TurnStep sheet (game_of k) (innings_of (book_of k)) p call out q → b.passed ≡ a.passed ++ (given call ++ sends ToAll (game_of k) out) → b.typed ≡ a.typed
       → b.readings ≡ a.readings ++ reads (beat_of call) → Appends a.told b.told (shown sheet (innings_of (book_of k)) p call q)
@@ -64,7 +64,7 @@ module _ {B : Type 0} {g : _} {content : B → List Entry} {innings_of : B → �
   called call out same fine step passed types times text = record { same = same; goes = one call out fine step passed (rw (types, append-nil)) times text }
 
   module _ {turns had taken : ℕ} {memory : Memory} {ticking : Ticking} {noted : List Notice} {seen : List Sight} {a : Logs} where
-    -- it was given bytes
+    -- it was given a datagram
     pub given_to : {l : Board B g} (bytes : List ℕ) (answer : Result What BoardRefusal) {later : Memory} {heard : Ticking} {notes : List Notice}
         → IsInTime ticking → heard ≡ ticking → taken < MOST_TAKEN → is_stopped memory.telling ≡ false
         → RecallsNone (game_of k) memory.rounds bytes → SameMatch innings_of k l
@@ -76,7 +76,7 @@ module _ {B : Type 0} {g : _} {content : B → List Entry} {innings_of : B → �
         called (Given bytes answer) [] same (All-nil IsMessage)
         ((few, running, kept), (takes, refl), (λ i. in_turn content l turns had (taken + 1) (tells i) (stands i) (notices i) seen), beats) refl refl (rw append-nil) (appends_none a.told)
 
-    -- bytes came that show that a desk's file lacks lines, and its own vote went back to it
+    -- a datagram shows that a desk's file lacks lines, and the desk's own vote went back to it
     pub parted : (bytes back : List ℕ) (v : Vote) {later : Memory} {passed : Ticking} {notes : List Notice} {after : List Passed} → IsInTime ticking → passed ≡ ticking
         → taken < MOST_TAKEN → is_stopped memory.telling ≡ false → Says (game_of k) bytes (Message.Vote v) → Recalls (game_of k) memory.rounds (Message.Vote v) back
         → later ≡ memory_troubled memory (place_in bytes) Why.Anew → notes ≡ noted ++ Notice.Parted (place_in bytes) ∷ []
@@ -88,7 +88,7 @@ module _ {B : Type 0} {g : _} {content : B → List Entry} {innings_of : B → �
         ((few, running, v, says, recalls), (refl, refl), (λ i. in_turn content k turns had (taken + 1) (tells i) (stands i) (notices i) seen), beats)
         passed refl (rw append-nil) (appends_none a.told)
 
-    -- or that may show it
+    -- a datagram may show that a desk's file lacks lines, and the desk's own vote went back to it
     pub gone_back : (bytes back : List ℕ) (m : Message) {after : List Passed} → IsInTime ticking → taken < MOST_TAKEN → Says (game_of k) bytes m
         → PartsNothing (is_stopped memory.telling) m → Recalls (game_of k) memory.rounds m back → after ≡ a.passed ++ Came bytes ∷ Sent ToOne back ∷ []
         → BoardGoes content innings_of sheet k k (in_turn content k turns had taken memory ticking noted seen) (in_turn content k turns had (taken + 1) memory ticking noted seen)
@@ -97,7 +97,7 @@ module _ {B : Type 0} {g : _} {content : B → List Entry} {innings_of : B → �
         called (Recalled bytes back) [] same_here (All-nil IsMessage) ((few, m, says, nothing, recalls), (refl, refl), refl, beats)
         passed refl (rw append-nil) (appends_none a.told)
 
-    -- bytes came once it had stopped
+    -- a datagram came once the board had stopped
     pub passed_by : (bytes : List ℕ) → IsInTime ticking → taken < MOST_TAKEN → is_stopped memory.telling ≡ true → RecallsNone (game_of k) memory.rounds bytes
         → BoardGoes content innings_of sheet k k (in_turn content k turns had taken memory ticking noted seen) (in_turn content k turns had (taken + 1) memory ticking noted seen)
         a (record a { passed = a.passed ++ Came bytes ∷ [] })
@@ -115,7 +115,7 @@ module _ {B : Type 0} {g : _} {content : B → List Entry} {innings_of : B → �
         ((apart, untold), (refl, refl), (λ i. in_turn content k turns had taken (tells i) (stands i) (notices i) seen), beats)
         (rw append-nil) refl (rw append-nil) (appends_none a.told)
 
-    -- bytes came that don't open
+    -- a datagram came that doesn't open
     pub passed_over : {later : Memory} {passed : Ticking} {notes : List Notice} {after : List Passed} → IsInTime ticking → passed ≡ ticking → taken < MOST_TAKEN
         → later ≡ memory_unopened memory → notes ≡ notices_unopened memory.telling noted → after ≡ a.passed
         → BoardGoes content innings_of sheet k k (in_turn content k turns had taken memory ticking noted seen) (in_turn content k turns had (taken + 1) later passed notes seen)
@@ -160,7 +160,7 @@ module _ {B : Type 0} {g : _} {content : B → List Entry} {innings_of : B → �
         called TurnEnded [] same_here (All-nil IsMessage)
         (tt, (refl, refl), (λ i. at_turn content k (turns + 1) memory (is i) noted (sights i)), (looked, beats)) (rw append-nil) refl (rw append-nil) text
 
-  -- nothing is seen of its clock
+  -- what was seen of its clock is unchanged
   pub unread : {turns had taken : ℕ} {memory : Memory} {ticking saw : Ticking} {noted : List Notice} {seen : List Sight} {a : Logs} → saw ≡ ticking
       → BoardGoes content innings_of sheet k k (in_turn content k turns had taken memory ticking noted seen) (in_turn content k turns had taken memory saw noted seen)
       a a
@@ -185,14 +185,14 @@ module _ {B : Type 0} {g : _} {content : B → List Entry} {innings_of : B → �
     finished {later = later} {rested = rested} (Err fault) v =
         (record { last = at_turn content l to later rested notes sees; is = refl; noticed = refl; sighted = refl; goes = silent v; whole = tt }, tt)
 
-    -- turns that are over
+    -- a run of turns that are all over
     pub whole_turns : {a b : Logs} (p : BoardTurn) (r : Result (Unit {0}) E)
         (runs : BoardRuns content innings_of sheet k l a b from to memory ticking noted notes seen sees r) → OnOk r (runs.last ≡ p)
         → OnOk r (BoardGoes content innings_of sheet k l (at_turn content k from memory ticking noted seen) p (known_where r a) (known_where r b))
     whole_turns {a = a} {b = b} p (Ok done) runs e = subst (λ (p : BoardTurn). BoardGoes content innings_of sheet k l (at_turn content k from memory ticking noted seen) p a b) e runs.goes
     whole_turns p (Err fault) runs e = tt
 
-  -- what is shown at first comes before a run, and a reading of the clock
+  -- what is printed first comes before the run, with a reading of the clock
   shown_first : {E : Type 0} {noted : List Notice} {seen : List Sight} (a : Logs) {readings : List ℕ} (r : Result (Unit {0}) E) (t : Option (List ℕ)) (text : List ℕ) (now : ℕ)
       → readings ≡ a.readings ++ now ∷ [] → Appends a.told t text
       → BoardGoes content innings_of sheet k k (at_turn content k 0 unheard unticked noted seen) (at_turn content k 0 unheard unticked noted seen)
@@ -223,7 +223,7 @@ module _ {B : Type 0} {g : _} {content : B → List Entry} {innings_of : B → �
     });
   }
 
-  -- or that failed
+  -- printing or handing over at the beginning failed
   pub not_begun : {E failed : Type 0} (a : Logs) {readings : List ℕ} {t : Option (List ℕ)} {to : ℕ} {noted : List Notice} {seen sees : List Sight}
       (r : Result (Unit {0}) E) (fault : E) (now : ℕ) → IsErrAnd r (λ e. e ≡ fault) → readings ≡ a.readings ++ now ∷ []
       → (sees ≡ seen ++ sight_at content innings_of sheet k None ∷ []) ⊎ ((sees ≡ seen) × failed)

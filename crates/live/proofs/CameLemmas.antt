@@ -1,4 +1,4 @@
--- What is told of a message that was read is what is told of its bytes.
+-- What is told of a message, as read, is what is told of its bytes.
 use Rattle.std.proofs.Common.{◌≡◌, ◌∙◌, ℕ, List, Option, Some, Result, Ok, refl, sym, ap}
 use Rattle.notation.specs.declared.entry.Entry.{Entry}
 use Rattle.agree_core.specs.declared.{messages.Message.Message, messages.Vote.Vote, seat.Heard.Heard}
@@ -16,7 +16,7 @@ use Rattle.live.specs.Desks.{entry_in}
 use Rattle.live.proofs.HiddenLemmas.{entry_of_vote}
 
 module _ {Disk : Type 0} (view : FileView Disk) (game : ℕ) (k l : DeskState Disk) where
-  -- a vote that was heard has the entry of its bytes
+  -- the entry of a vote that was heard is the one in its bytes
   entry_so : (bytes : List ℕ) (read : Result Message WireFault) (h : Heard) (out : List Message) (other : Option Entry) (m : Message) → Says game bytes m
       → Receives view k m (Told h) l out → Reads game bytes read → ((v : Vote) → read ≡ Ok (Message.Vote v) → other ≡ Some v.entry) → other ≡ entry_in bytes
   entry_so bytes read h out other (Message.Vote v) says r reads e =

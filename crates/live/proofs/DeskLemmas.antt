@@ -46,7 +46,7 @@ pub blameless : {W : Type 0} (course : Course) (old new : Faults) → (IsErrOf c
 blameless course old new n same =
     record { failed = λ e. absurd (n e); same = λ m. same; calm = λ due room e. n e; spent = λ due room e. absurd (n e) }
 
--- the same blame, of another answer
+-- another answer with the same blame
 pub blamed : {T E V W : Type 0} (r : Result T E) (device : E) (course : Course) (old new : Faults) → (IsErrOf course DeskEnd.Device → IsErrOf r device)
     → (IsErrOf r device → IsErrOf course DeskEnd.Device) → (IsErrOf r device → W → V) → BlamesDisk device V r old new
     → BlamesDisk DeskEnd.Device W course old new
@@ -61,7 +61,7 @@ module _ {S B D : Type 0} {g : Files S D} {h : Disks D} {b : Books B} where
   pub same_here : (k : Desk S B D g h b) → SameOwner k k
   same_here k = record { desk = refl; game = refl; innings_a_side = refl; cap = refl }
 
-  -- the same desk's runs are of one kind
+  -- runs of the same desk are of one kind
   kind_stays : (sheet : Sheet) (k l : Desk S B D g h b) → SameOwner k l → kind_of sheet l ≡ kind_of sheet k
   kind_stays sheet k l x = λ i.
       desk_kind sheet (file_view g.contents h.seen h.images (x.desk i) (x.game i)) (record { faults = h.faults; FitsLongest = FitsLongest g.room (x.cap i) })
@@ -87,7 +87,7 @@ module _ {S B D : Type 0} {g : Files S D} {h : Disks D} {b : Books B} where
     pub silent : DeskGoes sheet k l p q a c → DeskGoes sheet k l p q (record a { told = None }) (record c { told = None })
     silent v = record { same = v.same; goes = unsaid v.goes }
 
-    -- the same log
+    -- the log may be given by an equal one
     pub logged : {after : List Passed} → c.passed ≡ after → DeskGoes sheet k l p q a c → DeskGoes sheet k l p q a (record c { passed = after })
     logged e v = rw (← e) v
 
@@ -120,7 +120,7 @@ module _ {S B D : Type 0} {g : Files S D} {h : Disks D} {b : Books B} where
         (record a { passed = after; typed = y; told = t })
     says answer beats may c types tells is text = called (Typed _ answer) {ticking = ticking} may beats c (rw append-nil) types (rw append-nil) (rw (tells, is)) text
 
-    -- a line at which the process ends
+    -- a typed line at which the process ends
     pub says_last : {line : List ℕ} (answer : Said) (end : DeskEnd) {later : Warned} {after : List Passed} {y : List Input} → IsInTime ticking
         → MaySay (holds_up warned.doubt) answer → Calls sheet k l (Typed line answer) a.passed after → y ≡ a.typed ++ Line line ∷ []
         → later ≡ warned_said warned answer → end_of answer ≡ Err end
@@ -129,7 +129,7 @@ module _ {S B D : Type 0} {g : Files S D} {h : Disks D} {b : Books B} where
     says_last answer end beats may c types tells e =
         says answer beats may c types tells (grind arith) (grind (arith, appends_none))
 
-    -- bytes came
+    -- it was given a datagram
     pub hears : {bytes : List ℕ} (what : What) {course : Course} {later : Warned} {heard : Ticking} {before after : List Passed} {t : Option (List ℕ)}
         → IsInTime ticking → heard ≡ ticking → Calls sheet k l (Given bytes what) before after
         → before ≡ a.passed ++ Came bytes ∷ [] → later ≡ warned_after warned (shown_by (state_of k) bytes what) what → course ≡ end_at what
@@ -137,7 +137,7 @@ module _ {S B D : Type 0} {g : Files S D} {h : Disks D} {b : Books B} where
         → DeskGoes sheet k l (process_of k warned turns ticking further) (process_of l later turns heard course) a (record a { passed = after; told = t })
     hears what beats same c came tells is text = called (Given _ what) {ticking = ticking} tt beats c came (rw append-nil) (rw append-nil) (rw (tells, same, is)) text
 
-    -- bytes at which the process ends
+    -- a datagram at which the process ends
     pub hears_last : {bytes : List ℕ} (what : What) (end : DeskEnd) {later : Warned} {heard : Ticking} {before after : List Passed} → IsInTime ticking
         → heard ≡ ticking → Calls sheet k l (Given bytes what) before after → before ≡ a.passed ++ Came bytes ∷ [] → later ≡ warned_after warned (shown_by (state_of k) bytes what) what → end_at what ≡ Err end
         → DeskGoes sheet k l (process_of k warned turns ticking further) (process_of l later turns heard (ending end)) a (record a { passed = after })
@@ -157,14 +157,14 @@ module _ {S B D : Type 0} {g : Files S D} {h : Disks D} {b : Books B} where
   }
 
   module _ {sheet : Sheet} {k : Desk S B D g h b} {warned : Warned} {turns : ℕ} {ticking : Ticking} {a : Logs} where
-    -- bytes came that don't open
+    -- a datagram came that doesn't open
     pub passes : {later : Warned} {passed : Ticking} {course : Course} {t : Option (List ℕ)} → IsInTime ticking → passed ≡ ticking
         → later ≡ warned_unopened warned → course ≡ further → Appends a.told t (unopened_text warned)
         → DeskGoes sheet k k (process_of k warned turns ticking further) (process_of k later turns passed course) a (record a { told = t })
     passes beats same tells is text =
         called Unopened {ticking = ticking} tt beats (unmoved Unopened (refl, refl) (λ e. (cc))) (rw append-nil) (rw append-nil) (rw append-nil) (rw (tells, same, is)) text
 
-    -- its scorer is told of the other desk
+    -- its scorer is given a reminder about the other desk
     pub reminds : (reminder : Reminder) {later : Warned} {told : Ticking} {course : Course} {t : Option (List ℕ)} → IsInTime ticking → told ≡ ticking
         → MayRemind (process_of k warned turns ticking further) reminder
         → later ≡ warned_reminded warned reminder → course ≡ further → Appends a.told t (reminder_text (state_of k).seat.position.place reminder)
@@ -173,14 +173,14 @@ module _ {S B D : Type 0} {g : Files S D} {h : Disks D} {b : Books B} where
         called (Reminded reminder) {ticking = ticking} may beats (unmoved (Reminded reminder) (refl, refl) (λ e. (cc))) (rw append-nil) (rw append-nil) (rw append-nil)
         (rw (tells, same, is)) text
 
-    -- its scorer is told of lines that it isn't given
+    -- its scorer is told of lines that the desk isn't given
     pub tells_aside : (aside : Aside) {course : Course} {y : List Input} {t : Option (List ℕ)} → IsInTime ticking → y ≡ a.typed → course ≡ further → Appends a.told t (aside_text sheet.columns aside)
         → DeskGoes sheet k k (process_of k warned turns ticking further) (process_of k warned turns ticking course) a
         (record a { typed = y; told = t })
     tells_aside aside beats types is text =
         called (ToldAside aside) {ticking = ticking} tt beats (unmoved (ToldAside aside) (refl, refl) (λ e. (cc))) (rw append-nil) (rw (append-nil, types)) (rw append-nil) (rw is) text
 
-    -- its scorer types no more
+    -- its scorer's input is over
     pub typing_over : {y : List Input} → IsInTime ticking → y ≡ a.typed ++ End ∷ []
         → DeskGoes sheet k k (process_of k warned turns ticking further) (process_of k warned turns ticking (Err DeskEnd.NoMoreLines)) a
         (record a { typed = y })
@@ -193,7 +193,7 @@ module _ {S B D : Type 0} {g : Files S D} {h : Disks D} {b : Books B} where
     looks now beats times is =
         called (Looked now) {ticking = ticking} tt beats (unmoved (Looked now) (refl, refl) (λ e. (cc))) (rw append-nil) (rw append-nil) times (rw is) (appends_none a.told)
 
-    -- nothing is seen of its clock
+    -- what was seen of its clock is unchanged
     pub unread : {seen : Ticking} → seen ≡ ticking
         → DeskGoes sheet k k (process_of k warned turns ticking further) (process_of k warned turns seen further) a a
     unread is = rw is rests
@@ -220,7 +220,7 @@ module _ {S B D : Type 0} {g : Files S D} {h : Disks D} {b : Books B} where
       → Calls sheet k k (Typed line answer) log log
   unpenned sheet k line answer log w = unmoved {sheet = sheet} (Typed line answer) (grind arith) (λ e. grind arith)
 
-  -- a line that says an entry, at a desk that casts no vote
+  -- a line that says an entry, at a desk that doubts its file and casts no vote
   pub withheld : (sheet : Sheet) (k : Desk S B D g h b) (line : List ℕ) (e : Entry) (log : List Passed)
       → SaysEntry sheet (state_of k).book (state_of k).votes (state_of k).seat.position.round line e → Calls sheet k k (Typed line Said.Withheld) log log
   withheld sheet k line e log says = unmoved {sheet = sheet} (Typed line Said.Withheld) ((e, says), refl, refl) (λ e. (cc))
@@ -235,7 +235,7 @@ module _ {S B D : Type 0} {g : Files S D} {h : Disks D} {b : Books B} where
   abbrev DeskBlame : Desk S B D g h b → Course → Desk S B D g h b → Type 0
   DeskBlame k course l = BlamesDisk DeskEnd.Device (FitsLongest g.room (h.cap (disk_of k))) course (h.faults (disk_of k)) (h.faults (disk_of l))
 
-  -- a call that handed out these messages as these bytes
+  -- a call that sent these messages as these bytes
   calls_with : {sheet : Sheet} {k l : Desk S B D g h b} (call : DeskCall) (bytes : List (List ℕ)) (out : List Message) {before after : List Passed} → SameOwner k l
       → All IsMessage out → bytes ≡ map (written (game_of k)) out → after ≡ before ++ sent_to (receivers_of call) bytes
       → DeskStep sheet (view_of k) (game_of k) (innings_of k) (state_of k) call out (state_of l) → Blames (disks_of k) (state_of k) call (state_of l)
@@ -273,7 +273,7 @@ module _ {S B D : Type 0} {g : Files S D} {h : Disks D} {b : Books B} where
   refused sheet k l line e why log same says step blame =
       calls_with (Typed line (Said.Refused e why)) [] step.0 same step.1 step.2 (rw append-nil) (says, step.3) (λ runs. refuses k l e why step.0 runs step.3 blame)
 
-  -- what it answers to bytes blames the disk as the call did
+  -- the desk's answer to a datagram blames the disk as the call did
   answers : (k l : Desk S B D g h b) (bytes : List ℕ) (what : What) (out : List Message) → (state_of k).failed ≡ false
       → Takes (view_of k) (game_of k) (state_of k) bytes what (state_of l) out
       → BlamesDisk What.Device ⊤ (device_answer what) (h.faults (disk_of k)) (h.faults (disk_of l)) → DeskBlame k (end_at what) l
@@ -295,10 +295,10 @@ module _ {S B D : Type 0} {g : Files S D} {h : Disks D} {b : Books B} where
   ticked sheet k bytes before after step sent' =
       calls_with Ticked bytes step.0 (same_here k) step.1 step.2 sent' (step.3, refl) (λ runs. blameless further _ _ (λ q. (cc)) refl)
 
-  -- ---- runs whose text is known only where no write failed
+  -- ---- runs whose text is known only if no write failed
 
   module _ {sheet : Sheet} {k l : Desk S B D g h b} {p : DeskProcess D} {a c : Logs} where
-    -- what was told so far is known only where a later write didn't fail
+    -- what was told so far is known only if no later write failed
     pub muted : {T : Type 0} (r : Result T DeskEnd) {q : DeskProcess D} → DeskGoes sheet k l p q a c → DeskGoes sheet k l p q (known_in r a) (known_in r c)
     muted (Err DeskEnd.Write) v = silent v
     muted r v = v
@@ -311,14 +311,14 @@ module _ {S B D : Type 0} {g : Files S D} {h : Disks D} {b : Books B} where
         then (kept v w) (called TurnEnded {ticking = ticking} tt (looked, beats) (unmoved TurnEnded (refl, refl) (λ e. (cc)))
         (rw append-nil) (rw append-nil) (rw append-nil) (rw is) (appends_none u))
 
-    -- its flush failed
+    -- the flush at the end of a turn failed
     pub not_flushed : {T : Type 0} (r : Result T DeskEnd) (met : DeskEnd) {warned : Warned} {turns : ℕ} {ticking : Ticking} (u : Option (List ℕ))
         → IsErrAnd r (λ end. end ≡ met) → met ≡ DeskEnd.Write → DeskGoes sheet k l p (process_of l warned turns ticking further) a c
         → DeskGoes sheet k l p (process_of l warned (turns_after turns r) ticking (course_of r)) (known_in r a) (record c { told = known_at r u })
     not_flushed (Ok value) met u e w v = absurd e
     not_flushed (Err end) met u e w v = rw (e, w) (silent v)
 
-  -- an answer that is passed on
+  -- an error that is passed on
   pub passed_on : {sheet : Sheet} {k l : Desk S B D g h b} {p : DeskProcess D} (a c : Logs) {T : Type 0} (r : Result T DeskEnd) (met : DeskEnd)
       {later : Warned} {turns : ℕ} {ticking : Ticking} → IsErrAnd r (λ end. end ≡ met)
       → DeskGoes sheet k l p (process_of l later turns ticking (ending met)) (known_until met a) (known_until met c)
@@ -326,12 +326,12 @@ module _ {S B D : Type 0} {g : Files S D} {h : Disks D} {b : Books B} where
   passed_on a c (Ok value) met e v = absurd e
   passed_on a c (Err end) met e v = rw e v
 
--- a line that says no entry may be answered so, whatever the desk doubts
+-- a line that says no entry may get this answer, whatever the desk doubts
 pub may_come : (sheet : Sheet) (book : List Entry) (votes : List Ballot) (differs is_cast : Bool) (line : List ℕ) (said : Said) (doubts : Bool)
     → ComesTo sheet book votes differs is_cast line said → MaySay doubts said
 may_come sheet book votes differs is_cast line said doubts h = grind arith
 
--- an answer that is passed on in a turn
+-- an error that is passed on in a turn
 pub turn_passed_on : {T : Type 0} (r : Result T DeskEnd) (met : DeskEnd) (turns : ℕ) (P : ℕ → Course → (Logs → Logs) → Type 0)
     → IsErrAnd r (λ end. end ≡ met) → P turns (ending met) (known_until met) → P (turns_after turns r) (course_of r) (known_in r)
 turn_passed_on r met turns P h x = grind arith

@@ -22,7 +22,7 @@ use Rattle.live.specs.Runs.{Goes, Kind, Logs, with_told}
 use Rattle.station_texts.specs.Texts.{greeting}
 use Rattle.live.specs.declared.ends.DeskEnd.{DeskEnd}
 
--- disks of this cap
+-- disks with this cap
 abbrev disks_with : {D : Type 0} → (D → Faults) → (ℕ → ℕ) → ℕ → DiskView D
 disks_with faults room most = record { faults = faults; FitsLongest = FitsLongest room most }
 
@@ -34,7 +34,7 @@ module _ {S B D : Type 0} {g : Files S D} {h : Disks D} {b : Books B} {k : Desk 
   begins_here : BeginsOn (file_view g.contents h.seen h.images d sheet.game) h.seen innings d disk (Opened (state_of k))
   begins_here = (λ none. rw (← is) (creates none), λ some. rw (← is) (opens some))
 
-  -- what its runs are
+  -- the kind of its runs
   abbrev Here : Kind (DeskProcess D) DeskCall
   Here = desk_kind sheet (file_view g.contents h.seen h.images d sheet.game) (disks_with h.faults g.room (h.cap disk)) sheet.game innings
 
@@ -61,11 +61,11 @@ module _ {D : Type 0} (view : ℕ → FileView D) (seen : D → List ℕ) (disks
   none_begins : BeginsOn (view sheet.game) seen innings d disk (NotOpened (open_cause why) left)
   none_begins = (λ none. tt, λ some. rw (← is) (opens some))
 
-  -- one that was refused
+  -- a beginning that was refused
   pub not_begun : {logs : Logs} {turns : ℕ} → DeskLives (view sheet.game) seen disks sheet innings d disk logs logs turns (Err (NotBegun why))
   not_begun = record { opening = NotOpened (open_cause why) left; begins = none_begins; follows = (why, refl, refl, refl) }
 
-  -- of one that was refused nothing is shown
+  -- nothing is shown after a beginning that was refused
   pub none_begun : {Page : Type 0} {goes_on : Page → DeskSight → Page → Type 0} {page : Page}
       → (opening : Opening D) × BeginsOn (view sheet.game) seen innings d disk opening × IsShownFrom (desk_kind sheet (view sheet.game) disks sheet.game innings) sheet innings goes_on opening page page
   none_begun = (NotOpened (open_cause why) left, none_begins, refl)

@@ -32,7 +32,7 @@ module _ {S B D : Type 0} {g : Files S D} {h : Disks D} {b : Books B} where
   abbrev greeting_of : Sheet → Desk S B D g h b → List ℕ
   greeting_of sheet k = greeting sheet (innings_of k) (state_of k).book (state_of k).seat.position (own_line (state_of k))
 
-  -- the greeting couldn't be told
+  -- the greeting couldn't be written
   pub not_greeted : {sheet : Sheet} {k : Desk S B D g h b} {turns : ℕ} {a : Logs} {t : Option (List ℕ)}
       (r : Result (Unit {0}) DeskEnd) (met : DeskEnd) → IsErrAnd r (λ end. end ≡ met) → met ≡ DeskEnd.Write → DeskRuns sheet k k a (record a { told = t }) turns r
   not_greeted (Ok done) met e w = absurd e
@@ -65,7 +65,7 @@ module _ {S B D : Type 0} {g : Files S D} {h : Disks D} {b : Books B} {sheet : S
         rw is (record { last = last; is = refl; goes = then (muted failed greeted) after; ended = ended_at met turns last refl })
 
   module _ {a c : Logs} {turns : ℕ} (r : Result (Unit {0}) DeskEnd) (v : DeskRuns sheet k l a c turns r) where
-    -- a run blames the disk only where it failed in the run
+    -- a run blames the disk only if the disk failed in the run
     pub blames : (state_of k).failed ≡ false → BlamesDisk DeskEnd.Device (FitsLongest g.room (h.cap (disk_of k))) r (h.faults (disk_of k)) (h.faults (disk_of l))
     blames sound =
         let m = v.goes.goes in

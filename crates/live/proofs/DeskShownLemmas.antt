@@ -1,4 +1,4 @@
--- What is seen of a desk beside the rows that it tells.
+-- What a page shows of a desk, besides the rows that the desk tells.
 use Rattle.std.proofs.Common.{[], ◌∷◌, ℕ, ap, refl, sym, ◌∙◌}
 use Rattle.std.proofs.lemmas.List.Elements.{All-cons, All-nil}
 use Rattle.corrections.specs.declared.book_of.BookOf.{Ghosts as Books}
@@ -16,13 +16,13 @@ use Rattle.live.specs.Runs.{Kind, Logs}
 use Rattle.station_texts.specs.Texts.{unwarned}
 use Rattle.live.specs.Ticks.{Ticking, unticked}
 
--- nothing yet
+-- nothing is shown yet
 pub none_shown : {Disk Page : Type 0} (kind : Kind (DeskProcess Disk) DeskCall) (sheet : Sheet) (innings : ℕ) (goes_on : Page → DeskSight → Page → Type 0) (k : DeskState Disk) (page : Page)
     → IsShown kind sheet innings goes_on k page page
 none_shown kind sheet innings goes_on k page = ([], All-nil (IsSeen kind sheet innings k), refl)
 
 module _ {S B D Page : Type 0} {g : Files S D} {h : Disks D} {b : Books B} {goes_on : Page → DeskSight → Page → Type 0} {sheet : Sheet} {k l : Desk S B D g h b} where
-  -- and what is seen of the desk to which its process has gone
+  -- next, what is seen of the desk to which its process has gone
   pub then_shown : {old page new : Page} {warned : Warned} {turns : ℕ} {ticking : Ticking} {course : Course} {a c : Logs}
       → IsShown (kind_of sheet k) sheet (innings_of k) goes_on (state_of k) old page
       → DeskGoes sheet k l (process_of k unwarned 0 unticked further) (process_of l warned turns ticking course) a c

@@ -22,7 +22,7 @@ not_ended : (course : Course) → course ≡ further → IsErrOf course DeskEnd.
 not_ended course e f = cc (e, f)
 
 module _ {Disk : Type 0} (sheet : Sheet) (view : FileView Disk) (disks : DiskView Disk) (game innings : ℕ) where
-  -- what is so after moments of a process whose desk hadn't failed
+  -- what holds after moments of a process whose desk hadn't failed
   record Stands (p q : DeskProcess Disk) : Type 0 where
     blame : BlamesDisk DeskEnd.Device disks.FitsLongest q.course (disks.faults p.desk.disk) (disks.faults q.desk.disk)
     running : q.course ≡ further → q.desk.failed ≡ false
@@ -41,7 +41,7 @@ module _ {Disk : Type 0} (sheet : Sheet) (view : FileView Disk) (disks : DiskVie
         running = λ x. runs_on sheet view game innings q.desk m.after.desk m.out sound m.call step.1 (sym is ∙ x);
       }
 
-  -- a run blames the disk where its last call does
+  -- a run blames the disk if its last call does
   pub run_blames : (p q : DeskProcess Disk) (ms : List (Moment (DeskProcess Disk) DeskCall)) → p.course ≡ further → p.desk.failed ≡ false
       → Run (desk_kind sheet view disks game innings) p ms → last_of p ms ≡ q
       → BlamesDisk DeskEnd.Device disks.FitsLongest q.course (disks.faults p.desk.disk) (disks.faults q.desk.disk)

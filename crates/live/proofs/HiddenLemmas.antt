@@ -19,7 +19,7 @@ use Rattle.station_texts.specs.Texts.{differs_text}
 not_before : (p q : Position) → p ≡ q → Before p q → ⊥
 not_before p q e b = grind arith
 
--- by which answers anything is shown of both files
+-- the answers by which a datagram shows anything of the files
 evidence_by : (b : Bearing) (what : What) → evidence_of b what ≢ Nothing
     → (what ≡ What.Asked) ⊎ ((what ≡ What.Heard Heard.Old) ⊎ ((what ≡ What.Heard Heard.Ahead) ⊎ (what ≡ What.Heard Heard.Mine)))
 evidence_by b What.Asked n = inl refl
@@ -42,7 +42,7 @@ hides_the_other view = record {
   stored = λ rules k l own out h. h.1.4;
 }
 
--- the entry of a vote is in the bytes that say it
+-- the entry of a vote is the one in its bytes
 pub entry_of_vote : (game : ℕ) (bytes : List ℕ) (v : Vote) → Says game bytes (Message.Vote v) → entry_in bytes ≡ Some v.entry
 entry_of_vote game bytes v s = ap entry_coded (code_in game bytes v s) ∙ entry_coded-code v.entry s.0.1
 

@@ -1,4 +1,4 @@
--- What bytes show of lines that one of both desks' files lacks.
+-- What a datagram shows of lines that the file of either desk lacks.
 use Rattle.std.proofs.Common.{arith, ◌≡◌, ℕ, Bool, true, false, List, [], ◌∷◌, Option, Some, None, Result, Ok, refl, sym, ap, ◌∙◌, subst, inr, map, not, ◌&&◌, IsTrue, ◌↔◌}
 use Rattle.std.specs.Prelude.{◌==◌, nat_lt, is_some, if◌then◌else◌}
 use Rattle.std.specs.Result.{ForOk}
@@ -30,29 +30,29 @@ use Rattle.live.specs.LostLines.{asker_in, evidence, evidence_of, is_other, is_o
 use Rattle.live.specs.declared.lost_lines.Bearing.{Bearing}
 use Rattle.station_texts.specs.declared.doubt.Evidence.TheVariants.{Nothing, OtherLacks, Ahead, Unkept, Level}
 
--- the position that bytes say is that of their message
+-- the position in the bytes is that of their message
 pub position_of_message : (game : ℕ) (bytes : List ℕ) (m : Message) → Says game bytes m → position_in bytes ≡ message_at m
 position_of_message game bytes m says = λ i. record { place = place_of game bytes m says i; round = round_of game bytes m says i }
 
--- what was read has its numbers in their ranges
+-- a message that was read has its numbers in range
 pub is_message : (game : ℕ) (bytes : List ℕ) (read : Result Message WireFault) → Reads game bytes read → ForOk read IsMessage
 is_message game bytes read reads m is = let says : Says game bytes m = subst (Reads game bytes) is reads in says.0
 
 -- ---- of the other desk's file
 
 module _ (s : SeatState) (at : Position) (entry : List ℕ) where
-  -- without a vote no other's is another one
+  -- to a desk without a vote, no vote of the other desk contradicts the way it went
   pub none_cast : (desk : DeskId) (votes : List Ballot) → last_vote desk votes ≡ None → is_another s votes at entry ≡ false
   none_cast desk votes e = grind arith
 
-  -- whether it is, by this desk's last vote
+  -- whether a vote does, by this desk's last vote
   pub by_last : (desk : DeskId) (votes : List Ballot) (v : Vote) → last_vote desk votes ≡ Some v
       → is_another s votes at entry ≡ (if is_at (position_of v) at
       then is_at (if bytes_eq entry (code v.entry) then next_round (position_of v) else next_place (position_of v)) s.position
       else is_before (position_of v) at)
   by_last desk votes v e = grind arith
 
--- nor is its last one another one than this
+-- without a vote, there is no last vote for another entry
 pub none_last : (at : Position) (entry : List ℕ) (desk : DeskId) (votes : List Ballot) → last_vote desk votes ≡ None → is_other_last votes at entry ≡ false
 none_last at entry desk votes e = grind arith
 
@@ -60,27 +60,27 @@ pub other_last : (at : Position) (entry : List ℕ) (desk : DeskId) (votes : Lis
     → is_other_last votes at entry ≡ (is_at (position_of v) at && not (bytes_eq entry (code v.entry)))
 other_last at entry desk votes v e = grind arith
 
--- a test of two entries is that of their codes
+-- two entries are equal exactly if their codes are
 pub is_coded : (r : Bool) (e f : Entry) → IsEntry e → IsEntry f → IsTrue r ↔ (e ≡ f) → r ≡ bytes_eq (code e) (code f)
 is_coded r e f h k same =
     same_from_decides r (bytes_eq (code e) (code f)) same
     (Decides-like (bytes_eq (code e) (code f)) (λ x. code_once e f h k x) (λ x. ap code x) (bytes_eq-Decides (code e) (code f)))
 
--- a position is at itself alone
+-- a position is equal to itself alone
 at_self : (p : Position) → is_at p p ≡ true
 at_self p = grind (arith, nat_tests)
 
 at_once : (p q : Position) → is_at p q ≡ true → p ≡ q
 at_once p q e = grind (arith, nat_tests)
 
--- whether a position comes before another one is told by their numbers
+-- whether a position comes before another one is decided by their numbers
 pub comes_before : (r : Bool) (p q : Position) → IsTrue r ↔ Before p q → r ≡ is_before p q
 comes_before r p q same =
     same_from_decides r (is_before p q) same
     (Decides-or (nat_lt p.place q.place) ((p.place == q.place) && nat_lt p.round q.round) (Decides-ltb p.place q.place)
     (Decides-and (p.place == q.place) (nat_lt p.round q.round) (Decides-eqb p.place q.place) (Decides-ltb p.round q.round)))
 
--- one of a desk's votes is for a position exactly where its replies to an ask for that have one
+-- a desk has voted at a position exactly if its replies to an ask for that position include a vote
 voted_in : (votes : List Ballot) (at : Position) (e : Entry) → In (record { at = at; entry = e }) votes → is_voted votes at ≡ true
 voted_in [] at e i = absurd i
 voted_in (b ∷ bs) at e i = grind (arith, at_self, voted_in bs at e)
@@ -90,7 +90,7 @@ not_voted [] at n = refl
 not_voted (b ∷ bs) at n = grind (arith, at_once b.at at, n b.entry, not_voted bs at (λ e i. n e (inr i)))
 
 module _ {Disk : Type 0} (view : FileView Disk) (game : ℕ) (k l : DeskState Disk) where
-  -- an ask is replied to exactly where the desk has voted
+  -- an ask is replied to exactly if the desk has voted
   by_reply : (q : Ask) (reply : Option (List ℕ)) (out : List Message) → replied reply ≡ map (written game) out → Replies k q out
       → is_some reply ≡ is_voted k.votes (message_at (Message.Ask q))
   by_reply q reply out sent r = grind (arith, voted_in, not_voted)
@@ -107,7 +107,7 @@ module _ {Disk : Type 0} (view : FileView Disk) (game : ℕ) (k l : DeskState Di
       let t : Takes view game k bytes What.Asked l s.0 = rw e at s.3 in
       by_message bytes reply s.0 t.0 t.1 s.2 t.2
 
-  -- what was read, and the reply, show what the bytes do
+  -- the message as read, and the reply, show what the bytes show
   reach_so : (bytes : List ℕ) (read : Result Message WireFault) (m : Message) (reach : Bool) → Says game bytes m → Reads game bytes read
       → ForOk read (λ n. reach ≡ is_in_reach k.seat (message_at n)) → reach ≡ is_in_reach k.seat (position_in bytes)
   reach_so bytes read m reach says reads e =

@@ -1,4 +1,4 @@
--- What a scorer is told of the other desk by the clock comes once.
+-- A reminder about the other desk comes once.
 use Rattle.std.proofs.Common.{arith, subst, sym, ◌≡◌, ℕ, true, false, List, [], ◌∷◌, ap}
 use Rattle.std.specs.Prelude.{All}
 use Rattle.std.proofs.lemmas.List.Elements.{All-cons, All-head, All-nil, All-tail}
@@ -12,7 +12,7 @@ use Rattle.station_texts.specs.declared.{reminder.Reminder.Reminder, warned.Warn
 use Rattle.station_texts.specs.declared.reminder.Reminder.TheVariants.{HasWritten, IsHeard, IsMissed}
 
 module _ {Disk : Type 0} (sheet : Sheet) (view : FileView Disk) (disks : DiskView Disk) (game innings : ℕ) where
-  -- the process after moments, and that none of them tells this
+  -- the process after these moments, none of which gives this reminder
   record Still (reminder : Reminder) (Stays : Warned → Type 0) (l : DeskProcess Disk) (ms : List (Moment (DeskProcess Disk) DeskCall)) : Type 0 where
     stays : Stays (last_of l ms).warned
     never : All (IsNot reminder) ms
@@ -20,7 +20,7 @@ module _ {Disk : Type 0} (sheet : Sheet) (view : FileView Disk) (disks : DiskVie
   abbrev Ran : DeskProcess Disk → List (Moment (DeskProcess Disk) DeskCall) → Type 0
   Ran l ms = Run (desk_kind sheet view disks game innings) l ms
 
-  -- it may be told only where it wasn't, and stays told in moments that are quiet
+  -- a reminder is given only if it wasn't yet, and stays given through quiet moments
   once : (reminder : Reminder) (Stays : Warned → Type 0) (Quiet : Moment (DeskProcess Disk) DeskCall → Type 0)
       → ((k : DeskProcess Disk) → Stays k.warned → MayCall k (Reminded reminder) → ⊥)
       → ((k : DeskState Disk) (w : Warned) (m : Moment (DeskProcess Disk) DeskCall) → Quiet m → IsNot reminder m → Stays w → Stays (warned_at k w m.call))

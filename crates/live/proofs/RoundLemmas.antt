@@ -20,17 +20,17 @@ use Rattle.live.specs.Boards.{RecallsNone, desk_ahead, desk_ahead_in, later_afte
 use Rattle.live.specs.declared.later.Later.{Later}
 use Rattle.live.proofs.HiddenLemmas.{entry_of_vote}
 
--- what was read is one message
+-- only one message was read
 pub ok_same : (r : Result Message WireFault) (m n : Message) → r ≡ Ok m → r ≡ Ok n → m ≡ n
 ok_same r m n e f = grind arith
 
--- bytes came, and others went back
+-- a datagram came, and another one went back
 pub two_passed : (log : List Passed) (bytes back : List ℕ) {after : List Passed} → after ≡ (log ++ Came bytes ∷ []) ++ Sent ToOne back ∷ []
     → after ≡ log ++ Came bytes ∷ Sent ToOne back ∷ []
 two_passed log bytes back e = grind (arith, e, append_assoc)
 
 module _ {Why : Type 0} (rules : Rules Why) (game : ℕ) (k l : BoardState) (bytes : List ℕ) where
-  -- a round is made whole by a vote
+  -- both votes of a round are heard only by a vote
   heard_vote : (answer : Result What BoardRefusal) → Takes rules game k bytes answer l → settles answer ≡ true → (v : Vote) × Says game bytes (Message.Vote v)
   heard_vote (Ok (What.Heard Heard.Agreed)) (Message.Vote v, says, r) e = (v, says)
   heard_vote (Ok (What.Heard Heard.Agreed)) (Message.Ask q, says, r) e = absurd r
@@ -39,7 +39,7 @@ module _ {Why : Type 0} (rules : Rules Why) (game : ℕ) (k l : BoardState) (byt
   heard_vote _ t e = absurd (cc)
 
   module _ (read : Result Message WireFault) (reads : Reads game bytes read) where
-    -- whose entry is that of its bytes
+    -- the entry of that vote is the one in its bytes
     entry_so : (answer : Result What BoardRefusal) (entry : Option Entry) → ((v : Vote) → read ≡ Ok (Message.Vote v) → entry ≡ Some v.entry)
         → Takes rules game k bytes answer l → settles answer ≡ true → entry ≡ entry_coded (body_in bytes)
     entry_so answer entry is takes e =
@@ -52,7 +52,7 @@ module _ {Why : Type 0} (rules : Rules Why) (game : ℕ) (k l : BoardState) (byt
     noted_when true answer entry rounds e is takes = ap (λ (entry : Option Entry). with_round rounds (whole_round k.reader entry)) (entry_so answer entry is takes e)
     noted_when false answer entry rounds e is takes = refl
 
-    -- what is remembered of a message that was read is what is remembered of its bytes
+    -- what is remembered of a message, as read, is what is remembered of its bytes
     pub rounds_noted : (answer : Result What BoardRefusal) (entry : Option Entry) (rounds : List Round)
         → ((v : Vote) → read ≡ Ok (Message.Vote v) → entry ≡ Some v.entry) → Takes rules game k bytes answer l
         → (if settles answer then with_round rounds (whole_round k.reader entry) else rounds) ≡ rounds_after k rounds bytes answer
@@ -64,7 +64,7 @@ module _ {Why : Type 0} (rules : Rules Why) (game : ℕ) (k l : BoardState) (byt
         is v (reads_once game bytes read (Ok (Message.Vote v)) reads says)
         ∙ ap₂ (λ (p : ℕ) (found : Option DeskId). if nat_lt place p then found else None) (sym (place_of game bytes (Message.Vote v) says)) (sym (voter_of game bytes v says))
 
-    -- who is ahead by a message that was read is so by its bytes
+    -- who is ahead by a message, as read, is ahead by its bytes
     pub later_noted : (answer : Result What BoardRefusal) (place : ℕ) (desk : Option DeskId) (later : Later)
         → ((v : Vote) → read ≡ Ok (Message.Vote v) → desk ≡ desk_ahead place v) → Takes rules game k bytes answer l
         → later_after later desk answer ≡ later_after later (desk_ahead_in place bytes) answer
@@ -72,7 +72,7 @@ module _ {Why : Type 0} (rules : Rules Why) (game : ℕ) (k l : BoardState) (byt
     later_noted (Ok (What.Heard Heard.Ahead)) place desk later is (Message.Ask q, says, r) = absurd r
     later_noted answer place desk later is takes = refl
 
-  -- where no vote goes back by what was read, none does by its bytes
+  -- if no vote goes back by the message, as read, none does by its bytes
   pub unrecalled : (read : Result Message WireFault) → Reads game bytes read → (rounds : List Round) → ((m : Message) → read ≡ Ok m → recalled rounds m ≡ None)
       → RecallsNone game rounds bytes
   unrecalled read reads rounds h m says = h m (reads_once game bytes read (Ok m) reads says)

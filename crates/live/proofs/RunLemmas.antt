@@ -32,11 +32,11 @@ module _ {State Call : Type 0} (kind : Kind State Call) where
   printed_both k [] ms = sym (append-nil (printed_in kind k ms))
   printed_both k (n ∷ ns) ms = grind (arith, append_assoc, last_both k ns ms, printed_both k ns ms)
 
--- nothing but what is told
+-- nothing is logged but text
 pub none_logged : {State Call : Type 0} {kind : Kind State Call} {k : State} {a : Logs} {t : Option (List ℕ)} → Appends a.told t [] → LogsGrow kind k [] a (record a { told = t })
 none_logged text = record { passed = rw append-nil; inputs = rw append-nil; readings = rw append-nil; printed = text }
 
--- another text is told
+-- the logs with another text
 pub retold : {State Call : Type 0} {kind : Kind State Call} {k : State} {ms : List (Moment State Call)} {a b : Logs} {s t : Option (List ℕ)} → LogsGrow kind k ms a b
     → Appends s t (printed_in kind k ms) → LogsGrow kind k ms (record a { told = s }) (record b { told = t })
 retold logs text = record { passed = logs.passed; inputs = logs.inputs; readings = logs.readings; printed = text }
@@ -70,7 +70,7 @@ module _ {State Call : Type 0} {kind : Kind State Call} {k l : State} {a b : Log
         };
       }
 
-  -- of what was written nothing is said
+  -- the same run, with the text unknown
   pub unsaid : Goes kind k l a b → Goes kind k l (record a { told = None }) (record b { told = None })
   unsaid g = record { moments = g.moments; run = g.run; last = g.last; logs = retold g.logs tt }
 

@@ -10,7 +10,7 @@ use Rattle.live.specs.Runs.{Kind, Moment, Run, last_of}
 use Rattle.live.specs.Silences.{HasTicked, IsNeverSilent}
 use Rattle.live.specs.Ticks.{Beat, MayBeat, Tick, Ticking, TurnEnd, after_beat}
 
--- the last tick stays the last one, but for a tick
+-- the last tick stays the last one, unless the station ticks
 stays_or_ticks : (k : Ticking) (beat : Beat) → (beat ≡ Tick) ⊎ ((after_beat k beat).ticked ≡ k.ticked)
 stays_or_ticks k beat = grind arith
 
@@ -19,7 +19,7 @@ looked_at None h = cc
 looked_at (Some now) h = (now, refl)
 
 module _ {State Call : Type 0} (kind : Kind State Call) where
-  -- each of its calls may come by its clock, and it goes on by what the call is to that
+  -- each of its calls may come by its clock, which then goes on by what the call is to it
   abbrev KeepsTime : Type 0
   KeepsTime =
       (k l : State) (call : Call) (out : List Message) → kind.Step k call out l

@@ -14,6 +14,6 @@ tells_same answer r s t e same a = grind arith
 pub goes_further : (answer : Result (Unit {0}) WriteFailed) (r : Course) → r ≡ written answer → course_of r ≡ further
 goes_further answer r e = grind arith
 
--- what was told first
+-- the text that was told first
 pub told_first : (s t : Option (List ℕ)) (text : List ℕ) → Appends s t text → Appends (with_text s text) t []
 told_first s t text a = grind (arith, append-nil)

@@ -1,4 +1,4 @@
--- The votes of a desk whose lines may be held are for lines that its scorer typed before.
+-- The votes of a desk with held lines are for lines that its scorer typed before.
 use Rattle.std.specs.Prelude.{◌≡◌, ℕ, List, [], ◌∷◌, ◌++◌}
 use Rattle.agree_core.specs.FileView.{FileView}
 use Rattle.cards.specs.Sheet.{Sheet}
@@ -9,19 +9,19 @@ use Rattle.live.specs.Desks.{DeskCall, DeskProcess, DiskView, Typed, desk_kind}
 use Rattle.live.specs.Runs.{Moment, Run, typed_in}
 use Rattle.station_texts.specs.declared.said.Said.{Said}
 
--- the line of a call that says an entry, be its vote cast or refused
+-- the line of a call that says an entry, whether its vote is cast or refused
 abbrev pub line_said : DeskCall → List (List ℕ)
 line_said (Typed line (Said.Penned entry settled)) = line ∷ []
 line_said (Typed line (Said.Refused entry why)) = line ∷ []
 line_said call = []
 
--- these lines in such moments, the oldest first
+-- the lines that say entries in these moments, the oldest first
 abbrev pub lines_said : {Disk : Type 0} → List (Moment (DeskProcess Disk) DeskCall) → List (List ℕ)
 lines_said [] = []
 lines_said (m ∷ ms) = lines_said ms ++ line_said m.call
 
--- In a run of a desk's process that was given just what became of what was typed, the lines for which votes were cast or
--- refused are lines that were typed and weren't taken back, each at most once, in their order.
+-- In a run of a desk's process that was given exactly what an `Ahead` made of the typed lines, the lines for which votes were
+-- cast or refused are lines that were typed and weren't taken back, each at most once, in their order.
 abbrev pub VotesWereTyped : {Disk : Type 0} → FileView Disk → DiskView Disk → Type 0
 VotesWereTyped view disks =
     (sheet : Sheet) (game innings : ℕ) (k : DeskProcess _) (ms : List (Moment (DeskProcess _) DeskCall)) (log : AheadLog)

@@ -25,10 +25,11 @@ use Rattle.links.specs.declared.link.TheConstants.{MOST_TAKEN}
 use Rattle.station_texts.specs.declared.{notices.Notice.Notice, notices.Telling.Telling}
 use Rattle.live.specs.declared.later.Later.{Later}
 
--- a call of a board: it is given bytes; bytes came that show that a desk's file lacks lines, or by which that may be, and those
--- of that desk's own vote go back to it; or bytes came once it has stopped, or that don't open, of which it is given nothing; it
--- tells that the desks told it different lines; a look at its clock, whether a tick is due, a tick, another reading of its clock,
--- each with what it shows, or the end of a turn
+-- A call of a board. Given: it is given a datagram. Parted: a datagram shows that a desk's file lacks lines; Recalled: a
+-- datagram may show it; in both, that desk's own vote goes back to it. PassedBy: a datagram comes once the board has stopped;
+-- Unopened: a datagram doesn't open; in both, the board is given nothing. ToldApart: it tells that the desks told it different
+-- lines. Looked: a look at its clock, whether a tick is due. Ticked: a tick. Read: another reading of its clock. TurnEnded: the
+-- end of a turn.
 pub data BoardCall : Type 0 where
   Given : List ℕ → Result What BoardRefusal → BoardCall
   Parted : List ℕ → List ℕ → BoardCall
@@ -41,7 +42,7 @@ pub data BoardCall : Type 0 where
   Read : ℕ → BoardCall
   TurnEnded : BoardCall
 
--- in a match of this number and innings a side
+-- in a match with this number and this many innings a side
 abbrev pub BoardStep : ℕ → ℕ → BoardState → BoardCall → List Message → BoardState → Type 0
 BoardStep game innings k (Given bytes answer) out l = Takes (book_refusal innings) game k bytes answer l × (out ≡ [])
 BoardStep game innings k Ticked out l = BoardTicks k out × (l ≡ k)
@@ -55,8 +56,8 @@ beat_of Ticked = Tick
 beat_of TurnEnded = TurnEnd
 beat_of call = Other
 
--- what a board's process remembers: what it has told, the rounds that it has heard whole, the oldest first, and which desks it
--- has heard to be ahead
+-- what a board's process remembers: what it has told, the rounds of which it has heard both votes, the oldest first, and which
+-- desks it has heard to be ahead
 pub record Memory : Type 0 where
   pub telling : Telling
   pub rounds : List Round
@@ -72,30 +73,31 @@ neither = record { a = false; b = false }
 abbrev pub unheard : Memory
 unheard = memory_of untold [] neither
 
--- an answer by which the board goes on to another position
+-- an answer that brings the board to another position
 abbrev pub settles : Result What BoardRefusal → Bool
 settles (Ok what) = opens what
 settles (Err refusal) = false
 
--- the rounds once a board has answered so to bytes
+-- the rounds remembered after the board has answered a datagram so
 abbrev pub rounds_after : BoardState → List Round → List ℕ → Result What BoardRefusal → List Round
 rounds_after k rounds bytes answer =
     if settles answer then with_round rounds (whole_round k.reader (entry_coded (body_in bytes))) else rounds
 
--- this desk too, if it is one
+-- with this desk too, if one is given
 abbrev pub with_desk : Later → Option DeskId → Later
 with_desk later None = later
 with_desk later (Some DeskId.A) = record later { a = true }
 with_desk later (Some DeskId.B) = record later { b = true }
 
--- the desk of a vote for a later place than this; and the one of the vote that bytes say, likewise
+-- the desk of a vote, if the vote is for a later place than this; likewise for the vote in a datagram
 abbrev pub desk_ahead : ℕ → Vote → Option DeskId
 desk_ahead place v = if nat_lt place v.place then Some v.desk else None
 
 abbrev pub desk_ahead_in : ℕ → List ℕ → Option DeskId
 desk_ahead_in place bytes = if nat_lt place (place_in bytes) then desk_numbered (slice_index bytes 12) else None
 
--- of which desks a vote for a later place was heard since the board came to its position, after a vote of this desk for one
+-- the desks heard to vote for a later place since the board came to its position, after this answer; `desk` is the one just
+-- heard
 abbrev pub later_after : Later → Option DeskId → Result What BoardRefusal → Later
 later_after later desk (Ok (What.Heard Heard.Agreed)) = neither
 later_after later desk (Ok (What.Heard Heard.Differ)) = neither
@@ -110,13 +112,12 @@ memory_given k memory bytes answer =
 abbrev pub memory_unopened : Memory → Memory
 memory_unopened memory = record memory { telling = telling_unopened memory.telling }
 
--- it is told that this keeps the board from going on
+-- it is told that this trouble keeps the board from going on
 abbrev pub memory_troubled : Memory → ℕ → Why → Memory
 memory_troubled memory place why = record memory { telling = with_trouble memory.telling place why }
 
--- a board in a turn: how many turns are over, how many entries its book had as this one began, how many datagrams were
--- taken in it, what it remembers, what it saw of its clock, all notices the oldest first, and what it has handed to be shown,
--- likewise
+-- a board in a turn: how many turns are over, how many entries its book had as this turn began, how many datagrams were taken
+-- in it, what it remembers, what it saw of its clock, and all notices and all that it handed over to be shown, the oldest first
 pub record BoardTurn : Type 0 where
   pub board : BoardState
   pub turns : ℕ
@@ -140,27 +141,27 @@ begun k turns memory ticking notices seen = record {
   seen = seen;
 }
 
--- By what it has heard no votes come for this position: it is a later round of its place, to which the votes of the one before
--- led, and yet both desks vote for later places. So they voted alike in an earlier round, which this board heard otherwise.
+-- By what it has heard, no votes will come for this position: it is a later round of its place, after votes that differed, and
+-- yet both desks vote for later places. So they voted alike in an earlier round, which this board heard otherwise.
 abbrev pub IsApart : Position → Later → Type 0
 IsApart at later = (0 < at.round) × (later.a ≡ true) × (later.b ≡ true)
 
--- these bytes are of the vote that goes back to the desk that says this
+-- `back` is the vote that goes back to the desk that sends this message
 abbrev pub Recalls : ℕ → List Round → Message → List ℕ → Type 0
 Recalls game rounds m back = (v : Vote) × (recalled rounds m ≡ Some v) × (back ≡ written game (Message.Vote v))
 
 abbrev pub RecallsNone : ℕ → List Round → List ℕ → Type 0
 RecallsNone game rounds bytes = (m : Message) → Says game bytes m → recalled rounds m ≡ None
 
--- an ask, or any message once the board has stopped, parts nothing
+-- an ask parts nothing, nor does any message once the board has stopped
 abbrev pub PartsNothing : Bool → Message → Type 0
 PartsNothing stopped (Message.Vote v) = stopped ≡ true
 PartsNothing stopped (Message.Ask q) = Unit {0}
 
--- In a turn a board takes eight datagrams at most. It is given those by which, as far as the rounds go that it has heard, no
--- desk's file lacks lines; and none once it has stopped. To a desk whose file does, or may, its own vote goes back. That the desks
--- told it different lines is told where it is so, unless something was told that keeps it from going on; when, it sees by its
--- clock.
+-- In a turn a board takes eight datagrams at most. It is given those that, by the rounds it has heard, show no desk's file to
+-- lack lines; and none once it has stopped. A desk whose file lacks lines, or may, gets its own vote back. It may tell that the
+-- desks told it different lines if they did, unless it already told of a trouble that keeps it from going on; its clock decides
+-- when.
 abbrev pub MayCall : ℕ → BoardTurn → BoardCall → Type 0
 MayCall game k (Given bytes answer) =
     (k.taken < MOST_TAKEN) × (is_stopped k.memory.telling ≡ false) × RecallsNone game k.memory.rounds bytes
@@ -177,7 +178,7 @@ MayCall game k ToldApart =
     IsApart k.board.reader.position k.memory.later × (is_some k.memory.telling.trouble ≡ false)
 MayCall game k call = Unit {0}
 
--- at the end of a turn the book is handed to be shown, and what keeps the board from going on
+-- at the end of a turn, the book and what keeps the board from going on are handed over to be shown
 abbrev pub handed : Sheet → ℕ → BoardTurn → BoardCall → BoardState → List Sight
 handed sheet innings k TurnEnded l = sight_of sheet innings l.book k.memory.telling.trouble ∷ []
 handed sheet innings k call l = []
@@ -229,18 +230,18 @@ given (Recalled bytes back) = Came bytes ∷ Sent ToOne back ∷ []
 given (PassedBy bytes) = Came bytes ∷ []
 given call = []
 
--- the text, where the book isn't as long as it was
+-- the text, if the book's length has changed
 abbrev pub grown : Bool → List ℕ → List ℕ
 grown true text = []
 grown false text = text
 
--- at the end of a turn the six lines of the book, where it has grown in the turn
+-- at the end of a turn, the book's six lines, if it has grown in the turn
 abbrev pub shown : Sheet → ℕ → BoardTurn → BoardCall → BoardTurn → List ℕ
 shown sheet innings k TurnEnded l =
     grown (nat_eq (length k.board.book) k.had) (board_text sheet innings (history_of k.board.book))
 shown sheet innings k call l = []
 
--- all that a board says by itself goes to all
+-- everything that a board says by itself goes to all
 abbrev pub board_kind : Sheet → ℕ → ℕ → Kind BoardTurn BoardCall
 board_kind sheet game innings = record {
   game = game;
@@ -254,7 +255,7 @@ board_kind sheet game innings = record {
 }
 
 module _ {B : Type 0} {g : _} (content : B → List Entry) where
-  -- what a board says unasked, to all, is what the link's log grew by
+  -- what a board says unasked, to all, is exactly what the link's log grew by
   pub record Asks (k : Board B g) (before after : List Passed) : Type 0 where
     pub out : List Message
     pub fine : All IsMessage out
@@ -266,20 +267,20 @@ module _ {B : Type 0} {g : _} (content : B → List Entry) where
   in_turn k turns had taken memory ticking notices seen =
       record (begun (state_of content k) turns memory ticking notices seen) { had = had; taken = taken }
 
-  -- at the beginning of a turn
+  -- a board at the beginning of a turn
   abbrev pub at_turn : Board B g → ℕ → Memory → Ticking → List Notice → List Sight → BoardTurn
   at_turn k turns memory ticking notices seen = begun (state_of content k) turns memory ticking notices seen
 
 module _ {B : Type 0} {g : _} (content : B → List Entry) (innings_of : B → ℕ) where
-  -- from a board's turn on there is a run to another turn of the board of the same match
+  -- a run from one state of a board's process to another, of the same board and match
   pub record BoardGoes (sheet : Sheet) (old new : Board B g) (k l : BoardTurn) (before after : Logs) : Type 0 where
     pub same : SameMatch innings_of old new
     pub goes : Goes (board_kind sheet (game_of old) (innings_of (book_of old))) k l before after
 
-  -- A board's process from the beginning of a turn, at which it remembers this, to that of another one. Unless a write
-  -- failed, all turns between them are over, and the six lines were printed at the end of each in which the book has
-  -- grown. What it told of what it can't take are just the notices that were handed on, and what it handed to be shown is
-  -- just its book at the end of each turn, and what keeps it from going on.
+  -- A board's process from the beginning of one turn, with this memory, to that of another. Unless a write failed, all turns
+  -- between them are over, and the six lines were printed at the end of each turn in which the book grew. Its notices are
+  -- exactly those that were told, and it handed over to be shown exactly its book, with what keeps it from going on, at the end
+  -- of each turn.
   pub record BoardRuns
       {E : Type 0} (sheet : Sheet) (old new : Board B g) (before after : Logs) (from to : ℕ) (memory : Memory)
       (ticking : Ticking) (noted notes : List Notice) (seen sees : List Sight) (result : Result (Unit {0}) E) : Type 0 where
@@ -291,13 +292,13 @@ module _ {B : Type 0} {g : _} (content : B → List Entry) (innings_of : B → �
         (known_where result before) (known_where result after)
     pub whole : OnOk result (last ≡ at_turn content new to last.memory last.ticking notes sees)
 
-  -- a board's book, as it is handed to be shown, and this, if it keeps the board from going on
+  -- a board's book as handed over to be shown, with the trouble that keeps the board from going on, if any
   abbrev pub sight_at : Sheet → Board B g → Option Trouble → Sight
   sight_at sheet k trouble = sight_of sheet (innings_of (book_of k)) (content (book_of k)) trouble
 
-  -- A board's process from its beginning on, with this board: its six lines are printed and its book is handed to be shown,
-  -- at a reading of its clock, and then it runs for so many turns. Where one of these failed, it ends, and of the text
-  -- nothing is said.
+  -- A board's process from its beginning, with this board: its six lines are printed and its book is handed over to be shown,
+  -- at a reading of its clock; then it runs for this many turns. If one of these steps fails, the process ends, and nothing is
+  -- said of the text.
   pub record BoardLives
       {E : Type 0} (sheet : Sheet) (old new : Board B g) (before after : Logs) (turns : ℕ) (noted notes : List Notice)
       (seen sees : List Sight) (result : Result (Unit {0}) E) : Type 0 where

@@ -20,26 +20,26 @@ use Rattle.live.specs.Ticks.{unticked}
 abbrev pub fresh : {Disk : Type 0} → DeskState Disk → DeskProcess Disk
 fresh k = record { desk = k; warned = unwarned; turns = 0; ticking = unticked; course = further }
 
--- on a disk without a byte a process makes its file
+-- on a disk without a byte, a process creates its file
 abbrev pub Makes : {Disk : Type 0} → FileView Disk → DeskId → Opening Disk → Type 0
 Makes view d (Opened k) = Creates view d k
 Makes view d (NotOpened why left) = Unit {0}
 
--- a process begins on this disk, of which a read gives these bytes: it makes its file where there are none, otherwise
--- opens what is there, so too after a beginning that was cut off
+-- a process begins on this disk, whose read gives these bytes: it creates its file if there are none, and otherwise opens what
+-- is there, also after a beginning that was cut off
 abbrev pub BeginsOn :
     {Disk : Type 0} → FileView Disk → (Disk → List ℕ) → ℕ → DeskId → Disk → Opening Disk → Type 0
 BeginsOn view seen innings d disk opening =
     (length (seen disk) ≡ 0 → Makes view d opening)
     × (0 < length (seen disk) → Opens view (book_refusal innings) d disk opening)
 
--- how a process that has begun is told to have ended
+-- how the end of a process that has begun is reported
 abbrev pub ended : Result (Unit {0}) DeskEnd → Result (Unit {0}) LifeEnd
 ended (Ok done) = Ok done
 ended (Err end) = Err (EndedSo end)
 
--- What followed, with this sheet: the desk that was opened told its scorer where it stands, and then there was a run of
--- it; or, where none was, nothing passed, was typed, was read of the clock or was told.
+-- What followed, with this sheet: the opened desk told its scorer where it stands, and then ran; or, if no desk was opened,
+-- nothing passed, was typed, was read of the clock or was told.
 abbrev pub Follows :
     {Disk : Type 0} → Sheet → FileView Disk → DiskView Disk → ℕ → Opening Disk → Logs → Logs → ℕ → Result (Unit {0}) LifeEnd
     → Type 0
@@ -51,8 +51,8 @@ Follows sheet view disks innings (Opened k) before after turns result =
 Follows sheet view disks innings (NotOpened cause left) before after turns result =
     (why : OpenRefusal) × (open_cause why ≡ cause) × (result ≡ Err (NotBegun why)) × (after ≡ before)
 
--- The process of this desk on a disk, where this is what the disk shows of its file, what a read gives, and what is told
--- of its failures: how it began, and what followed.
+-- The process of this desk on a disk: how it began, and what followed. `view` is what the disk shows of the desk's file, `seen`
+-- what a read gives, `disks` what tells of its failures.
 pub record DeskLives
     {Disk : Type 0} (view : FileView Disk) (seen : Disk → List ℕ) (disks : DiskView Disk) (sheet : Sheet) (innings : ℕ)
     (d : DeskId) (disk : Disk) (before after : Logs) (turns : ℕ) (result : Result (Unit {0}) LifeEnd) : Type 0 where

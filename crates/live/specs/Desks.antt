@@ -34,9 +34,9 @@ use Rattle.live.specs.Ticks.{Beat, Look, MayBeat, Other, Reading, Tick, Ticking,
 use Rattle.station_texts.specs.Texts.{came_text, greeting, reminder_text, said_text, unopened_text, unwarned, warned_after, warned_reminded, warned_said, warned_unopened}
 use Rattle.links.specs.Typing.{Input, Line, End}
 
--- a call of a desk: its scorer's line, the end of its scorer's lines, bytes that it is given, bytes that don't open, of
--- which it is given nothing, a look at its clock, whether a tick is due, a tick, another reading of its clock, each with
--- what it shows, what it tells its scorer of the other desk, or of lines that it isn't given, or the end of a turn
+-- a call of a desk: its scorer's line; the end of its scorer's lines; a datagram that it is given; a datagram that doesn't
+-- open, of which it is given nothing; a look at its clock, whether a tick is due; a tick; another reading of its clock; a
+-- reminder about the other desk; a message about lines that it isn't given; or the end of a turn
 pub data DeskCall : Type 0 where
   Typed : List ℕ → Said → DeskCall
   TypingEnded : DeskCall
@@ -49,7 +49,7 @@ pub data DeskCall : Type 0 where
   ToldAside : Aside → DeskCall
   TurnEnded : DeskCall
 
--- with this sheet, in a match of this number and innings a side
+-- with this sheet, in a match with this number and this many innings a side
 abbrev pub DeskStep :
     {Disk : Type 0} → Sheet → FileView Disk → ℕ → ℕ
     → DeskState Disk → DeskCall → List Message → DeskState Disk → Type 0
@@ -65,18 +65,18 @@ course_after k TypingEnded = Err NoMoreLines
 course_after k (Given bytes what) = end_at what
 course_after k call = further
 
--- what a disk's failures are told by: how many there were, and whether there is room for the longest file
+-- how a disk's failures are told: how many there were, and whether there is room for the longest file
 pub record DiskView (Disk : Type 0) : Type 1 where
   pub faults : Disk → Faults
   pub FitsLongest : Type 0
 
--- a call of a desk that hasn't failed ends the process with `Device` exactly where the disk failed in the call
+-- a call of a desk that hasn't failed ends the process with `Device` exactly if the disk failed in the call
 abbrev pub Blames : {Disk : Type 0} → DiskView Disk → DeskState Disk → DeskCall → DeskState Disk → Type 0
 Blames disks k call l =
     k.failed ≡ false → BlamesDisk Device disks.FitsLongest (course_after k call) (disks.faults k.disk) (disks.faults l.disk)
 
--- a desk's process: the desk, what its scorer was told of a peer since a vote of the other desk came, how many turns are
--- over, what it saw of its clock, and how it goes on
+-- a desk's process: the desk, what its scorer was told of a peer since the other desk's last vote, how many turns are over,
+-- what it saw of its clock, and how it goes on
 pub record DeskProcess (Disk : Type 0) : Type 0 where
   pub desk : DeskState Disk
   pub warned : Warned
@@ -84,7 +84,7 @@ pub record DeskProcess (Disk : Type 0) : Type 0 where
   pub ticking : Ticking
   pub course : Course
 
--- what bytes that came at a desk show of both desks' files
+-- what a datagram at a desk shows of both desks' files
 abbrev pub shown_by : {Disk : Type 0} → DeskState Disk → List ℕ → What → Evidence
 shown_by k bytes what = evidence k.seat k.votes bytes what
 
@@ -117,9 +117,9 @@ after_call k call l =
       course = course_after k.desk call;
     }
 
--- A scorer may be told that the other has written where its vote is noted and the own isn't cast, unless it was told;
--- that the other desk isn't heard, unless it was told; and that it is again, where it was told that it isn't. When it is
--- told, the process sees by its clock.
+-- A scorer may be told that the other has written if the other's vote is noted and the own one isn't cast, unless that was
+-- told; that the other desk isn't heard, unless that was told; and that it is heard again, if it was told that it isn't. The
+-- clock decides when.
 abbrev pub MayRemind : {Disk : Type 0} → DeskProcess Disk → Reminder → Type 0
 MayRemind k HasWritten =
     (is_some k.desk.seat.mine ≡ false) × (is_some k.desk.seat.theirs ≡ true) × (k.warned.of_writing ≡ false)
@@ -151,7 +151,7 @@ abbrev pub given : DeskCall → List Passed
 given (Given bytes what) = Came bytes ∷ []
 given call = []
 
--- a desk's answer to bytes goes to the one that sent them; its vote, and all that it says unasked, goes to all
+-- a desk's reply to a datagram goes to its sender; its vote, and all that it says unasked, goes to all
 abbrev pub receivers_of : DeskCall → Receivers
 receivers_of (Given bytes what) = ToOne
 receivers_of call = ToAll
@@ -161,7 +161,7 @@ typed (Typed line said) = Line line ∷ []
 typed TypingEnded = End ∷ []
 typed call = []
 
--- a desk's vote of its position, where it is cast: the last of its votes
+-- the desk's vote of its position, if it is cast: the last of its votes
 abbrev pub own_entry : Bool → Option Entry → Option Entry
 own_entry true last = last
 own_entry false last = None
@@ -169,7 +169,7 @@ own_entry false last = None
 abbrev pub own_line : {Disk : Type 0} → DeskState Disk → Option Entry
 own_line k = own_entry (is_some k.seat.mine) (last_entry k.votes)
 
--- the entry of the vote that bytes say: its code is the body
+-- the entry of the vote in a datagram: its code is the body
 abbrev pub entry_in : List ℕ → Option Entry
 entry_in bytes = entry_coded (body_in bytes)
 
@@ -197,12 +197,12 @@ desk_kind sheet view disks game innings = record {
   prints = told_of sheet innings;
 }
 
--- a file of this many slots has so many bytes, and the longest one is within the cap
+-- a file of this many slots has `room` many bytes, and the longest file is within the cap
 abbrev pub FitsLongest : (ℕ → ℕ) → ℕ → Type 0
 FitsLongest room cap = (votes : ℕ) → votes ≤ most_votes → room votes ≤ cap
 
--- how a run of so many turns ended with this answer: all turns are over, or a write failed and no disk, or the process
--- came to its end
+-- how a run of this many turns ended with this answer: all turns are over; or a write failed, but no disk; or the process came
+-- to its end
 abbrev pub Ended : {Disk : Type 0} → ℕ → Result (Unit {0}) DeskEnd → DeskProcess Disk → Type 0
 Ended turns (Ok done) last = (last.course ≡ further) × (last.turns ≡ turns)
 Ended turns (Err Write) last = last.course ≢ Err Device
@@ -222,8 +222,7 @@ module _ {S B D : Type 0} {g : Files S D} {h : Disks D} {b : Books B} where
   process_of desk warned turns ticking course =
       record { desk = state_of desk; warned = warned; turns = turns; ticking = ticking; course = course }
 
-  -- a call of a desk that has this sheet, with its answer: what it handed out, with its receivers, is what the link's log
-  -- grew by
+  -- a call of a desk with this sheet, and its answer: what it sent, and to whom, is exactly what the link's log grew by
   pub record Calls
       (sheet : Sheet) (old new : Desk S B D g h b) (call : DeskCall) (before after : List Passed) : Type 0 where
     pub same : SameOwner old new
@@ -233,12 +232,12 @@ module _ {S B D : Type 0} {g : Files S D} {h : Disks D} {b : Books B} where
     pub step : DeskStep sheet (view_of old) (game_of old) (innings_of old) (state_of old) call out (state_of new)
     pub blame : Blames (disks_of old) (state_of old) call (state_of new)
 
-  -- from a desk's process on there is a run to another one of the same desk
+  -- a run from one state of a desk's process to another, of the same desk
   pub record DeskGoes (sheet : Sheet) (old new : Desk S B D g h b) (k l : DeskProcess D) (before after : Logs) : Type 0 where
     pub same : SameOwner old new
     pub goes : Goes (kind_of sheet old) k l before after
 
-  -- A desk's process: the scorer is told where the desk stands, and then there is a run from its first turn on.
+  -- A desk's process: the scorer is told where the desk stands, and then the process runs from its first turn on.
   pub record DeskRuns
       (sheet : Sheet) (old new : Desk S B D g h b) (before after : Logs) (turns : ℕ) (result : Result (Unit {0}) DeskEnd)
       : Type 0 where

@@ -15,14 +15,14 @@ Course = Result (Unit {0}) DeskEnd
 abbrev pub further : Course
 further = Ok tt
 
--- after what a line came to: it ends at `quit` and at a failed disk
+-- after a typed line: the process ends at `quit` and at a failed disk
 abbrev pub end_of : Said → Course
 end_of Said.Quit = Err Quit
 end_of (Said.Refused e Refusal.Device) = Err Device
 end_of (Said.Refused e Refusal.Failed) = Err Device
 end_of answer = further
 
--- after the answer to bytes that came
+-- after the answer to a datagram
 abbrev pub end_at : What → Course
 end_at What.Device = Err Device
 end_at What.Failed = Err Device
@@ -37,7 +37,7 @@ abbrev pub course_of : {T : Type 0} → Result T DeskEnd → Course
 course_of (Ok value) = further
 course_of (Err end) = ending end
 
--- what the writer tells, and nothing where a write failed
+-- the writer's text; unknown if a write failed
 abbrev pub known_to : DeskEnd → Option (List ℕ) → Option (List ℕ)
 known_to Write told = None
 known_to end told = told
@@ -46,19 +46,19 @@ abbrev pub known_at : {T : Type 0} → Result T DeskEnd → Option (List ℕ) �
 known_at (Ok value) told = told
 known_at (Err end) told = known_to end told
 
--- the same of all logs
+-- all logs, with the writer's text unknown if a write failed
 abbrev pub known_until : DeskEnd → Logs → Logs
 known_until end logs = record logs { told = known_to end logs.told }
 
 abbrev pub known_in : {T : Type 0} → Result T DeskEnd → Logs → Logs
 known_in result logs = record logs { told = known_at result logs.told }
 
--- a failed write of what the scorer is told
+-- a failed write to the scorer's screen
 abbrev pub written : Result (Unit {0}) WriteFailed → Course
 written (Ok done) = further
 written (Err fault) = Err Write
 
--- an end with its last flush: a failed flush is told, unless the disk failed
+-- how the process ended after its last flush: a failed flush is reported, unless the disk failed
 abbrev pub end_told : Course → Course → Course
 end_told (Err Device) flushed = Err Device
 end_told end (Err fault) = Err fault

@@ -1,5 +1,5 @@
--- What a scorer can't see: what the other scorer wrote at a position, before the own vote of that position is stored. And
--- what is seen once both votes are stored and differ: both entries.
+-- What a scorer can't see: what the other scorer wrote at a position, before the own vote of that position is stored. Also what
+-- a scorer does see once both votes are stored and differ: both entries.
 use Rattle.std.specs.Prelude.{◌≡◌, ◌≢◌, ◌⊎◌, ◌∷◌, ℕ, List, [], Option, Some, None}
 use Rattle.notation.specs.declared.entry.Entry.{Entry}
 use Rattle.corrections.specs.declared.refusal.Refusal.{Refusal as BookRefusal}
@@ -18,7 +18,7 @@ use Rattle.live.specs.Desks.{DeskCall, DeskProcess, Given, MayRemind, Typed, own
 use Rattle.live.specs.DeskSights.{desk_sight}
 use Rattle.station_texts.specs.Texts.{at_place, both_lines}
 
--- the same seat, desk and process, with another vote of the other desk noted, or none
+-- the same seat, desk and process, but with another noted vote of the other desk, or none
 abbrev pub seat_with : SeatState → Option Entry → SeatState
 seat_with s e = record s { theirs = e }
 
@@ -36,13 +36,14 @@ IsPennedDiffering call = (line : List ℕ) × (own : Entry) × (call ≡ Typed l
 abbrev pub AsksWhere : DeskCall → Type 0
 AsksWhere call = (line : List ℕ) × (call ≡ Typed line (Said.Asks Word.Where))
 
--- Of the other desk's vote of a position its scorer is told that it came, and nothing that depends on its entry, until the
--- own one is stored: until that is cast, the other's is answered with `Noted` whatever it says, and nothing is told then; a
--- text depends on bytes that came by their answer alone, and by what they show of both desks' files, which only asks, votes
--- for other positions and votes of its own do, unless the answer is `Differ`, which is given only where the own vote was cast before; and it depends on no vote that is noted, unless a vote is penned that differs from it, which is stored
--- then; where the scorer asks where the desk stands, it depends on whether a vote is noted, and not on which, and so does
--- it whether he may be reminded; and what is seen of the desk beside its rows depends on no vote that is noted. So two
--- runs that differ in that entry alone print the same until then.
+-- A desk's scorer is told that the other desk's vote of a position came, but nothing that depends on its entry, until the own
+-- vote is stored. Until the own vote is cast, the other's is answered with `Noted` whatever it says, and nothing is told then.
+-- The text for a datagram depends on its bytes only through the answer and through what they show of both desks' files, which
+-- only asks, votes for other positions and own votes do; except for `Differ`, which is answered only after the own vote is
+-- cast. The text for a call depends on no noted vote, unless the call pens a vote that differs from it, which is then stored.
+-- When the scorer asks where the desk stands, and for reminders, it matters whether a vote is noted, but not which. What is
+-- seen of the desk besides its rows depends on no noted vote. So two runs that differ only in that entry print the same until
+-- then.
 pub record HidesTheOther {Disk : Type 0} (view : FileView Disk) : Type 0 where
   pub answer : (s t : SeatState) (v : Vote) (h : Heard) → s.mine ≡ None → s.theirs ≡ None → IsForNow s v → Hears s v h t
       → h ≡ Heard.Noted
@@ -69,8 +70,8 @@ pub record HidesTheOther {Disk : Type 0} (view : FileView Disk) : Type 0 where
       → Pens view rules k own (desks.Penned Settled.Differ) l out
       → Holds view l.disk (next_ballot k own ∷ k.votes)
 
--- Once both votes of a position are stored and differ, the scorer is told both: as the own one is penned, the other's that
--- was noted; and as the other's comes, what its bytes say.
+-- Once both votes of a position are stored and differ, the scorer is told both: if the own vote is penned second, the other's
+-- that was noted; if the other's comes second, what its datagram says.
 pub record TellsBoth (Disk : Type 0) : Type 0 where
   pub penned : (sheet : Sheet) (innings : ℕ) (k l : DeskProcess Disk) (line : List ℕ) (own other : Entry)
       → k.desk.seat.theirs ≡ Some other

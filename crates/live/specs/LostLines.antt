@@ -1,4 +1,4 @@
--- What bytes that came show of lines that one of both desks' files lacks.
+-- What a datagram shows of lines that the file of either desk lacks.
 use Rattle.std.specs.Prelude.{ℕ, Bool, true, false, ◌&&◌, ◌||◌, not, is_some, if◌then◌else◌, List, [], ◌∷◌, Option, Some, slice_index}
 use Rattle.std.specs.Str.{bytes_eq}
 use Rattle.notation.specs.Code.{code}
@@ -14,41 +14,41 @@ use Rattle.wire.specs.declared.what.What.{What}
 use Rattle.wire.specs.Layout.{body_in}
 use Rattle.wire.specs.inner.Fields.{asker_numbered, place_in, round_in}
 
--- the position of the message that bytes say
+-- the position of the message in a datagram
 abbrev pub position_in : List ℕ → Position
 position_in bytes = record { place = place_in bytes; round = round_in bytes }
 
--- who asks, where they say an ask
+-- who asks, if the datagram is an ask
 abbrev pub asker_in : List ℕ → Option Asker
 asker_in bytes = asker_numbered (slice_index bytes 12)
 
--- that is the other desk of this one
+-- the asker is the other desk
 abbrev pub is_other : DeskId → Option Asker → Bool
 is_other A (Some Asker.B) = true
 is_other B (Some Asker.A) = true
 is_other d asker = false
 
--- An ask of the other desk shows that its file lacks lines, where this desk has passed its position over, and that it isn't ahead,
--- where it asks for the one at which this desk stands. That it asks for a later one shows nothing: a window asks for places ahead.
--- A board's ask shows nothing: who keeps a board may ask for what he likes.
+-- An ask of the other desk shows that its file lacks lines, if this desk has passed over the position asked for, and that it
+-- isn't ahead, if it asks for this desk's position. An ask for a later position shows nothing: a window asks for places ahead.
+-- A board's ask shows nothing: whoever keeps a board may ask for anything.
 abbrev pub asked : Bearing → Evidence
 asked b = if b.passed_over then OtherLacks else (if b.is_level then Level else Nothing)
 
--- The own vote isn't cast at this position: it is the desk's own, without one, or a later one.
+-- The own vote isn't cast at this position: it is the desk's position and has no vote yet, or it is a later one.
 abbrev pub is_uncast : SeatState → Position → Bool
 is_uncast s at = not (is_before at s.position) && not (is_at at s.position && is_some s.mine)
 
--- the last vote is for this position, and for another entry than that of this code
+-- the last vote is for this position, but for another entry than the one with this code
 abbrev pub is_other_last : List Ballot → Position → List ℕ → Bool
 is_other_last [] at entry = false
 is_other_last (b ∷ bs) at entry = is_at b.at at && not (bytes_eq entry (code b.entry))
 
--- A vote of the desk itself, for this position and the entry of this code, isn't among its votes: so its file lacks it.
+-- The desk's own vote for this position, and the entry with this code, isn't among its votes: its file lacks that vote.
 abbrev pub is_unkept : SeatState → List Ballot → Position → List ℕ → Bool
 is_unkept s votes at entry = is_uncast s at || is_other_last votes at entry
 
--- A vote shows that the other's file lacks lines where it is another one, and that this desk's does where it isn't in reach, or
--- where it is a vote of its own that it hasn't; by the answer to it.
+-- By the answer to it, a vote shows that the other's file lacks lines if it isn't the one by which this desk went on; and that
+-- this desk's file lacks lines if its position isn't in reach, or if it is a vote of this desk that its file hasn't.
 abbrev pub evidence_of : Bearing → What → Evidence
 evidence_of b (What.Heard Heard.Old) = if b.another then OtherLacks else Nothing
 evidence_of b (What.Heard Heard.Mine) = if b.unkept then Unkept else Nothing
@@ -56,7 +56,7 @@ evidence_of b (What.Heard Heard.Ahead) = if b.in_reach then Nothing else Ahead
 evidence_of b What.Asked = asked b
 evidence_of b what = Nothing
 
--- what bytes tell that come at a desk with this seat and these votes
+-- what a datagram shows at a desk with this seat and these votes
 abbrev pub bearing_of : SeatState → List Ballot → List ℕ → Bearing
 bearing_of s votes bytes = record {
   another = is_another s votes (position_in bytes) (body_in bytes);

@@ -1,4 +1,4 @@
--- The logs of what a desk's process works with, each by what its trait calls its log.
+-- The logs of what a desk's process works with, each by the log of its trait.
 use Rattle.std.specs.Prelude.{ℕ, List, Option}
 use Rattle.links.specs.Passed.{Passed}
 use Rattle.links.specs.Typing.{Input}

@@ -3,8 +3,8 @@ use Rattle.std.specs.Prelude.{◌+◌, ◌*◌, ◌^◌, ◌-◌, ℕ, Bool, fal
 use Rattle.live.specs.declared.pace.Pace.{Pace}
 use Rattle.live.specs.Ticks.{Ticking, after_look, unticked}
 
--- when something is due, after how long it is due again then, whether the next datagram is waited for, and what was seen
--- of the clock
+-- when something is due, how long after that it is due again, whether to wait for the next datagram, and what was seen of the
+-- clock
 pub record Paced : Type 0 where
   pub due : ℕ
   pub wait : ℕ
@@ -17,7 +17,7 @@ ticking_of pace = record { ticked = pace.ticked; looked = pace.looked }
 abbrev pub paced : Pace → Paced
 paced pace = record { due = pace.due; wait = pace.wait; waits = pace.waits; ticking = ticking_of pace }
 
--- so many milliseconds later, as far as there are such times
+-- this many milliseconds later, capped at the largest time
 abbrev pub later : ℕ → ℕ → ℕ
 later now wait = min (now + wait) (2 ^ 64 - 1)
 
@@ -28,15 +28,14 @@ at_once = record { due = 0; wait = 20; waits = false; ticking = unticked }
 abbrev pub turn_ended : Paced → Paced
 turn_ended p = record p { ticking = record p.ticking { looked = None } }
 
--- the first datagram of a turn is waited for, until something is due, half a second at most
+-- the first datagram of a turn is waited for until something is due, half a second at most
 abbrev pub wait_left : Paced → ℕ → ℕ
 wait_left p now = if p.waits then min 500 (p.due - now) else 0
 
 abbrev pub is_due : Paced → ℕ → Bool
 is_due p now = nat_le p.due now
 
--- After a look at the clock: what is due is said now, and is due again after the wait, which then doubles, up to half a
--- second.
+-- After a look at the clock: what is due is said now, and is due again after the wait, which then doubles, up to half a second.
 abbrev pub after_taken : Bool → Paced → ℕ → Paced
 after_taken due p now =
     record p {
@@ -45,7 +44,7 @@ after_taken due p now =
       ticking = after_look due p.ticking now;
     }
 
--- at a new position something is due at once; where an answer may come, after 20 ms at the latest
+-- at a new position something is due at once; if an answer may come soon, after 20 ms at the latest
 abbrev pub noted : Bool → Bool → Paced → ℕ → Paced
 noted is_new may_come p now =
     record p {

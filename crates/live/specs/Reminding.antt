@@ -1,4 +1,4 @@
--- What a scorer is told of the other desk by the clock comes once.
+-- A reminder about the other desk comes once.
 use Rattle.std.specs.Prelude.{◌≡◌, ◌≢◌, ℕ, Bool, true, false, List, All}
 use Rattle.agree_core.specs.declared.{messages.Message.Message, seat.Heard.Heard}
 use Rattle.agree_core.specs.FileView.{FileView}
@@ -10,7 +10,7 @@ use Rattle.station_texts.specs.Texts.{unwarned}
 use Rattle.station_texts.specs.declared.reminder.Reminder.{Reminder}
 use Rattle.station_texts.specs.declared.reminder.Reminder.TheVariants.{HasWritten, IsHeard, IsMissed}
 
--- a vote of the other desk that is news comes
+-- the call takes a vote of the other desk that is news
 abbrev pub brings_news : DeskCall → Bool
 brings_news (Given bytes (What.Heard Heard.Noted)) = true
 brings_news (Given bytes (What.Heard Heard.Agreed)) = true
@@ -21,13 +21,13 @@ module _ {Disk : Type 0} where
   abbrev pub BringsNone : Moment (DeskProcess Disk) DeskCall → Type 0
   BringsNone m = brings_news m.call ≡ false
 
-  -- in a moment the scorer isn't told this of the other desk
+  -- in this moment the scorer isn't given this reminder
   abbrev pub IsNot : Reminder → Moment (DeskProcess Disk) DeskCall → Type 0
   IsNot reminder m = m.call ≢ Reminded reminder
 
--- In a run of a desk's process, once its scorer was told that the other has written, that isn't told again before a vote of
--- the other desk that is news comes; that the other desk is heard again isn't told before he was told that it isn't heard;
--- and of these two neither is told again before the other one.
+-- In a run of a desk's process: once its scorer was told that the other has written, that isn't told again before a vote of the
+-- other desk that is news comes; that the other desk is heard again isn't told before it was told that it isn't heard; and
+-- neither of these two is told again before the other one.
 pub record RemindsOnce {Disk : Type 0} (view : FileView Disk) (disks : DiskView Disk) : Type 0 where
   pub writing : (sheet : Sheet) (game innings : ℕ) (k l : DeskProcess Disk) (out : List Message) (ms : List (Moment (DeskProcess Disk) DeskCall))
       → ProcessStep sheet view disks game innings k (Reminded HasWritten) out l

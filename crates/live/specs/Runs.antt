@@ -1,4 +1,4 @@
--- Runs of one station: its calls, what they hand out, and what they print.
+-- Runs of one station: its calls, what they send, and what they print.
 use Rattle.std.specs.Prelude.{◌≡◌, ℕ, List, [], ◌∷◌, ◌++◌, All, Option, Some, None, Result, Ok, Err}
 use Rattle.std.specs.Io.KnownBytes.{Appends}
 use Rattle.agree_core.specs.declared.messages.Message.{Message}
@@ -8,43 +8,43 @@ use Rattle.links.specs.declared.link.Receivers.{Receivers}
 use Rattle.links.specs.Typing.{Input}
 use Rattle.live.specs.Ticks.{Beat, Ticking, reads}
 
--- what a writer tells, and nothing where a write failed
+-- the writer's text; unknown if a write failed
 abbrev pub known : {T E : Type 0} → Result T E → Option (List ℕ) → Option (List ℕ)
 known (Ok value) told = told
 known (Err fault) told = None
 
--- what a writer tells, once it has written this too
+-- the writer's text with this text added
 abbrev pub with_text : Option (List ℕ) → List ℕ → Option (List ℕ)
 with_text None text = None
 with_text (Some told) text = Some (told ++ text)
 
--- what has passed at a station's link, what was typed there, what its clock has shown, and what its writer tells
+-- what has passed at a station's link, what was typed there, what its clock has shown, and its writer's text
 pub record Logs : Type 0 where
   pub passed : List Passed
   pub typed : List Input
   pub readings : List ℕ
   pub told : Option (List ℕ)
 
--- once the writer has written this too
+-- the logs once the writer has written this too
 abbrev pub with_told : Logs → List ℕ → Logs
 with_told logs text = record logs { told = with_text logs.told text }
 
--- of the writer nothing, where a write failed
+-- the logs, with the writer's text unknown if a write failed
 abbrev pub known_where : {T E : Type 0} → Result T E → Logs → Logs
 known_where result logs = record logs { told = known result logs.told }
 
--- of a station at which nothing is typed
+-- the logs of a station at which nothing is typed
 abbrev pub untyped : List Passed → List ℕ → Option (List ℕ) → Logs
 untyped passed readings told = record { passed = passed; typed = []; readings = readings; told = told }
 
--- a call of a station with its answer, the messages that it handed out, and the station after it
+-- a call of a station, the messages that it sent, and the station after it
 pub record Moment (State Call : Type 0) : Type 0 where
   pub call : Call
   pub out : List Message
   pub after : State
 
--- a kind of station in a match: what its calls do, the datagrams and the lines that are given to it with a call, to whom
--- goes what a call hands out, what a call is to its clock, what it saw of that, and what is printed of a call
+-- a kind of station in a match: what its calls do, the datagrams and the lines that a call is given, to whom its messages go,
+-- what a call is to the clock, what the station saw of the clock, and what a call prints
 pub record Kind (State Call : Type 0) : Type 1 where
   pub game : ℕ
   pub Step : State → Call → List Message → State → Type 0
@@ -67,7 +67,7 @@ module _ {State Call : Type 0} where
   Run kind k (m ∷ ms) =
       Run kind k ms × All IsMessage m.out × kind.Step (last_of k ms) m.call m.out m.after
 
-  -- what passed in a call: what it was given, and then what it handed out, with its receivers
+  -- what passed in a call: what it was given, then what it sent, with the receivers
   abbrev pub passed_at : Kind State Call → Call → List Message → List Passed
   passed_at kind call out = kind.given call ++ sends (kind.receivers call) kind.game out
 
@@ -91,15 +91,15 @@ module _ {State Call : Type 0} where
   printed_in kind k [] = []
   printed_in kind k (m ∷ ms) = printed_in kind k ms ++ kind.prints (last_of k ms) m.call m.after
 
-  -- The logs have grown by these moments of a station: its datagrams are just those that passed, its lines just those that
-  -- were typed, its times just those that were read, and its texts just those that were written.
+  -- The logs have grown by these moments of a station: its datagrams are exactly those that passed, its lines those that were
+  -- typed, its times those that were read, and its texts those that were written.
   pub record LogsGrow (kind : Kind State Call) (k : State) (moments : List (Moment State Call)) (before after : Logs) : Type 0 where
     pub passed : after.passed ≡ before.passed ++ passed_in kind moments
     pub inputs : after.typed ≡ before.typed ++ typed_in kind moments
     pub readings : after.readings ≡ before.readings ++ read_in kind moments
     pub printed : Appends before.told after.told (printed_in kind k moments)
 
-  -- between two states of a station and of its logs there is a run
+  -- there is a run between two states of a station and of its logs
   pub record Goes (kind : Kind State Call) (k l : State) (before after : Logs) : Type 0 where
     pub moments : List (Moment State Call)
     pub run : Run kind k moments

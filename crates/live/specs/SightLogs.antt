@@ -1,4 +1,4 @@
--- What a log of what was handed to be shown tells.
+-- The sights in a log of what was handed over to be shown.
 use Rattle.std.specs.Prelude.{ℕ, List, [], ◌∷◌, ◌++◌}
 use Rattle.notation.specs.declared.entry.Entry.{Entry}
 use Rattle.live.specs.Sights.{Sight, sight_of}

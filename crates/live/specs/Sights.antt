@@ -4,8 +4,8 @@ use Rattle.notation.specs.declared.entry.Entry.{Entry}
 use Rattle.cards.specs.Sheet.{Sheet}
 use Rattle.board.specs.declared.trouble.Trouble.{Trouble}
 
--- a board's book, as it is handed to be shown, with the sheet and the innings a side of its match, and what keeps it from going
--- on, if anything does: its six lines and its state are made of these alone
+-- a board's book as handed over to be shown, with its match's sheet and innings a side, and what keeps the board from going on,
+-- if anything: its six lines and its state are made of these alone
 pub record Sight : Type 0 where
   pub sheet : Sheet
   pub innings : ℕ

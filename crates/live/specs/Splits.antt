@@ -1,4 +1,4 @@
--- A board that heard both desks agree on an entry tells it where they agree on another one, whatever their files hold.
+-- A board that heard both desks agree on an entry tells it if they agree on another one, whatever their files hold.
 use Rattle.std.specs.Prelude.{◌≡◌, ◌≢◌, ℕ, true, List, [], ◌∷◌, ◌++◌, Result}
 use Rattle.notation.specs.declared.entry.Entry.{Entry}
 use Rattle.notation.specs.Written.{IsEntry}
@@ -12,9 +12,9 @@ use Rattle.live.specs.Boards.{BoardTurn, Given, Parted, TurnStep}
 use Rattle.station_texts.specs.Notices.{is_stopped}
 use Rattle.station_texts.specs.declared.notices.Notice.{Notice}
 
--- In whatever turn of a board's process, whoever sent what it was given: where it heard both desks vote alike for an entry at a
--- place, and they agree another one there, in whatever round, the vote of one of them isn't taken: as it comes, the board tells
--- that what stands there is written anew, and from then on takes nothing more; and it hands that desk's own vote back to it.
+-- In any turn of a board's process, whoever sent the datagrams: if it heard both desks vote alike for an entry at a place, and
+-- they agree on another one there, in any round, it doesn't take the vote of one of them. When that vote comes, the board tells
+-- that what stands there is written anew, takes nothing more from then on, and hands that desk's own vote back to it.
 abbrev pub SplitsAreTold : Type 0
 SplitsAreTold =
     (sheet : Sheet) (game innings place round other : ℕ) (e f : Entry) (k : BoardTurn)

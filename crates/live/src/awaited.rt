@@ -8,19 +8,19 @@ use agree_core::Heard;
 use board::BoardRefusal;
 use wire::What;
 
-/// For how many milliseconds none comes, before a board for which both desks are ahead says so. It asks twice a second.
+/// After this many milliseconds without a vote of its position, a board with both desks ahead says so. It asks twice a second.
 const LONGEST_WAIT: u64 = 10_000;
 
-/// Since when a board has heard no vote of its position.
+/// The time since which a board has heard no vote of its position.
 #[derive(Clone, Copy, Debug)]
 pub struct Awaited {
-    /// When the last one came; time in which the board was held itself isn't counted.
+    /// When the last such vote came; time in which the board itself was held up isn't counted.
     since: u64,
-    /// What the clock showed when it was looked at last.
+    /// The clock's last reading.
     looked: u64,
 }
 
-/// Whether it is a vote of the board's position that was answered so.
+/// Whether this is the answer to a vote of the board's position.
 fn is_here(answer: Result<What, BoardRefusal>) -> bool {
     matches!(
         answer,
@@ -31,7 +31,7 @@ fn is_here(answer: Result<What, BoardRefusal>) -> bool {
 }
 
 impl Awaited {
-    /// The process begins.
+    /// Begins to wait, as the process begins.
     pub fn new() -> Awaited {
         Awaited {
             since: 0,
@@ -39,7 +39,8 @@ impl Awaited {
         }
     }
 
-    /// The clock shows this, once a turn, which waits half a second at most: for what is longer the board was held itself.
+    /// Notes the clock's reading, once a turn. A turn waits half a second at most: in any longer time the board itself was held
+    /// up.
     pub fn pass(&mut self, now: u64)
         ensures since { self.new.since ≡ signs.counted_from self.old.since self.old.looked now }
         ensures looked { self.new.looked ≡ now }
@@ -51,14 +52,14 @@ impl Awaited {
         self.looked = now;
     }
 
-    /// Something came now, which was answered so.
+    /// Notes that a datagram came now, with the answer to it.
     pub fn note(&mut self, answer: Result<What, BoardRefusal>, now: u64) {
         if is_here(answer) {
             self.since = now;
         }
     }
 
-    /// Whether that is long ago.
+    /// Whether the last such vote is `LONGEST_WAIT` or longer ago.
     pub fn is_over(&self, now: u64) -> bool {
         now.saturating_sub(self.since) >= LONGEST_WAIT
     }

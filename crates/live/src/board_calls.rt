@@ -1,4 +1,4 @@
-//! The calls of a board at its link.
+//! A board's calls on its link.
 
 ghost use Rattle.board.specs.Board.{state_of};
 ghost use Rattle.live.specs.Boards.{Asks};
@@ -7,7 +7,7 @@ use board::Board;
 use corrections::BookOf;
 use links::{Link, send_each};
 
-/// Has a board say what it says unasked, to all.
+/// Sends to all what a board says unasked.
 pub fn tick<B: BookOf, L: Link>(board: &Board<B>, link: &mut L)
     ensures { Asks B.content board.now (L.log link.old) (L.log link.new) }
 {

@@ -19,7 +19,7 @@ use links::{Clock, Link};
 use station_texts::notices::Notices;
 use streams::{Sink, WriteFailed};
 
-/// Prints a board's six lines and hands its book over to be shown, as it begins at this time.
+/// Prints a board's six lines and hands its book over to be shown, as the process begins at this time.
 fn begin<B: BookOf, W: Sink, S: Shows<B>>(
     board: &Board<B>,
     sheet: &MatchSheet,
@@ -38,8 +38,8 @@ fn begin<B: BookOf, W: Sink, S: Shows<B>>(
     state.show(sheet, board.book(), None, now)
 }
 
-/// A board's process: it prints its six lines and hands its book over to be shown at once, and then takes so many turns,
-/// as `run_board` does.
+/// Runs a board's process: prints its six lines, hands its book over to be shown at once, and then takes this many turns, as
+/// `run_board` does.
 pub fn keep_board<B: BookOf, L: Link, C: Clock, N: Notices, W: Sink, S: Shows<B>>(
     board: &mut Board<B>,
     sheet: &MatchSheet,

@@ -43,7 +43,7 @@ use station_texts::notices::{Notices, Telling};
 use streams::{Sink, Watched, WriteFailed};
 use wire::{What, WireFault, bytes_of};
 
-/// What a board's process keeps between its calls.
+/// The state that a board's process keeps between its calls.
 #[derive(Clone, Copy, Debug)]
 struct Between {
     pace: Pace,
@@ -52,8 +52,7 @@ struct Between {
     awaited: Awaited,
 }
 
-/// Looks at the clock, and has a board say what it says unasked, where that is due. It answers how long the next datagram
-/// is waited for.
+/// Looks at the clock, and sends what the board says unasked if that is due. Returns how long to wait for the next datagram.
 fn say<B: BookOf, L: Link, C: Clock>(
     board: &Board<B>,
     link: &mut L,
@@ -77,7 +76,7 @@ fn say<B: BookOf, L: Link, C: Clock>(
     wait
 }
 
-/// The own vote of the desk that sent what came, where it goes back to that desk.
+/// Returns the vote of the sending desk that goes back to it, if this message calls for one.
 #[tactic(auto, using(std::proofs::lemmas::Grind::common_steps, wire::proofs::MessageLemmas::in_range))]
 fn recalled(witness: &Witness, read: &Result<Message, WireFault>) -> Option<Vote>
     requires { ForOk read.now IsMessage }
@@ -91,7 +90,8 @@ fn recalled(witness: &Witness, read: &Result<Message, WireFault>) -> Option<Vote
     }
 }
 
-/// The place of the vote that came, where the board goes on: it has heard another one of that desk.
+/// Returns the place of a vote that contradicts the one heard from its desk; `None` for any other message, or once the board
+/// has stopped.
 fn parting(telling: Telling, read: &Result<Message, WireFault>) -> Option<u32>
     ensures parted { (place : ℕ) → result ≡ Some place →
         (is_stopped telling ≡ false) × (v : AVote) × (read.now ≡ Ok (Message.Vote v)) × (v.place ≡ place) }
@@ -103,7 +103,7 @@ fn parting(telling: Telling, read: &Result<Message, WireFault>) -> Option<u32>
     }
 }
 
-/// Hands a desk's own vote back to who sent what came.
+/// Sends a desk's own vote back to the sender of the datagram.
 fn hand_back<L: Link>(link: &mut L, game: u64, vote: Vote)
     requires { InRange (position_of vote) }
     ensures { L.log link.new ≡ L.log link.old ++ Sent ToOne (written game (Message.Vote vote)) ∷ [] }
@@ -112,7 +112,7 @@ fn hand_back<L: Link>(link: &mut L, game: u64, vote: Vote)
     link.reply(&bytes);
 }
 
-/// The entry of the vote that came, where it is one.
+/// Returns the entry of the received vote, if the message is a vote.
 fn entry_in(read: &Result<Message, WireFault>) -> Option<Entry>
     ensures { (v : AVote) → read.now ≡ Ok (Message.Vote v) → result ≡ Some v.entry }
 {
@@ -122,14 +122,14 @@ fn entry_in(read: &Result<Message, WireFault>) -> Option<Entry>
     }
 }
 
-/// Whether both votes of a board's position were heard, by its answer.
+/// Whether the answer shows that both votes of the board's position are now heard.
 fn settles(answer: Result<What, BoardRefusal>) -> bool
     ensures { result ≡ laws.settles answer }
 {
     matches!(answer, Ok(What::Heard(Heard::Agreed | Heard::Differ)))
 }
 
-/// Remembers a round, where both votes of it were heard, by the board's answer.
+/// Remembers a round, if the board's answer shows that both its votes are now heard.
 fn remember(witness: &mut Witness, round: Option<Round>, answer: Result<What, BoardRefusal>)
     ensures { witness.new ≡ (if laws.settles answer then with_round witness.old round else witness.old) }
 {
@@ -138,8 +138,8 @@ fn remember(witness: &mut Witness, round: Option<Round>, answer: Result<What, Bo
     }
 }
 
-/// A board takes what came at its position, as it was read, and tells what it can't take. It remembers a round that it has heard
-/// whole, and which desks are ahead.
+/// Gives a message, as read, to a board at its position, and tells what the board can't take. Remembers a round once both its
+/// votes are heard, and which desks are ahead.
 fn give<B: BookOf, N: Notices>(
     board: &mut Board<B>,
     read: &Result<Message, WireFault>,
@@ -173,7 +173,7 @@ fn give<B: BookOf, N: Notices>(
     between.pace.note(board.position() != at, may_come, now);
 }
 
-/// Tells that a desk's file lacks lines, as a vote for this place shows. The board isn't given that vote.
+/// Tells that a desk's file lacks lines, as its vote for this place shows. The board isn't given that vote.
 fn part<N: Notices>(watch: &mut Watch<N>, between: &mut Between, place: u32)
     ensures telling { between.new.telling ≡ with_trouble between.old.telling place Why.Anew }
     ensures told { N.told watch.new.notices ≡ N.told watch.old.notices ++ Notice.Parted place ∷ [] }
@@ -185,7 +185,7 @@ fn part<N: Notices>(watch: &mut Watch<N>, between: &mut Between, place: u32)
     between.telling = between.telling.part(place, notices);
 }
 
-/// A board hears what came, as it was read: it is given it, unless it has stopped.
+/// Gives a board a message, as read, unless the board has stopped.
 fn hear_on<B: BookOf, N: Notices>(
     board: &mut Board<B>,
     read: &Result<Message, WireFault>,
@@ -209,8 +209,8 @@ fn hear_on<B: BookOf, N: Notices>(
     give(board, read, watch, between, now);
 }
 
-/// A desk's file lacks a line, or may lack it, by what came: that desk is handed its own vote back, and where a vote shows it, that
-/// is told. The board isn't given what came.
+/// Hands a desk its own vote back, since the message shows that its file lacks a line, or may lack one. If a vote shows it,
+/// that is told. The board isn't given the message.
 fn recall<B: BookOf, L: Link, N: Notices>(
     board: &Board<B>,
     read: &Result<Message, WireFault>,
@@ -235,7 +235,7 @@ fn recall<B: BookOf, L: Link, N: Notices>(
     }
 }
 
-/// A board hears what came, as it was read. It is given it, unless a desk's file lacks a line by it, or may lack it.
+/// Takes a message, as read. The board is given it, unless the message shows that a desk's file lacks a line, or may lack one.
 fn hear<B: BookOf, L: Link, N: Notices>(
     board: &mut Board<B>,
     read: &Result<Message, WireFault>,
@@ -259,7 +259,7 @@ fn hear<B: BookOf, L: Link, N: Notices>(
     }
 }
 
-/// Tells that bytes came that don't open, unless it was told. Nothing else changes: what is said unasked, and when.
+/// Tells that a datagram doesn't open, unless that was already told. What is said unasked, and when, stays unchanged.
 fn pass_over<N: Notices>(watch: &mut Watch<N>, between: &mut Between)
     ensures telling { between.new.telling ≡ telling_unopened between.old.telling }
     ensures told { N.told watch.new.notices ≡ notices_unopened between.old.telling (N.told watch.old.notices) }
@@ -271,8 +271,8 @@ fn pass_over<N: Notices>(watch: &mut Watch<N>, between: &mut Between)
     between.telling = between.telling.unopened(notices);
 }
 
-/// Says what is due, and takes the next datagram. The first one of a turn is waited for, until something is due, and so many
-/// milliseconds at most. It answers whether one was taken.
+/// Says what is due, and takes the next datagram. The first one of a turn is waited for until something is due, but
+/// `longest_wait` milliseconds at most. Returns whether a datagram was taken.
 fn take_next<B: BookOf, L: Link, C: Clock, N: Notices>(
     board: &mut Board<B>,
     link: &mut L,
@@ -312,7 +312,7 @@ fn take_next<B: BookOf, L: Link, C: Clock, N: Notices>(
     }
 }
 
-/// Takes what came in a turn. The first of it is waited for, so many milliseconds at most.
+/// Takes the datagrams of a turn. The first one is waited for, `longest_wait` milliseconds at most.
 fn take_all<B: BookOf, L: Link, C: Clock, N: Notices>(
     board: &mut Board<B>,
     link: &mut L,
@@ -336,7 +336,7 @@ fn take_all<B: BookOf, L: Link, C: Clock, N: Notices>(
     }
 }
 
-/// Whether a board has heard that the desks told it different lines, and hasn't told so.
+/// Whether a board has heard that the desks told it different lines, and hasn't told of any trouble yet.
 fn is_apart<B: BookOf>(board: &Board<B>, between: &Between) -> bool
     ensures apart { result ≡ true → IsApart (state_of B.content board.now).reader.position between.now.later }
     ensures untold { result ≡ true → is_some between.now.telling.trouble ≡ false }
@@ -346,7 +346,7 @@ fn is_apart<B: BookOf>(board: &Board<B>, between: &Between) -> bool
     is_later_round && later.a && later.b && between.telling.trouble.is_none()
 }
 
-/// Tells that the desks told this board different lines, for its place.
+/// Tells that the desks told this board different lines, at its place.
 fn tell_apart<N: Notices>(watch: &mut Watch<N>, between: &mut Between, place: u32)
     ensures telling { between.new.telling ≡ with_trouble between.old.telling place Why.Apart }
     ensures told { N.told watch.new.notices ≡ N.told watch.old.notices ++ Notice.Apart place ∷ [] }
@@ -358,7 +358,7 @@ fn tell_apart<N: Notices>(watch: &mut Watch<N>, between: &mut Between, place: u3
     between.telling = between.telling.split(place, notices);
 }
 
-/// At the end of a turn, at this time, tells that the desks told this board different lines, where that is due.
+/// Tells, at the end of a turn at this time, that the desks told this board different lines, if that is due.
 fn look_apart<B: BookOf, N: Notices>(
     board: &Board<B>,
     watch: &mut Watch<N>,
@@ -381,7 +381,7 @@ fn look_apart<B: BookOf, N: Notices>(
     }
 }
 
-/// Prints a board's six lines, where its book isn't as long as it was, and hands on what waits for its screen.
+/// Prints a board's six lines if its book's length has changed, and flushes the screen.
 #[tactic(auto, using(std::proofs::lemmas::Grind::common_steps, std::proofs::lemmas::Bool::Decides::nat_tests, streams::proofs::Appending::appends_kept, streams::proofs::Appending::appends_none))]
 fn print_news<B: BookOf, W: Sink>(
     board: &Board<B>,
@@ -400,8 +400,8 @@ fn print_news<B: BookOf, W: Sink>(
     out.flush()
 }
 
-/// A board's turn: it looks at the clock and says what is due, takes what came, tells where the desks told it different lines,
-/// prints its six lines where its book has grown, and hands its book over to be shown, and what keeps it from going on.
+/// Takes a board's turn: looks at the clock and says what is due, takes the datagrams, tells if the desks told it different
+/// lines, prints the six lines if its book has grown, and hands over to be shown its book and what keeps it from going on.
 fn turn<B: BookOf, L: Link, C: Clock, N: Notices, W: Sink, S: Shows<B>>(
     board: &mut Board<B>,
     sheet: &MatchSheet,
@@ -431,12 +431,12 @@ fn turn<B: BookOf, L: Link, C: Clock, N: Notices, W: Sink, S: Shows<B>>(
     state.show(sheet, board.book(), between.telling.trouble, now)
 }
 
-/// A board's process, for so many turns: it asks, takes what its link gives, tells what it can't take, prints its six
-/// lines at the end of each turn in which its book has grown, and hands its book over to be shown at the end of each turn, with
+/// Runs a board's process for this many turns: it asks, takes what its link gives, tells what it can't take, prints its six
+/// lines at the end of each turn in which its book has grown, and at the end of every turn hands over to be shown its book and
 /// what keeps it from going on.
-/// It is a run of the definitions of a board: its datagrams are just those that passed at the link, its times just those
-/// that its clock showed, its texts just those that were written, its notices just those that were handed on, and what was
-/// shown just what was handed over.
+/// This is a run by the definitions of a board: its datagrams are exactly those that passed at the link, its times those that
+/// its clock showed, its texts those that were written, its notices those that were told, and its sights those handed over to
+/// be shown.
 pub fn run_board<B: BookOf, L: Link, C: Clock, N: Notices, W: Sink, S: Shows<B>>(
     board: &mut Board<B>,
     sheet: &MatchSheet,

@@ -38,9 +38,9 @@ use streams::{Sink, Watched};
 /// Why a desk's process didn't begin, or ended before its turns were over.
 #[derive(Clone, Copy)]
 pub enum LifeEnd {
-    /// The votes on its disk are refused, or the disk failed, or it was out of memory.
+    /// The votes on its disk are refused, or the disk failed, or memory ran out.
     NotBegun(OpenRefusal),
-    /// It began, and came to this end.
+    /// The process began, and ended so.
     Ended(DeskEnd),
 }
 
@@ -60,7 +60,7 @@ fn greet<S: SlotsOf, B: BookOf + Drop, W: Sink>(
     told(out.flush())
 }
 
-/// Hands on what is seen of a desk now, and the lines that are held.
+/// Hands the page what is seen of a desk now, and the held lines.
 fn show<S: SlotsOf, B: BookOf + Drop, K: Keys, P: ShowsDesk<B>>(
     desk: &Desk<S, B>,
     sheet: &MatchSheet,
@@ -74,7 +74,7 @@ fn show<S: SlotsOf, B: BookOf + Drop, K: Keys, P: ShowsDesk<B>>(
     page.show(sheet, desk.book(), desk.position(), own, keys.held(), now);
 }
 
-/// Tells the scorer where the desk of this letter stands, and takes so many turns.
+/// Tells the scorer where the desk of this letter stands, and takes this many turns.
 fn take_turns<S: SlotsOf, B: BookOf + Drop, L: Link, K: Keys, C: Clock, W: Sink, P: ShowsDesk<B>>(
     alloc: Global,
     desk: &mut Desk<S, B>,
@@ -107,7 +107,7 @@ fn take_turns<S: SlotsOf, B: BookOf + Drop, L: Link, K: Keys, C: Clock, W: Sink,
     Ok(())
 }
 
-/// An end with its last flush: a failed flush is told, unless the disk failed.
+/// Returns how the process ended after its last flush: a failed flush is reported, unless the disk failed.
 fn end_told(end: Result<(), DeskEnd>, flushed: Result<(), DeskEnd>) -> Result<(), DeskEnd>
     ensures { result ≡ end_told end flushed }
 {
@@ -118,12 +118,12 @@ fn end_told(end: Result<(), DeskEnd>, flushed: Result<(), DeskEnd>) -> Result<()
     }
 }
 
-/// The process of the desk of this letter, for so many turns: it tells its scorer where the desk stands, takes the scorer's
-/// lines, tells what comes of them, sends its votes and replies, asks for what it lacks, and tells by its clock that the other
-/// has written, that the other desk isn't heard, and that it is again. However it ends, it is a run of the
-/// definitions of a desk: its datagrams are just those that passed at the link, its lines just those that were
-/// typed, its times just those that its clock showed, its texts just those that were written. And what is handed on to be
-/// shown, after each turn, is just what is seen of the desk then.
+/// Runs the process of the desk of this letter for this many turns: it tells its scorer where the desk stands, takes the
+/// scorer's lines, tells their outcomes, sends votes and replies, asks for what it lacks, and reminds the scorer by its clock
+/// that the other has written, that the other desk isn't heard, or that it is heard again. However it ends, it is a run by the
+/// definitions of a desk: its datagrams are exactly those that passed at the link, its lines those that were typed, its times
+/// those that its clock showed, its texts those that were written. The page is handed, after each turn, exactly what is seen of
+/// the desk then.
 pub fn run_desk<S: SlotsOf, B: BookOf + Drop, L: Link, K: Keys, C: Clock, W: Sink, P: ShowsDesk<B>>(
     alloc: Global,
     desk: &mut Desk<S, B>,
@@ -137,7 +137,7 @@ pub fn run_desk<S: SlotsOf, B: BookOf + Drop, L: Link, K: Keys, C: Clock, W: Sin
         (logs_of L.log K.inputs C.readings W.contents outside.new) turns result }
     ensures shown { IsShown (kind_of sheet.now desk.old) sheet.now (innings_of desk.old) P.goes_on
         (state_of desk.old) page.old page.new }
-    // `Device` is answered exactly where the disk failed in this run.
+    // `Device` is answered exactly if the disk failed in this run.
     ensures blame { (state_of desk.old).failed ≡ false →
         BlamesDisk DeskEnd.Device (FitsLongest S.room (S.Disk.cap (disk_of desk.old))) result
         (S.Disk.faults (disk_of desk.old)) (S.Disk.faults (disk_of desk.new)) }
@@ -147,10 +147,10 @@ pub fn run_desk<S: SlotsOf, B: BookOf + Drop, L: Link, K: Keys, C: Clock, W: Sin
     end_told(end, told(outside.out.flush()))
 }
 
-/// A desk's process: it begins on its disk, on a new file where that has no byte, and runs for so many turns, with an
-/// empty book of the sheet's match to begin with. However it ends, it is a process of the definitions: it began as
-/// `begin_desk` says, and ran as `run_desk` says, on just that desk; and where it didn't begin, nothing passed at the
-/// link, nothing was typed, the clock wasn't read and nothing was told or shown.
+/// Runs a desk's whole process: begins on its disk (with a new file if the disk has no byte), with an empty book of the sheet's
+/// match, and runs for this many turns. However it ends, it is a process by the definitions: it began as `begin_desk` says, and
+/// ran as `run_desk` says, on exactly that desk. If it didn't begin, nothing passed at the link, nothing was typed, the clock
+/// wasn't read, and nothing was told or shown.
 pub fn keep_desk<
     S: SlotsOf + Drop,
     B: BookOf + Drop,

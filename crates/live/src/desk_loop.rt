@@ -1,4 +1,4 @@
-//! A desk's turn: a line of its scorer, and what that comes to; then what comes.
+//! A desk's turn: it takes a line of its scorer and answers it, and then takes the datagrams.
 
 ghost use Rattle.std.specs.Prelude.{◌≡◌, ℕ, true, Err, IsSome, OnOk, is_some};
 ghost use Rattle.std.specs.Io.KnownBytes.{Appends};
@@ -32,7 +32,7 @@ use station_texts::texts::print_said;
 use std::alloc::Global;
 use streams::{Sink, Watched};
 
-/// Where a desk stands, as far as its scorer's lines ask.
+/// Returns where a desk stands, as far as its scorer's lines depend on it.
 fn stand_of<S: SlotsOf, B: BookOf + Drop>(desk: &Desk<S, B>) -> Stand
     ensures place { result.place ≡ (state_of desk.now).seat.position.place }
     ensures round { result.round ≡ (state_of desk.now).seat.position.round }
@@ -46,8 +46,8 @@ fn stand_of<S: SlotsOf, B: BookOf + Drop>(desk: &Desk<S, B>) -> Stand
     }
 }
 
-/// Has a desk pen the entry that a line says in full, by the desk's book and its sheet, or the one that its scorer wrote last,
-/// and sends its vote to all; not where it doubts its file. Memory is taken for a plan alone.
+/// Has a desk pen the entry that a line says (put in full by its book and sheet, or what its scorer wrote last), and sends its
+/// vote to all. A desk that doubts its file pens nothing. Only a plan takes memory.
 fn pen<S: SlotsOf, B: BookOf + Drop, L: Link>(
     alloc: Global,
     desk: &mut Desk<S, B>,
@@ -79,7 +79,7 @@ fn pen<S: SlotsOf, B: BookOf + Drop, L: Link>(
     }
 }
 
-/// How the process goes on after what a line came to.
+/// Returns how the process goes on after what a line came to: `Ok`, or its end.
 fn end_of(said: &Said) -> Result<(), DeskEnd>
     ensures { result ≡ ends.end_of said.now }
 {
@@ -104,7 +104,7 @@ fn tell_aside<W: Sink>(
     told(print_aside(out, sheet.columns(), aside))
 }
 
-/// Takes a line that was typed, if there is one, and tells the scorer what it came to.
+/// Takes a typed line, if there is one, and tells the scorer what it came to.
 fn take_line<S: SlotsOf, B: BookOf + Drop, L: Link, K: Keys, C: Clock, W: Sink>(
     alloc: Global,
     desk: &mut Desk<S, B>,
@@ -145,7 +145,7 @@ fn take_line<S: SlotsOf, B: BookOf + Drop, L: Link, K: Keys, C: Clock, W: Sink>(
     told(print_said(out, sheet, both, warned, &said, desk.book()))
 }
 
-/// Takes what came in a turn, and tells the scorer what is due of the other desk.
+/// Takes the datagrams of a turn, and gives the scorer the reminders about the other desk that are due.
 fn listen<S: SlotsOf, B: BookOf + Drop, L: Link, K: Keys, C: Clock, W: Sink>(
     desk: &mut Desk<S, B>,
     sheet: &MatchSheet,
@@ -166,7 +166,7 @@ fn listen<S: SlotsOf, B: BookOf + Drop, L: Link, K: Keys, C: Clock, W: Sink>(
     remind(desk, &mut outside.out, between, now)
 }
 
-/// What a turn does before what it has told is handed on: it takes a line of the scorer, and then what came.
+/// Does a turn's work up to the flush: takes a line of the scorer, and then the datagrams.
 fn act<S: SlotsOf, B: BookOf + Drop, L: Link, K: Keys, C: Clock, W: Sink>(
     alloc: Global,
     desk: &mut Desk<S, B>,
@@ -192,7 +192,7 @@ fn act<S: SlotsOf, B: BookOf + Drop, L: Link, K: Keys, C: Clock, W: Sink>(
     listen(desk, sheet, outside, between)
 }
 
-/// A desk's turn: it takes a line of its scorer, looks at the clock and says what is due, and takes what came.
+/// Takes a desk's turn: takes a line of its scorer, looks at the clock and says what is due, takes the datagrams, and flushes.
 pub(crate) fn turn<S: SlotsOf, B: BookOf + Drop, L: Link, K: Keys, C: Clock, W: Sink>(
     alloc: Global,
     desk: &mut Desk<S, B>,

@@ -11,15 +11,15 @@ use wire::What;
 pub enum DeskEnd {
     /// The scorer said `quit`.
     Quit,
-    /// The scorer types no more.
+    /// The scorer's input is over.
     NoMoreLines,
     /// The disk failed. The same command, started again, goes on.
     Device,
-    /// A write of what the scorer is told failed.
+    /// Writing to the scorer's screen failed.
     Write,
 }
 
-/// How the process goes on after the answer to bytes that came.
+/// Returns how the process goes on after this answer to a datagram: `Ok`, or its end.
 pub fn end_at(what: What) -> Result<(), DeskEnd>
     ensures { result ≡ ends.end_at what }
 {
@@ -29,7 +29,7 @@ pub fn end_at(what: What) -> Result<(), DeskEnd>
     }
 }
 
-/// A failed write of what the scorer is told ends the process.
+/// Turns a failed write to the scorer's screen into the end of the process.
 pub fn told(answer: Result<(), WriteFailed>) -> Result<(), DeskEnd>
     ensures { result ≡ ends.written answer }
 {

@@ -1,4 +1,4 @@
-//! What a desk hears, and what its scorer is told of it; and what it says unasked.
+//! What a desk hears and tells its scorer of it, and what it says unasked.
 
 ghost use Rattle.std.specs.Prelude.{◌≡◌, ◌++◌, ◌∷◌, [], ℕ, List, true, Err, IfSome, IsSome, Some};
 ghost use Rattle.std.specs.Io.KnownBytes.{Appends};
@@ -39,13 +39,13 @@ use station_texts::warned::Warned;
 use streams::{Sink, Watched};
 use wire::{MessageBytes, What, WireFault};
 
-/// Whether a station may have an answer soon: what came is the first vote of its position, or a vote of a station that
-/// is further ahead.
+/// Whether an answer may come soon: the message is the first vote of its position, or a vote of a station that is
+/// further ahead.
 pub(crate) fn promises_more(what: What) -> bool {
     matches!(what, What::Heard(Heard::Noted | Heard::Ahead))
 }
 
-/// The entry of the vote that came, where it is one.
+/// Returns the entry of the received vote, if the message is a vote.
 fn entry_in(read: Result<Message, WireFault>) -> Option<Entry>
     requires { ForOk read IsMessage }
     ensures vote { (v : AVote) → read ≡ Ok (Message.Vote v) → result ≡ Some v.entry }
@@ -57,7 +57,7 @@ fn entry_in(read: Result<Message, WireFault>) -> Option<Entry>
     }
 }
 
-/// The position that a message is for.
+/// Returns the position that a message is for.
 pub(crate) fn position_of(message: &Message) -> Position
     ensures { result ≡ is_at message.now }
 {
@@ -70,7 +70,7 @@ pub(crate) fn position_of(message: &Message) -> Position
     }
 }
 
-/// A desk's vote of its position, where it is cast.
+/// Returns the desk's vote of its position, if it is cast.
 pub(crate) fn own_line<S: SlotsOf, B: BookOf + Drop>(desk: &Desk<S, B>) -> Option<Entry>
     ensures value { result ≡ desks.own_line (state_of desk.now) }
     ensures entry { IfSome result IsEntry }
@@ -82,7 +82,7 @@ pub(crate) fn own_line<S: SlotsOf, B: BookOf + Drop>(desk: &Desk<S, B>) -> Optio
     }
 }
 
-/// Sends a reply to who asked, if there is one.
+/// Sends a reply to the sender of the datagram, if there is a reply.
 fn hand_back<L: Link>(link: &mut L, reply: Option<MessageBytes>)
     ensures { L.log link.new ≡ L.log link.old ++ sent_to ToOne (replied reply) }
 {
@@ -91,14 +91,14 @@ fn hand_back<L: Link>(link: &mut L, reply: Option<MessageBytes>)
     }
 }
 
-/// A desk takes bytes that came, and sends its reply to who sent them.
+/// Gives a desk a datagram, and sends its reply to the sender.
 pub fn give<S: SlotsOf, B: BookOf + Drop, L: Link>(
     desk: &mut Desk<S, B>,
     bytes: &[u8],
     link: &mut L,
 ) -> What
     ensures calls { (s : Sheet) → Calls s desk.old desk.new (Given bytes.now result) (L.log link.old) (L.log link.new) }
-    // Nothing is written.
+    // Nothing is written to the disk.
     ensures reads { (S.Disk.seen (disk_of desk.new) ≡ S.Disk.seen (disk_of desk.old))
         × (S.Disk.images (disk_of desk.new) ≡ S.Disk.images (disk_of desk.old)) }
 {
@@ -107,7 +107,7 @@ pub fn give<S: SlotsOf, B: BookOf + Drop, L: Link>(
     received.what
 }
 
-/// Takes what came, as it was read, and tells the scorer what is news.
+/// Gives a desk a message, as read, and tells the scorer what is news.
 fn hear<S: SlotsOf, B: BookOf + Drop, L: Link, W: Sink>(
     desk: &mut Desk<S, B>,
     sheet: &MatchSheet,
@@ -150,8 +150,8 @@ fn hear<S: SlotsOf, B: BookOf + Drop, L: Link, W: Sink>(
     told(print_came(out, sheet, warned, both, evidence, what, desk.book()))
 }
 
-/// Tells the scorer that bytes came that don't open, unless it was told since a vote that is news came. Nothing else changes:
-/// what is said unasked and when, and when the other desk was heard.
+/// Tells the scorer that a datagram doesn't open, unless that was told since the last vote that was news. What is said unasked
+/// and when, and when the other desk was heard, stay unchanged.
 fn pass_over<W: Sink>(out: &mut Watched<W>, between: &mut Between) -> Result<(), DeskEnd>
     ensures warned { between.new.warned ≡ warned_unopened between.old.warned }
     ensures pace { between.new.pace ≡ between.old.pace }
@@ -166,15 +166,14 @@ fn pass_over<W: Sink>(out: &mut Watched<W>, between: &mut Between) -> Result<(),
     told(print_unopened(out, warned))
 }
 
-/// Has a desk say what it says unasked, to all.
+/// Sends to all what a desk says unasked.
 pub fn tick<S: SlotsOf, B: BookOf + Drop, L: Link>(desk: &Desk<S, B>, link: &mut L)
     ensures { (s : Sheet) → Calls s desk.now desk.now Ticked (L.log link.old) (L.log link.new) }
 {
     send_each(link, desk.tick().as_slice());
 }
 
-/// Looks at the clock, and has a desk say what it says unasked, where that is due. It answers how long the next datagram
-/// is waited for.
+/// Looks at the clock, and sends what the desk says unasked if that is due. Returns how long to wait for the next datagram.
 fn say<S: SlotsOf, B: BookOf + Drop, L: Link, C: Clock>(
     desk: &Desk<S, B>,
     link: &mut L,
@@ -198,8 +197,8 @@ fn say<S: SlotsOf, B: BookOf + Drop, L: Link, C: Clock>(
     wait
 }
 
-/// Says what is due, and takes the next datagram. The first one of a turn is waited for, until something is due. It answers
-/// whether one was taken.
+/// Says what is due, and takes the next datagram. The first one of a turn is waited for until something is due. Returns whether
+/// a datagram was taken.
 fn take_next<S: SlotsOf, B: BookOf + Drop, L: Link, K: Keys, C: Clock, W: Sink>(
     desk: &mut Desk<S, B>,
     sheet: &MatchSheet,
@@ -237,7 +236,7 @@ fn take_next<S: SlotsOf, B: BookOf + Drop, L: Link, K: Keys, C: Clock, W: Sink>(
     }
 }
 
-/// Takes what came in a turn.
+/// Takes the datagrams of a turn.
 pub(crate) fn take_all<S: SlotsOf, B: BookOf + Drop, L: Link, K: Keys, C: Clock, W: Sink>(
     desk: &mut Desk<S, B>,
     sheet: &MatchSheet,

@@ -8,7 +8,7 @@ use agree_core::{DeskId, Heard, Message};
 use board::BoardRefusal;
 use wire::{What, WireFault};
 
-/// Of which desks a board has heard a vote for a later place, since it came to its position.
+/// The desks that a board has heard vote for a later place since it came to its position.
 #[derive(Clone, Copy, Debug)]
 pub struct Later {
     pub a: bool,
@@ -16,10 +16,10 @@ pub struct Later {
 }
 
 impl Later {
-    /// Of neither.
+    /// Neither desk.
     pub const NEITHER: Later = Later { a: false, b: false };
 
-    /// Of these, and of this desk, if it is one.
+    /// Adds this desk, if one is given.
     fn joined_by(self, desk: Option<DeskId>) -> Later
         ensures { result ≡ laws.with_desk self desk }
     {
@@ -30,7 +30,7 @@ impl Later {
         }
     }
 
-    /// Of which ones once a vote of this desk, if it is one, was answered so, as one for a later place.
+    /// Returns the desks ahead after this answer; `desk` is the desk that voted for a later place, if one did.
     pub fn after(self, desk: Option<DeskId>, answer: Result<What, BoardRefusal>) -> Later
         ensures { result ≡ laws.later_after self desk answer }
     {
@@ -42,7 +42,7 @@ impl Later {
     }
 }
 
-/// The desk of the vote that came, where it is one for a later place than this.
+/// Returns the desk of the received vote, if that is for a later place than this one.
 pub fn desk_later(read: &Result<Message, WireFault>, place: u32) -> Option<DeskId>
     ensures { (v : AVote) → read.now ≡ Ok (Message.Vote v) → result ≡ laws.desk_ahead place v }
 {

@@ -1,5 +1,5 @@
-//! What a scorer can't see, what is seen of two votes that differ, that a reminder comes once, that a station ticks, that votes are
-//! for lines that were typed, and that nothing is asked for in vain.
+//! Laws: what a scorer can't see, what is shown of two votes that differ, that a reminder comes once, that a station ticks,
+//! that votes are for lines that were typed, that nothing is asked for in vain, and that a board tells of a split.
 //!
 //! These functions do nothing: they stand for the laws that they ensure.
 
@@ -26,22 +26,21 @@ pub fn the_other_is_hidden<S: SlotsOf>()
     ensures { (desk : ADesk) (game : ℕ) → HidesTheOther (file_view S.contents S.Disk.seen S.Disk.images desk game) }
 {}
 
-/// Where the two votes of a position are stored and differ, a desk's scorer is told both entries.
+/// Once both votes of a position are stored and differ, a desk's scorer is told both entries.
 #[tactic(auto, using(crate::proofs::HiddenLemmas::tells_both))]
 pub fn both_lines_are_told<D>()
     ensures { TellsBoth D }
 {}
 
-/// That the other has written is told once, until a vote of the other desk that is news comes; that the other desk isn't
-/// heard, and that it is again, are told in turns.
+/// That the other has written is told once, until the other desk's next vote that is news. That the other desk isn't heard, and
+/// that it is heard again, are told alternately.
 #[tactic(auto, using(crate::proofs::RemindingLemmas::reminds_once))]
 pub fn reminders_come_once<S: SlotsOf>()
     ensures { (desk : ADesk) (game cap : ℕ) → RemindsOnce (file_view S.contents S.Disk.seen S.Disk.images desk game)
         (record { faults = S.Disk.faults; FitsLongest = FitsLongest S.room cap }) }
 {}
 
-/// A desk and a board look at their clock in each turn, and where that shows half a second more than at their last tick, they
-/// tick.
+/// A desk and a board look at their clock in each turn, and tick if it shows half a second more than at their last tick.
 #[tactic(auto, using(crate::proofs::SilenceLemmas::boards_tick, crate::proofs::SilenceLemmas::desks_tick))]
 pub fn stations_are_never_silent<S: SlotsOf>()
     ensures desks { (sheet : Sheet) (desk : ADesk) (game innings cap : ℕ) →
@@ -50,22 +49,22 @@ pub fn stations_are_never_silent<S: SlotsOf>()
     ensures boards { (sheet : Sheet) (game innings : ℕ) → IsNeverSilent (board_kind sheet game innings) }
 {}
 
-/// Where a desk's keys are an `Ahead`, each vote is for a line that its scorer typed before and didn't take back, each line
-/// being used at most once, in their order.
+/// With an `Ahead` for its keys, a desk votes only for lines that its scorer typed before and didn't take back, each line at
+/// most once, in their order.
 #[tactic(auto, using(crate::proofs::BeforeLemmas::votes_typed))]
 pub fn votes_were_typed<S: SlotsOf>()
     ensures { (desk : ADesk) (game cap : ℕ) → VotesWereTyped (file_view S.contents S.Disk.seen S.Disk.images desk game)
         (record { faults = S.Disk.faults; FitsLongest = FitsLongest S.room cap }) }
 {}
 
-/// A scorer is told that no vote can be cast at a position just where a desk refuses each for that, and `again` is asked for at
-/// no other one.
+/// A scorer is told that no vote can be cast at a position exactly where a desk would refuse every vote for that reason, and
+/// `again` is asked for only at positions where a vote can be cast.
 pub fn nothing_is_asked_in_vain()
     ensures { (at : APosition) → TellsWhyFull at }
 {}
 
-/// Where a board heard both desks agree on an entry and they agree on another one for its place, whatever their files hold, it
-/// takes not both votes: it tells that what stands there is written anew, and takes nothing more.
+/// A board that heard both desks agree on an entry doesn't take both votes if they agree on another one at its place, whatever
+/// their files hold: it tells that what stands there is written anew, and takes nothing more.
 pub fn splits_are_told()
     ensures { SplitsAreTold }
 {}

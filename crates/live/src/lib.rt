@@ -1,5 +1,4 @@
-//! Stations as processes of their own: a desk with its scorer, or a board, at a link that carries datagrams to its
-//! peers.
+//! Stations as processes of their own: a desk with its scorer, or a board, at a link that carries datagrams to its peers.
 #![tactic(auto)]
 
 mod awaited;

@@ -1,4 +1,4 @@
-//! What a message that came shows of lines that one of both desks' files lacks.
+//! What a message shows of lines that the file of either desk lacks.
 
 ghost use Rattle.std.specs.Prelude.{◌≡◌, ◌==◌, ◌+◌, ◌&&◌, not, if◌then◌else◌, Ok, Some};
 ghost use Rattle.std.specs.Result.{ForOk};
@@ -21,7 +21,7 @@ use notation::Entry;
 use station_texts::doubt::Evidence;
 use wire::{What, WireFault};
 
-/// The position that the message which came is for; where none came, any.
+/// Returns the position that the message is for; an arbitrary one if there is no message.
 fn position_in(read: Result<Message, WireFault>) -> Position
     ensures { ForOk read (λ m. result ≡ is_at m) }
 {
@@ -31,7 +31,7 @@ fn position_in(read: Result<Message, WireFault>) -> Position
     }
 }
 
-/// Whether two positions are one.
+/// Whether two positions are equal.
 fn is_at(at: Position, other: Position) -> bool
     ensures { result ≡ votes.is_at at other }
 {
@@ -45,7 +45,7 @@ fn is_before(at: Position, other: Position) -> bool
     at.is_before(other)
 }
 
-/// The position that comes next after votes at this one that are alike, or not.
+/// Returns the position that follows this one after two votes that are alike, or that aren't.
 fn next_of(at: Position, alike: bool) -> Position
     requires { InRange at }
     ensures { result ≡ (if alike then next_place at else next_round at) }
@@ -70,7 +70,7 @@ fn follows(number: u32, next: u32) -> bool
     next > number && next - number == 1
 }
 
-/// Whether the second position is the next round or the next place of the first.
+/// Whether the second position is the next round or the next place after the first.
 fn is_next(at: Position, next: Position) -> bool
     ensures { result ≡ votes.is_next at next }
 {
@@ -78,7 +78,7 @@ fn is_next(at: Position, next: Position) -> bool
         || (follows(at.place, next.place) && next.round == 0)
 }
 
-/// Whether the other desk can have come to this position, by what this desk has voted.
+/// Whether the other desk can have reached this position, by what this desk has voted.
 fn is_in_reach<S: SlotsOf, B: BookOf + Drop>(desk: &Desk<S, B>, at: Position) -> bool
     ensures { result ≡ votes.is_in_reach (state_of desk.now).seat at }
 {
@@ -86,7 +86,7 @@ fn is_in_reach<S: SlotsOf, B: BookOf + Drop>(desk: &Desk<S, B>, at: Position) ->
     !is_before(own, at) || (desk.has_voted() && is_next(own, at))
 }
 
-/// Whether two entries are one.
+/// Whether two entries are equal.
 fn is_alike(entry: &Entry, other: &Entry) -> bool
     requires entry { IsEntry entry.now }
     requires other { IsEntry other.now }
@@ -95,7 +95,7 @@ fn is_alike(entry: &Entry, other: &Entry) -> bool
     entry.is_same(other)
 }
 
-/// Whether the other desk's vote for this earlier position, for this entry, is another than the one by which this desk went on.
+/// Whether the other desk's vote, for this earlier position and this entry, isn't the one by which this desk went on.
 #[tactic(auto, using(std::proofs::lemmas::Grind::common_steps, crate::proofs::LostLemmas::none_cast, crate::proofs::LostLemmas::by_last))]
 fn is_another_vote<S: SlotsOf, B: BookOf + Drop>(
     desk: &Desk<S, B>,
@@ -117,7 +117,7 @@ fn is_another_vote<S: SlotsOf, B: BookOf + Drop>(
     )
 }
 
-/// Whether the own vote isn't cast at a position.
+/// Whether this desk hasn't cast its vote at a position.
 fn is_uncast<S: SlotsOf, B: BookOf + Drop>(desk: &Desk<S, B>, at: Position) -> bool
     ensures { result ≡ lost.is_uncast (state_of desk.now).seat at }
 {
@@ -125,7 +125,7 @@ fn is_uncast<S: SlotsOf, B: BookOf + Drop>(desk: &Desk<S, B>, at: Position) -> b
     !is_before(at, own) && !(is_at(at, own) && desk.has_voted())
 }
 
-/// Whether a desk's last vote is for this position, and for another entry.
+/// Whether a desk's last vote is for this position, but for another entry.
 #[tactic(auto, using(std::proofs::lemmas::Grind::common_steps, crate::proofs::LostLemmas::none_last, crate::proofs::LostLemmas::other_last))]
 fn is_other_last<S: SlotsOf, B: BookOf + Drop>(
     desk: &Desk<S, B>,
@@ -141,7 +141,7 @@ fn is_other_last<S: SlotsOf, B: BookOf + Drop>(
     }
 }
 
-/// Whether a vote of this desk, for this position and entry, isn't among its votes.
+/// Whether this desk's vote for this position and entry isn't among its stored votes.
 fn is_unkept_vote<S: SlotsOf, B: BookOf + Drop>(
     desk: &Desk<S, B>,
     at: Position,
@@ -153,7 +153,7 @@ fn is_unkept_vote<S: SlotsOf, B: BookOf + Drop>(
     is_uncast(desk, at) || is_other_last(desk, at, entry)
 }
 
-/// Whether a vote came that isn't among this desk's votes, if it is its own.
+/// Whether the message is a vote that isn't among this desk's votes, if it is the desk's own.
 fn is_unkept<S: SlotsOf, B: BookOf + Drop>(
     desk: &Desk<S, B>,
     read: Result<Message, WireFault>,
@@ -168,7 +168,7 @@ fn is_unkept<S: SlotsOf, B: BookOf + Drop>(
     }
 }
 
-/// Whether a vote came that is another one, as it is for an earlier position.
+/// Whether the message is a vote that isn't the one by which this desk went on, if it is for an earlier position.
 fn is_another<S: SlotsOf, B: BookOf + Drop>(
     desk: &Desk<S, B>,
     read: Result<Message, WireFault>,
@@ -183,7 +183,7 @@ fn is_another<S: SlotsOf, B: BookOf + Drop>(
     }
 }
 
-/// Who asks, where an ask came.
+/// Returns who asks, if the message is an ask.
 fn asker_in(read: &Result<Message, WireFault>) -> Option<Asker>
     ensures { (q : AnAsk) → read.now ≡ Ok (Message.Ask q) → result ≡ Some q.from }
 {
@@ -193,7 +193,7 @@ fn asker_in(read: &Result<Message, WireFault>) -> Option<Asker>
     }
 }
 
-/// Whether the other desk of this one asks.
+/// Whether the asker is the other desk.
 fn is_other(desk: DeskId, asker: Option<Asker>) -> bool
     ensures { result ≡ lost.is_other desk asker }
 {
@@ -203,7 +203,7 @@ fn is_other(desk: DeskId, asker: Option<Asker>) -> bool
     )
 }
 
-/// Whether the other desk asks for the position at which this one stands.
+/// Whether the other desk asks for this desk's position.
 fn is_level<S: SlotsOf, B: BookOf + Drop>(
     desk: &Desk<S, B>,
     at: Position,
@@ -215,7 +215,7 @@ fn is_level<S: SlotsOf, B: BookOf + Drop>(
     is_at(at, desk.position()) && is_other(desk.letter(), asker)
 }
 
-/// Whether the other desk asks for a position before the one at which this desk stands.
+/// Whether the other desk asks for a position before this desk's.
 fn is_earlier<S: SlotsOf, B: BookOf + Drop>(
     desk: &Desk<S, B>,
     at: Position,
@@ -227,23 +227,23 @@ fn is_earlier<S: SlotsOf, B: BookOf + Drop>(
     is_before(at, desk.position()) && is_other(desk.letter(), asker)
 }
 
-/// What a message tells by its position and by who says it.
+/// What a message shows by its position and its sender.
 #[derive(Clone, Copy)]
 pub struct Bearing {
-    /// A vote is another one than that by which this desk went on.
+    /// The message, as a vote of the other desk, isn't the one by which this desk went on.
     pub another: bool,
-    /// A vote, if it is this desk's own, isn't among those that it has cast.
+    /// The message, as a vote of this desk, isn't among those that it has cast.
     pub unkept: bool,
     /// The other desk asks for a position that this desk has passed over without a vote.
     pub passed_over: bool,
-    /// The other desk can have come to the position.
+    /// The other desk can have reached the message's position.
     pub in_reach: bool,
-    /// The other desk asks for the position at which this one stands.
+    /// The other desk asks for this desk's position.
     pub is_level: bool,
 }
 
 impl Bearing {
-    /// The same, where this desk replied to the ask, or didn't.
+    /// Returns the bearing after this desk has replied to the ask, or hasn't: with a reply, no position was passed over.
     pub fn behind(self, replied: bool) -> Bearing
         ensures { result ≡ record self { passed_over = self.passed_over && not replied } }
     {
@@ -253,7 +253,7 @@ impl Bearing {
         }
     }
 
-    /// What an ask shows.
+    /// Returns what an ask shows.
     fn asked(self) -> Evidence
         ensures { result ≡ lost.asked self }
     {
@@ -266,7 +266,7 @@ impl Bearing {
         }
     }
 
-    /// What came shows, by the answer to it.
+    /// Returns what the message shows, given the answer to it.
     pub fn evidence(self, what: What) -> Evidence
         ensures { result ≡ lost.evidence_of self what }
     {
@@ -280,8 +280,8 @@ impl Bearing {
     }
 }
 
-/// What the message that came tells a desk, before that answers: a position before its own counts as passed over, if the other desk
-/// asks for it.
+/// Returns what a message shows a desk before the desk answers it: a position before its own counts as passed over, if the
+/// other desk asks for it.
 pub fn bearing_of<S: SlotsOf, B: BookOf + Drop>(
     desk: &Desk<S, B>,
     read: &Result<Message, WireFault>,

@@ -6,17 +6,17 @@ ghost use Rattle.live.specs.Ticks.{recent_until};
 
 use crate::times::{FIRST_REPEAT_WAIT, LONGEST_REPEAT_WAIT};
 
-/// When a station says next what it says unasked: at once where its position is new, then again after 20 ms, after
-/// twice that and so on, up to twice a second. Whatever its clock shows, what was said half a second before is due.
+/// When a station next says what it says unasked: at once at a new position, again after 20 ms, then after twice that and so
+/// on, up to twice a second. Whatever its clock shows, what was said half a second ago or longer is due.
 #[derive(Clone, Copy, Debug)]
 pub struct Pace {
     due: u64,
     wait: u64,
-    /// Whether the next datagram is waited for: not where another was taken in this turn, or there is a line to take.
+    /// Whether to wait for the next datagram: not if another one was taken in this turn, or if a line is ready to be taken.
     waits: bool,
-    /// What the clock showed when something was due last, if anything was.
+    /// The clock's reading when something was last due, if anything was.
     ticked: Option<u64>,
-    /// What it showed when it was looked at last in this turn, if it was.
+    /// The clock's last reading in this turn, if there was one.
     looked: Option<u64>,
     ghost soon: { wait ≤ 500 },
     ghost due_soon: { due ≤ recent_until ticked },
@@ -27,7 +27,7 @@ impl Pace {
     ghost use Rattle.live.specs.Paces as paces;
     ghost use Rattle.live.specs.Paces.{paced, ticking_of};
 
-    /// Something is due at once.
+    /// Returns the pace of a station that begins: something is due at once.
     pub fn new() -> Pace
         ensures { paced result ≡ paces.at_once }
     {
@@ -40,21 +40,22 @@ impl Pace {
         }
     }
 
-    /// A datagram is waited for next, or not.
+    /// Sets whether to wait for the next datagram.
     pub fn set_waits(&mut self, waits: bool)
         ensures { paced self.new ≡ record (paced self.old) { waits = waits } }
     {
         self.waits = waits;
     }
 
-    /// A turn ends.
+    /// Ends the turn.
     pub fn end_turn(&mut self)
         ensures { paced self.new ≡ paces.turn_ended (paced self.old) }
     {
         self.looked = None;
     }
 
-    /// How long the next datagram is waited for: the first one of a turn until something is due, and no further one.
+    /// Returns how long to wait for the next datagram: for the first of a turn until something is due, for any further one not
+    /// at all.
     pub fn take_wait(&mut self, now: u64) -> u64
         ensures value { result ≡ paces.wait_left (paced self.old) now }
         ensures pace { paced self.new ≡ record (paced self.old) { waits = false } }
@@ -68,7 +69,7 @@ impl Pace {
         }
     }
 
-    /// Whether something is due. If so it is said now, and is due again after a wait, which then doubles.
+    /// Whether something is due. If so, it is said now, and is due again after the wait, which then doubles.
     pub fn take_due(&mut self, now: u64) -> bool
         ensures due { result ≡ paces.is_due (paced self.old) now }
         ensures pace { paced self.new ≡ paces.after_taken result (paced self.old) now }
@@ -84,8 +85,8 @@ impl Pace {
         true
     }
 
-    /// The position is new: what is to be said is due at once. Else an answer may come soon: it is waited for no longer
-    /// than at first.
+    /// At a new position, what is to be said is due at once. Otherwise, if an answer may come soon, it is due after the first
+    /// wait at the latest.
     pub fn note(&mut self, is_new: bool, may_come: bool, now: u64)
         ensures { paced self.new ≡ paces.noted is_new may_come (paced self.old) now }
     {

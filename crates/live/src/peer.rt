@@ -12,7 +12,7 @@ use crate::times::{LONGEST_REPEAT_WAIT, REMINDER_WAIT};
 use agree_core::{Asker, DeskId, Heard, Message, Position};
 use wire::{What, WireFault};
 
-/// A desk as one who asks.
+/// Returns the asker that a desk is.
 fn asker(desk: DeskId) -> Asker
     ensures { result ≡ desks.asker desk }
 {
@@ -22,7 +22,7 @@ fn asker(desk: DeskId) -> Asker
     }
 }
 
-/// The other desk.
+/// Returns the other desk's letter.
 fn other(desk: DeskId) -> DeskId
     ensures { result ≡ readers.other desk }
 {
@@ -32,7 +32,7 @@ fn other(desk: DeskId) -> DeskId
     }
 }
 
-/// Who says a message.
+/// Returns the sender of a message.
 fn sender_of(message: &Message) -> Asker
     ensures { result ≡ signs.sender_of message.now }
 {
@@ -42,22 +42,22 @@ fn sender_of(message: &Message) -> Asker
     }
 }
 
-/// When something of the other desk came.
+/// When a desk last heard the other desk.
 #[derive(Clone, Copy)]
 pub struct Peer {
-    /// The letter of this desk.
+    /// This desk's letter.
     own: DeskId,
-    /// When a vote or an ask of the other desk for this desk's position came last; at first when the process began. Here, and
-    /// of what was noted, time in which the desk was held itself isn't counted.
+    /// When the other desk's last vote or ask for this desk's position came; at first, when the process began. For this time
+    /// and `noted`, time in which the desk itself was held up isn't counted.
     heard: u64,
-    /// When the other's vote that was noted last came.
+    /// When the other desk's last noted vote came.
     noted: u64,
-    /// What the clock showed when it was looked at last.
+    /// The clock's last reading.
     looked: u64,
 }
 
 impl Peer {
-    /// The process of this desk begins.
+    /// Returns the state as this desk's process begins.
     pub fn new(own: DeskId, now: u64) -> Peer {
         Peer {
             own,
@@ -67,8 +67,8 @@ impl Peer {
         }
     }
 
-    /// The clock shows this, once a turn. A turn waits half a second at most: for what is longer the desk was held itself, as by
-    /// a slow disk. It could hear nobody then, so that time doesn't count.
+    /// Notes the clock's reading, once a turn. A turn waits half a second at most: in any longer time the desk itself was held
+    /// up, as by a slow disk. It could hear nobody then, so that time doesn't count.
     pub fn pass(&mut self, now: u64)
         ensures heard { self.new.heard ≡ signs.counted_from self.old.heard self.old.looked now }
         ensures noted { self.new.noted ≡ signs.counted_from self.old.noted self.old.looked now }
@@ -83,8 +83,8 @@ impl Peer {
         self.looked = now;
     }
 
-    /// This came while the desk was at this position, and this was answered. Only a sign of the other desk has it heard:
-    /// what was said at an earlier position may be a repeat by whoever keeps datagrams.
+    /// Notes a message, with the desk's position and answer as it came. Only a sign of the other desk counts as hearing it: a
+    /// message for an earlier position may be a repeat by anyone who keeps datagrams.
     pub fn note(&mut self, at: Position, read: Result<Message, WireFault>, what: What, now: u64)
         ensures heard { self.new.heard ≡ self.old.heard
             ⊎ ((m : AMessage) × (read ≡ Ok m) × IsSign self.old.own at m) }
@@ -97,17 +97,17 @@ impl Peer {
         }
     }
 
-    /// Whether nothing of the other desk came for long.
+    /// Whether the other desk hasn't been heard for `REMINDER_WAIT` or longer.
     pub fn is_missed(&self, now: u64) -> bool {
         now.saturating_sub(self.heard) >= REMINDER_WAIT
     }
 
-    /// Whether it is long since the other's vote was noted.
+    /// Whether the other desk's vote was noted `REMINDER_WAIT` or longer ago.
     pub fn is_late(&self, now: u64) -> bool {
         now.saturating_sub(self.noted) >= REMINDER_WAIT
     }
 
-    /// Whether what came is a sign of the other desk.
+    /// Whether the message is a sign of the other desk.
     fn is_sign(&self, at: Position, read: Result<Message, WireFault>) -> bool
         ensures { result ≡ true → (m : AMessage) × (read ≡ Ok m) × IsSign self.now.own at m }
     {

@@ -20,7 +20,7 @@ use station_texts::news::print_reminder;
 use station_texts::reminder::Reminder;
 use streams::{Sink, Watched};
 
-/// Tells the scorer this of the other desk, at this place.
+/// Gives the scorer a reminder about the other desk, at this place.
 fn tell<W: Sink>(
     out: &mut Watched<W>,
     place: u32,
@@ -38,7 +38,7 @@ fn tell<W: Sink>(
     told(print_reminder(out, place, reminder))
 }
 
-/// Whether the other's vote of this position is noted and the own isn't cast.
+/// Whether the other desk's vote of this position is noted and the own one isn't cast.
 fn is_waited_for<S: SlotsOf, B: BookOf + Drop>(desk: &Desk<S, B>) -> bool
     ensures own { result ≡ true → is_some (state_of desk.now).seat.mine ≡ false }
     ensures other { result ≡ true → is_some (state_of desk.now).seat.theirs ≡ true }
@@ -50,7 +50,7 @@ fn is_waited_for<S: SlotsOf, B: BookOf + Drop>(desk: &Desk<S, B>) -> bool
     }
 }
 
-/// Tells the scorer that the other has written, where that is due.
+/// Tells the scorer that the other has written, if that is due.
 fn remind_of_writing<S: SlotsOf, B: BookOf + Drop, W: Sink>(
     desk: &Desk<S, B>,
     out: &mut Watched<W>,
@@ -77,7 +77,7 @@ fn remind_of_writing<S: SlotsOf, B: BookOf + Drop, W: Sink>(
     Ok(())
 }
 
-/// Tells the scorer that the other desk isn't heard, or that it is again, where that is due.
+/// Tells the scorer that the other desk isn't heard, or that it is heard again, if that is due.
 fn remind_of_silence<S: SlotsOf, B: BookOf + Drop, W: Sink>(
     desk: &Desk<S, B>,
     out: &mut Watched<W>,
@@ -106,7 +106,7 @@ fn remind_of_silence<S: SlotsOf, B: BookOf + Drop, W: Sink>(
     Ok(())
 }
 
-/// Tells the scorer what is due of the other desk. Time in which this desk was held itself isn't counted.
+/// Gives the scorer the reminders that are due. Time in which this desk itself was held up isn't counted.
 pub fn remind<S: SlotsOf, B: BookOf + Drop, W: Sink>(
     desk: &Desk<S, B>,
     out: &mut Watched<W>,

@@ -2,7 +2,7 @@
 
 use streams::Watched;
 
-/// What the viewers of a board see: its lines, as they are printed, and its state, by what is handed its book.
+/// What the viewers of a board see: its lines, as they are printed, and its state, shown by what is handed its book.
 #[derive(Drop)]
 pub struct Scoreboard<W, S> {
     pub lines: Watched<W>,

@@ -1,4 +1,4 @@
-//! What a board shows its book through, beside its six lines.
+//! How a board shows its book, besides its six lines.
 
 ghost use Rattle.std.specs.Prelude.{◌≡◌, ◌∷◌, ◌++◌, [], ℕ, Bool, List, OnErr, true};
 
@@ -7,22 +7,20 @@ use cards::MatchSheet;
 use corrections::BookOf;
 use streams::WriteFailed;
 
-/// Shows the book of a board, as its text and as its state. It sees to it how often it does so; what was handed to it is
-/// known.
+/// Shows a board's book, as text and as state. It decides by itself how often to do so; what was handed to it is known.
 pub trait Shows<B: BookOf> {
     ghost use Rattle.live.specs.Sights.{Sight, sight_of};
 
     /// What was handed to it, the oldest first.
     ghost seen: { Self → List Sight };
 
-    /// How it goes on once this was handed to it, at this time: which of it is shown, and how.
+    /// How it changes when this sight is handed to it at this time: what it shows of it, and how.
     ghost goes_on: { Self → Sight → ℕ → Self → Type 0 };
 
     /// Whether it has failed to show a book.
     ghost failed: { Self → Bool };
 
-    /// Shows this book, and what keeps its board from going on, at this time in milliseconds since some moment, where that is
-    /// due.
+    /// Shows this book, and what keeps its board from going on, if that is due. The time is in milliseconds from some moment.
     fn show(
         &mut self,
         sheet: &MatchSheet,
@@ -36,6 +34,6 @@ pub trait Shows<B: BookOf> {
             (sight_of sheet.now (B.innings_a_side book.now) (B.content book.now) trouble) now self.new }
         ensures failed { OnErr result (failed self.new ≡ true) };
 
-    /// For how many milliseconds it may be left alone since it was handed the book: none where it has more to do at once.
+    /// Returns how many milliseconds it may be left alone after it was handed the book: 0 if it has more to do at once.
     fn longest_wait(&self) -> u64;
 }

@@ -1,4 +1,4 @@
-//! What was handed to be shown of a board, which clauses alone read.
+//! What a board handed over to be shown: only contracts read it.
 
 ghost use Rattle.std.specs.Prelude.{◌≡◌, ◌∷◌, ◌++◌, []};
 
@@ -7,7 +7,7 @@ use cards::MatchSheet;
 use corrections::BookOf;
 use std::snapshot::Snapshot;
 
-/// Every book that was handed over, with its sheet and what kept its board from going on, in order.
+/// Every book handed over, in order, each with its sheet and what kept its board from going on.
 #[derive(Drop)]
 pub enum SightLog<B> {
     Empty,
@@ -18,7 +18,7 @@ impl<B: BookOf> SightLog<B> {
     ghost use Rattle.live.specs.Sights.{sight_of};
     ghost use Rattle.live.specs.SightLogs.{sights_of};
 
-    /// This log, and then a book with its sheet, and with that.
+    /// Returns this log with a book added at its end, with its sheet and what keeps its board from going on.
     pub fn handed(&self, sheet: &MatchSheet, book: &B, trouble: Option<Trouble>) -> SightLog<B>
         ensures { sights_of B.content B.innings_a_side result ≡
             sights_of B.content B.innings_a_side self.now

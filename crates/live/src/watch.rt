@@ -1,8 +1,8 @@
-//! What a board tells of what it hears, and what it remembers of it.
+//! What a board tells of what it hears, and what it remembers.
 
 use board::Witness;
 
-/// What a board tells of what it can't take, and the rounds that it has heard whole.
+/// A board's notices of what it can't take, and the rounds of which it has heard both votes.
 #[derive(Drop)]
 pub struct Watch<N> {
     pub notices: N,

@@ -1,12 +1,13 @@
--- Whether a desk doubts that its file has all its lines, by votes for positions to which the other desk can't have come by what
--- this one has voted, and by votes of its own that its file hasn't. While it does it casts no vote.
+-- Whether a desk doubts that its file has all its lines. It does when the other desk votes at a position that it can't have
+-- reached by what this desk has voted, or when a vote of this desk comes that isn't in its file. While it doubts, it casts no
+-- vote.
 use Rattle.std.specs.Prelude.{ℕ, Bool, true, false, if◌then◌else◌, List, [], codes}
 use Rattle.station_texts.specs.declared.doubt.{Doubt.Doubt, Evidence.Evidence}
 use Rattle.station_texts.specs.declared.doubt.Doubt.TheVariants.{No, Yes, Lost, Dismissed}
 use Rattle.station_texts.specs.declared.doubt.Evidence.TheVariants.{Nothing, OtherLacks, Ahead, Unkept, Level}
 
--- It ends as the other desk stands where this one does: then that one isn't ahead. Where a vote of its own is lost, it doesn't end
--- so. Or the scorer goes on, and none comes up again.
+-- A doubt ends when the other desk is at this desk's position, unless a vote of this desk is lost. It also ends when the scorer
+-- says `go on`, and then no doubt arises again.
 abbrev pub doubt_after : Doubt → Evidence → Doubt
 doubt_after No Ahead = Yes
 doubt_after No Unkept = Lost
@@ -23,7 +24,7 @@ abbrev pub dismissed : Doubt → Doubt
 dismissed No = No
 dismissed doubt = Dismissed
 
--- the file of a desk lacks lines, by what was shown
+-- the evidence shows that a desk's file lacks lines
 abbrev pub is_loss : Evidence → Bool
 is_loss OtherLacks = true
 is_loss Ahead = true
@@ -38,7 +39,7 @@ ahead_line = codes "this file lacks lines that the other desk has: put the right
 abbrev pub unkept_line : List ℕ
 unkept_line = codes "this file lacks lines that a board has, or two laptops are this desk: put the right file back, or say go on\n"
 
--- as a desk begins to doubt, and as that ends
+-- told when a doubt begins or ends
 abbrev pub doubt_text : Doubt → Evidence → List ℕ
 doubt_text No Ahead = ahead_line
 doubt_text No Unkept = unkept_line
@@ -46,13 +47,13 @@ doubt_text Yes Unkept = unkept_line
 doubt_text Yes Level = codes "the other desk is where this one is: lines are written again\n"
 doubt_text doubt evidence = []
 
--- as he asks where the desk stands
+-- told when the scorer asks where the desk stands
 abbrev pub doubted_text : Doubt → List ℕ
 doubted_text Yes = ahead_line
 doubted_text Lost = unkept_line
 doubted_text doubt = []
 
--- as he goes on
+-- told when the scorer says `go on`
 abbrev pub going_text : Bool → List ℕ
 going_text true = codes "this desk goes on with its file as it is\n"
 going_text false = codes "nothing holds this desk up\n"

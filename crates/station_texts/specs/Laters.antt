@@ -7,7 +7,7 @@ use Rattle.match_laws.specs.LawRefusal.{number_of as law_number}
 use Rattle.match_laws.specs.declared.refusals.LawRefusal.{LawRefusal}
 use Rattle.screen.specs.Sentences.{of_law}
 
--- of a correction of the book, the first place that it leaves refused with what would stand there, and why
+-- the first place that a correction of the book leaves refused, what would stand there, and why it is refused
 abbrev pub later_numbers : ℕ → LawRefusal → List ℕ
 later_numbers place why = codes "refused 32 Later " ++ decimal place ++ codes " " ++ decimal (law_number why)
 

@@ -1,5 +1,5 @@
--- What is claimed of the texts of a desk (Texts, with Doubts, Questions, Laters and Planning; Asides, of lines that are held) and of a board (Notices; NoticeLogs, what a log of them tells); and
--- of what a typed line comes to (Saying). inner: for private functions only.
+-- The claims about a desk's texts (Texts, with Doubts, Questions, Laters and Planning; Asides for held lines), a board's
+-- (Notices; NoticeLogs, what a log of them tells), and what a typed line comes to (Saying). inner: for private functions only.
 pub mod Saying
 pub mod Doubts
 pub mod Questions

@@ -1,4 +1,4 @@
--- What a log of notices tells.
+-- The notices in a log.
 use Rattle.std.specs.Prelude.{List, [], ◌∷◌, ◌++◌}
 use Rattle.station_texts.specs.declared.notice_log.NoticeLog.{NoticeLog}
 use Rattle.station_texts.specs.declared.notice_log.NoticeLog as noticed

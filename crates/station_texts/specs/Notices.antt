@@ -1,4 +1,4 @@
--- What a board tells of what it can't take.
+-- What a board tells when it can't take something.
 use Rattle.std.specs.Prelude.{ℕ, Bool, true, false, if◌then◌else◌, List, [], ◌∷◌, ◌++◌, codes, None, Some, Result, Ok, Err}
 use Rattle.agree_core.specs.declared.seat.Heard.{Heard}
 use Rattle.wire.specs.declared.what.What.{What}
@@ -9,7 +9,7 @@ use Rattle.station_texts.specs.declared.doubt.Evidence.{Evidence}
 use Rattle.station_texts.specs.declared.notices.{Notice.Notice, Telling.Telling}
 use Rattle.station_texts.specs.declared.notices.Notice.TheVariants.{Bytes, Unopened, TwoVotes, BadVotes, Parted, Apart}
 
--- the line of a notice
+-- the line printed for a notice
 abbrev pub notice_text : Notice → List ℕ
 notice_text (Bytes fault) = bad_text fault
 notice_text Unopened = unopened_line
@@ -23,41 +23,41 @@ notice_text (Apart place) = at_place place (codes "the desks told this board dif
 abbrev pub untold : Telling
 untold = record { warned = unwarned; trouble = None }
 
--- the board takes nothing more
+-- the board takes no further votes
 abbrev pub is_stopped : Telling → Bool
 is_stopped k = is_stopped_by k.trouble
 
--- these notices, and then this one, unless it was told
+-- these notices, followed by this one unless it was already told
 abbrev pub noted : Bool → List Notice → Notice → List Notice
 noted true notices notice = notices
 noted false notices notice = notices ++ notice ∷ []
 
--- the notices after the answer to bytes that came: of bytes that are no message of the match and of two votes of one
--- desk one each, until a vote that it takes comes, and of refused votes one
+-- the notices after the answer to a datagram: between two votes that the board takes, at most one about datagrams that are no
+-- message of the match and one about two votes of one desk; and one about refused votes
 abbrev pub notices_after : Telling → List Notice → Result What BoardRefusal → List Notice
 notices_after k notices (Ok (What.Bad fault)) = noted k.warned.of_bytes notices (Bytes fault)
 notices_after k notices (Ok (What.Heard Heard.TwoVotes)) = noted k.warned.of_votes notices TwoVotes
 notices_after k notices (Ok what) = notices
 notices_after k notices (Err (BoardRefusal.BadVotes place)) = noted (is_stopped k) notices (BadVotes place)
 
--- the notices once bytes came that don't open: one, until a vote that it takes comes
+-- the notices after a datagram that doesn't open: at most one between two votes that the board takes
 abbrev pub notices_unopened : Telling → List Notice → List Notice
 notices_unopened k notices = noted k.warned.of_seal notices Unopened
 
--- this keeps the board from going on
+-- this trouble keeps the board from going on
 abbrev pub with_trouble : Telling → ℕ → Why → Telling
 with_trouble k place why = record k { trouble = Some (trouble_at place why) }
 
 abbrev pub telling_unopened : Telling → Telling
 telling_unopened k = record k { warned = warned_unopened k.warned }
 
--- by this answer the board goes on to another position: both votes of its own were heard
+-- this answer brings the board to another position: it has now heard both votes of its own
 abbrev pub opens : What → Bool
 opens (What.Heard Heard.Agreed) = true
 opens (What.Heard Heard.Differ) = true
 opens what = false
 
--- what was told after that answer
+-- the state after that answer
 abbrev pub telling_after : Telling → Result What BoardRefusal → Telling
 telling_after k (Ok what) =
     record { warned = warned_after k.warned Evidence.Nothing what; trouble = if opens what then left_of k.trouble else k.trouble }

@@ -1,4 +1,4 @@
--- What is told of a plan.
+-- What the scorer is told of a plan.
 use Rattle.std.specs.Prelude.{ℕ, nat_lt, if◌then◌else◌, List, [], ◌∷◌, ◌++◌, codes, decimal, length}
 use Rattle.notation.specs.declared.entry.Entry.{Entry}
 use Rattle.notation.specs.Written.{text_of}
@@ -10,12 +10,12 @@ use Rattle.plans.specs.declared.planning.Planned.{Planned}
 use Rattle.station_texts.specs.Laters.{later_words}
 use Rattle.station_texts.specs.Questions.{unclear_text, who_may}
 
--- the lines of entries, each in a row
+-- the lines of entries, one per row
 abbrev pub rows : List Entry → List ℕ
 rows [] = []
 rows (e ∷ es) = text_of e ++ codes "\n" ++ rows es
 
--- behind more of them than a desk holds, how many they are
+-- how many lines a plan has, if it has more than a desk holds
 abbrev pub many_text : ℕ → List ℕ
 many_text count = if nat_lt 24 count then decimal count ++ codes " lines: paste 24 at most at once\n" else []
 

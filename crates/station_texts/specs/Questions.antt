@@ -1,4 +1,4 @@
--- What a scorer is told of a line that isn't clear or has a fault.
+-- What a scorer is told of a line that is unclear or has a fault.
 use Rattle.std.specs.Prelude.{ℕ, true, if◌then◌else◌, is_some, List, [], ◌++◌, codes, decimal}
 use Rattle.notation.specs.declared.fault.LineFault.{LineFault}
 use Rattle.notation.specs.LineFault.{number_of, name_of}
@@ -15,7 +15,7 @@ use Rattle.shorthand.specs.Candidates.{candidates}
 abbrev pub numbered : List ℕ → ℕ → List ℕ → List ℕ
 numbered word number name = word ++ codes " " ++ decimal number ++ codes " " ++ name ++ codes "\n"
 
--- the same, with a sentence
+-- a word, a number, a name and a sentence
 abbrev pub explained : List ℕ → ℕ → List ℕ → List ℕ → List ℕ
 explained word number name sentence =
     word ++ codes " " ++ decimal number ++ codes " " ++ name ++ codes ": " ++ sentence ++ codes "\n"
@@ -45,7 +45,7 @@ unclear_text sheet (Unclear.WhichPlayer side name) =
     codes "which one? " ++ listed (team_of sheet side) true (candidates (team_of sheet side) name.bytes) ++ codes "\n"
 unclear_text sheet Unclear.NothingStands = codes "undo: no entry stands\n"
 
--- behind it who may bowl, where a line doesn't say who does and the sheet limits the overs of a bowler
+-- who may bowl, if the line doesn't name the bowler and the sheet limits a bowler's overs
 abbrev pub limited_bowlers : Sheet → History → List ℕ
 limited_bowlers sheet h = if is_some sheet.limits.overs_a_bowler then bowlers sheet h else []
 

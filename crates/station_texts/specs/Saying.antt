@@ -1,5 +1,5 @@
--- What a scorer's line comes to, by cases of the answer. Every line is first put in full, by the sheet that the desk has
--- and by the book at which it stands.
+-- What a scorer's line comes to, for each kind of answer. Every line is first put in full, by the desk's sheet and by its book
+-- as it stands.
 use Rattle.std.specs.Prelude.{◌≡◌, ◌≢◌, ◌≤◌, ◌⊎◌, ℕ, Bool, true, false, nat_lt, is_some, List, [], ◌++◌, Option, Some, None, Ok, Err, IfSome, IsSome, IsUtf8, codes, length}
 use Rattle.arrayvec.specs.ArrayString.{ArrayString}
 use Rattle.notation.specs.declared.entry.Entry.{Entry}
@@ -22,26 +22,26 @@ use Rattle.plans.specs.Planning.{IsPlanned}
 use Rattle.station_texts.specs.declared.said.Said.{Said}
 use Rattle.station_texts.specs.declared.said.Said.TheVariants.{Quit, Asks, Plan, Unclear, SayAgain, NoneDiffers, Waiting, Refused, Withheld, Penned}
 
--- a line of a round: behind `again ` in every round but the first
+-- a line as typed: with `again ` before it in every round but the first
 abbrev pub says_again : Bool → List ℕ → List ℕ
 says_again true text = codes "again " ++ text
 says_again false text = text
 
--- the text is in full the entry's
+-- the text, put in full, is the entry's
 abbrev pub MeansEntry : Sheet → List Entry → List ℕ → Entry → Type 0
 MeansEntry s book text e = IsEntry e × (in_full s book text ≡ Ok (text_of e))
 
--- `again` alone, where the two scorers differed: what this scorer, who has cast these votes, wrote last
+-- `again` alone, after the scorers differed: it means what this scorer, who has cast these votes, wrote last
 abbrev pub SaysOnceMore : List Ballot → Bool → List ℕ → Entry → Type 0
 SaysOnceMore votes differs line e =
     (differs ≡ true) × (line ≡ codes "again") × (last_entry votes ≡ Some e) × IsEntry e
 
--- the line is none of the words that are no entry's
+-- the line is none of the words that mean no entry
 abbrev pub IsNoWord : List ℕ → Type 0
 IsNoWord line = (is_end line ≡ false) × (word_of line ≡ None)
 
--- no such word, but a text that is in full the entry's, behind `again ` where the two scorers differed; or, there, `again`
--- alone
+-- the line is no such word, but a text whose full form is the entry's, behind `again ` if the scorers differed; or, if they
+-- did, `again` alone
 abbrev pub LineMeans : Sheet → List Entry → List Ballot → Bool → List ℕ → Entry → Type 0
 LineMeans s book votes differs line e =
     IsNoWord line
@@ -55,35 +55,34 @@ SaysEntry s book votes round line e = LineMeans s book votes (nat_lt 0 round) li
 abbrev pub IsNotAgain : List ℕ → Type 0
 IsNotAgain line = (line ≢ codes "again") × ((rest : List ℕ) → line ≢ codes "again " ++ rest)
 
--- `again` stands where there is nothing to say again: the two scorers didn't differ here, or this one has cast no vote
+-- `again` with nothing to say again: the scorers didn't differ here, or this one has cast no vote
 abbrev pub IsAgainInVain : List Ballot → Bool → List ℕ → Type 0
 IsAgainInVain votes differs line =
     ((differs ≡ false) × ((text : List ℕ) × (line ≡ codes "again " ++ text)))
     ⊎ ((line ≡ codes "again") × ((differs ≡ false) ⊎ (last_entry votes ≡ None)))
 
--- the text of the line's entry, where the two scorers differed at this place and where they didn't
+-- the text of the entry in a line, when the scorers differed at this place (true) or not (false)
 abbrev pub IsTextOf : Bool → List ℕ → List ℕ → Type 0
 IsTextOf true line text = line ≡ codes "again " ++ text
 IsTextOf false line text = (text ≡ line) × IsNotAgain line
 
--- the text that is looked at as an entry's; where they differed and the desk's vote of the new round is cast, that of a
--- line without `again ` too
+-- the text that is read as an entry's; if they differed and the desk has voted in the new round, also a line without `again `
 abbrev pub IsReadAs : Bool → Bool → List ℕ → List ℕ → Type 0
 IsReadAs differs false line text = IsTextOf differs line text
 IsReadAs differs true line text = IsTextOf differs line text ⊎ IsTextOf false line text
 
--- a text that is looked at as an entry's means none: something isn't clear in it, or in full it has a fault
+-- a text that is read as an entry's means none: something in it is unclear, or its full form has a fault
 abbrev pub MeansNone : Sheet → List Entry → Bool → Bool → List ℕ → Reason → Type 0
 MeansNone s book differs is_cast line why =
     (text : List ℕ) × IsReadAs differs is_cast line text × (entry_in_full s book text ≡ Err why)
 
--- what is told of a line: itself, if it is text, and isn't too long behind `again `
+-- what is shown of a line: the line itself, if it is text and fits behind `again `
 abbrev pub IsTold : List ℕ → Option ArrayString → Type 0
 IsTold line text =
     IfSome text (λ t. t.bytes ≡ line) × (IsUtf8 line → length line ≤ 122 → IsSome text)
 
--- the line comes to this, and no entry is penned, by the sheet, the book and the votes that the desk has cast, at a place
--- at which the two scorers differed or not, where the desk's vote of the round is cast or not
+-- the line comes to this answer and no entry is penned; `differs`: the scorers differed at this place; `is_cast`: the desk has
+-- voted in the round
 abbrev pub ComesTo : Sheet → List Entry → List Ballot → Bool → Bool → List ℕ → Said → Type 0
 ComesTo s book votes differs is_cast line Quit = is_end line ≡ true
 ComesTo s book votes differs is_cast line (Asks word) = (word_of line ≡ Some word) × (is_plan word ≡ false)
@@ -99,8 +98,7 @@ ComesTo s book votes differs is_cast line Withheld = ⊥
 ComesTo s book votes differs is_cast line (Refused e why) = ⊥
 ComesTo s book votes differs is_cast line (Penned e settled) = ⊥
 
--- a desk that has this sheet is given a scorer's line: it answers, goes on as the second desk, and hands out these
--- messages
+-- a desk with this sheet is given a scorer's line: it answers so, becomes the desk `l`, and sends these messages
 abbrev pub Types :
     {Disk : Type 0} → Sheet → FileView Disk → Rules BookRefusal
     → DeskState Disk → List ℕ → Said → DeskState Disk → List Message → Type 0

@@ -37,24 +37,24 @@ use Rattle.station_texts.specs.Laters.{later_numbers, later_words}
 use Rattle.station_texts.specs.Planning.{planned_text}
 use Rattle.station_texts.specs.Questions.{explained, numbered, unclear_text, who_may}
 
--- the umpire calls over
+-- the entry is the umpire's call of over
 abbrev pub is_over : Entry → Bool
 is_over (Write Plain.Over) = true
 is_over e = false
 
--- a place and what is told of it
+-- a place, and words about it
 abbrev pub at_place : ℕ → List ℕ → List ℕ
 at_place place words = decimal place ++ codes " " ++ words ++ codes "\n"
 
--- an entry that was agreed at this place, with the book's history after it: how many overs were called then, and the
--- check of the over, or how the match stands
+-- an entry that was agreed at this place, with the history after it: how many overs are called by then, and the check of the
+-- over, or how the match stands
 abbrev pub over_called : History → List ℕ
 over_called h = if begun h == 0 then [] else codes " " ++ decimal (overs h (current h))
 
 abbrev pub agreed_line : ℕ → Entry → List ℕ
 agreed_line place e = decimal place ++ codes " agreed: " ++ text_of e
 
--- of an over that another number of deliveries than six counts in, that number; of a decided match, its result
+-- after an over: how many of its deliveries count if not six, and the result if the match is decided
 abbrev pub over_agreed : Sheet → ℕ → ℕ → History → Entry → List ℕ
 over_agreed sheet innings place h e =
     agreed_line place e ++ over_called h ++ called_note (counting (last_called_over h))
@@ -67,12 +67,12 @@ abbrev pub agreed_entry : Sheet → ℕ → ℕ → History → Entry → List �
 agreed_entry sheet innings place h e =
     if is_over e then over_agreed sheet innings place h e else play_agreed sheet innings place h e
 
--- that the place has its entry in the book
+-- the entry at the place is agreed, if the book has one there
 abbrev pub agreed_at : Sheet → ℕ → ℕ → History → Option Entry → List ℕ
 agreed_at sheet innings place h None = []
 agreed_at sheet innings place h (Some e) = agreed_entry sheet innings place h e
 
--- and, where it is a `fix` or a `late`, what it has changed
+-- also what a `fix` or a `late` there has changed
 abbrev pub agreed : Sheet → ℕ → ℕ → List Entry → List ℕ
 agreed sheet innings place book =
     agreed_at sheet innings place (history_of book) (slice_get book place) ++ last_changes sheet innings book
@@ -87,7 +87,7 @@ refused_entry book e (Refusal.Book (Later place why)) =
     later_numbers place why ++ later_words place (item_with book e place) why
 refused_entry book e why = refused_text why
 
--- that the two scorers differ at a place, with the entry of each where it is known: it is, once both votes are stored
+-- the scorers differ at a place, with both entries if they are known; they are, once both votes are stored
 abbrev pub both_lines : Entry → Entry → List ℕ
 both_lines own other = codes "differs: you " ++ text_of own ++ codes ",\n  the other " ++ text_of other
 
@@ -95,31 +95,31 @@ abbrev pub differs_text : ℕ → Option Entry → Option Entry → List ℕ
 differs_text place (Some own) (Some other) = at_place place (both_lines own other)
 differs_text place own other = at_place place (codes "differs")
 
--- the entry that was penned stands in full behind `pending`
+-- the pending entry, in full
 abbrev pub pending : ℕ → Entry → List ℕ
 pending place e = at_place place (codes "pending: " ++ text_of e)
 
--- of an entry that was penned, where this is the other scorer's that was noted before
+-- the outcome of a vote for entry e; `other` is the other scorer's vote, if it was noted before
 abbrev pub settled_text : Sheet → ℕ → ℕ → Option Entry → List Entry → Entry → Settled → List ℕ
 settled_text sheet innings place other book e Settled.Pending = pending place e
 settled_text sheet innings place other book e Settled.Agreed = agreed sheet innings place book
 settled_text sheet innings place other book e Settled.Differ = differs_text place (Some e) other
 
--- why no vote can be cast at a position, whatever a scorer types: all places of the book are used up, or all rounds of
--- this place
+-- why no vote can be cast at a position, whatever the scorer types: all places of the book are used up, or all rounds of this
+-- place
 abbrev pub why_full : Position → Option Refusal
 why_full at =
     if nat_le PLACES at.place then Some Refusal.PlacesFull
     else if nat_le ROUNDS at.round then Some Refusal.RoundsFull
     else None
 
--- it is told just where each entry that is penned is refused so, if the own vote isn't cast
+-- this is told exactly where every penned entry would be refused for that reason, if the own vote isn't cast
 pub record TellsWhyFull (at : Position) : Type 0 where
   pub places : (why_full at ≡ Some Refusal.PlacesFull) ↔ (PLACES ≤ at.place)
   pub rounds : (why_full at ≡ Some Refusal.RoundsFull) ↔ ((at.place < PLACES) × (ROUNDS ≤ at.round))
   pub room : (why_full at ≡ None) ↔ InRange at
 
--- of a desk's position: its vote for this entry is cast, or none can be, or the scorers differed there, or nothing of these
+-- a position without the desk's own vote: no vote can be cast there, or the scorers differed, or it is simply next
 abbrev pub open_text : Position → Option Refusal → List ℕ
 open_text at (Some why) = at_place at.place (of_desk why)
 open_text at None = at_place at.place (if nat_lt 0 at.round then codes "differs" else codes "next")
@@ -128,7 +128,7 @@ abbrev pub place_text : Position → Option Entry → List ℕ
 place_text at (Some e) = pending at.place e
 place_text at None = open_text at (why_full at)
 
--- that a line must begin with `again`, and how it does, if it can
+-- the line must begin with `again`, shown so if it fits
 abbrev pub with_again : ℕ → List ℕ → List ℕ
 with_again place line = decimal place ++ codes " differs: begin the line with again: again " ++ line ++ codes "\n"
 
@@ -136,16 +136,16 @@ abbrev pub ask_again : ℕ → Option ArrayString → List ℕ
 ask_again place None = at_place place (codes "differs: begin the line with again")
 ask_again place (Some line) = with_again place line.bytes
 
--- of a line without `again`, where the scorers differed: it is asked for, unless no vote can be cast
+-- a line without `again` after the scorers differed: `again` is asked for, unless no vote can be cast
 abbrev pub again_text : Position → Option ArrayString → Option Refusal → List ℕ
 again_text at line (Some why) = refused_text why
 again_text at line None = ask_again at.place line
 
--- where a desk stands, as it begins and where its scorer asks
+-- where a desk stands, told as it begins and when its scorer asks
 abbrev pub greeting : Sheet → ℕ → List Entry → Position → Option Entry → List ℕ
 greeting sheet innings book at own = row sheet innings (history_of book) ++ place_text at own
 
--- that the other has written its vote of a place; that the other desk isn't heard; that it is again
+-- the other has written its vote of a place; the other desk isn't heard; it is heard again
 abbrev pub writing : ℕ → List ℕ
 writing place = at_place place (codes "the other has written")
 
@@ -157,8 +157,8 @@ reminder_text place Reminder.HasWritten = writing place
 reminder_text place Reminder.IsMissed = silence
 reminder_text place Reminder.IsHeard = codes "the other desk is heard again\n"
 
--- what is known of the other desk where the scorer asks: that it has written, where its vote is noted and the own one
--- isn't cast; that it isn't heard, where that was told and it wasn't heard since
+-- what is known of the other desk when the scorer asks: it has written, if its vote is noted and the own one isn't cast; it
+-- isn't heard, if that was told and still holds
 abbrev pub is_waited_for : Option Entry → Option Entry → Bool
 is_waited_for own other = if is_some own then false else is_some other
 
@@ -168,7 +168,7 @@ other_text place waited = if waited then writing place else []
 abbrev pub silence_text : Bool → List ℕ
 silence_text silent = if silent then silence else []
 
--- and whether the desk doubts its file
+-- where the desk stands, what is known of the other desk, and whether this desk doubts its file
 abbrev pub standing : Sheet → ℕ → List Entry → Position → Option Entry → Bool → Warned → List ℕ
 standing sheet innings book at own waited warned =
     greeting sheet innings book at own ++ other_text at.place waited ++ silence_text warned.of_silence
@@ -178,7 +178,7 @@ standing sheet innings book at own waited warned =
 abbrev pub withheld : ℕ → List ℕ
 withheld place = at_place place (codes "isn't written: this file lacks lines; put the right file back, or say go on")
 
--- what is shown of a word, where a desk stands so; of `plan` what `Planning` has
+-- what is shown for a word; nothing here for `plan`, which has `Planning`
 abbrev pub word_text : Sheet → ℕ → Position → Option Entry → Bool → Warned → List Entry → Word → List ℕ
 word_text sheet innings at own waited warned book Word.Where = standing sheet innings book at own waited warned
 word_text sheet innings at own waited warned book (Word.Entries most) = listing most book
@@ -196,8 +196,8 @@ word_text sheet innings at own waited warned book Word.GoOn = going_text (holds_
 word_text sheet innings at own waited warned book Word.Forms = help
 word_text sheet innings at own waited warned book (Word.More topic) = help_on topic
 
--- of a line at this position, with the desk's own vote there and the other desk's before it, what the scorer was told of a peer
--- before, and with the book after it
+-- the answer to a line at this position: with the own and the other desk's vote there before the line, what was told of a peer
+-- before, and the book after it
 abbrev pub said_text : Sheet → ℕ → Position → Option Entry → Option Entry → Warned → List Entry → Said → List ℕ
 said_text sheet innings at own other warned book Said.Quit = []
 said_text sheet innings at own other warned book (Said.Asks word) =
@@ -214,33 +214,33 @@ said_text sheet innings at own other warned book Said.Withheld = withheld at.pla
 said_text sheet innings at own other warned book (Said.Penned e settled) =
     settled_text sheet innings at.place other book e settled
 
--- of a peer, unless it was told
+-- a warning about a peer, unless it was already told
 abbrev pub warning : Bool → List ℕ → List ℕ
 warning false text = text
 warning true text = []
 
--- why bytes are no message of the match
+-- why a datagram is no message of the match
 abbrev pub bad_text : WireFault → List ℕ
 bad_text fault = numbered (codes "peer:") (wire_number fault) (wire_name fault)
 
--- of bytes that came and don't open
+-- told of a datagram that doesn't open
 abbrev pub unopened_line : List ℕ
 unopened_line = codes "peer: another sheet or another key\n"
 
 abbrev pub unopened_text : Warned → List ℕ
 unopened_text warned = warning warned.of_seal unopened_line
 
--- that the other desk's file lacks lines, where what came shows it
+-- the other desk's file lacks lines, if a message shows it
 abbrev pub loss_line : List ℕ
 loss_line = codes "the other desk's file lacks lines that this one has: have the right file put back\n"
 
--- and that this desk's does, or doesn't after all
+-- also that this desk's file lacks lines, or doesn't after all
 abbrev pub shown_text : Warned → Evidence → List ℕ
 shown_text warned Evidence.OtherLacks = warning warned.of_lines loss_line
 shown_text warned evidence = doubt_text warned.doubt evidence
 
--- of a vote that came at this place, with the desk's own vote there before it, the entry that came, the book after it, and what
--- it shows of both desks' files
+-- told of a vote received at this place: with the own vote before it, the entry received, the book after it, and what the vote
+-- shows of both desks' files
 abbrev pub heard_text : Sheet → ℕ → ℕ → Option Entry → Option Entry → List Entry → Warned → Evidence → Heard → List ℕ
 heard_text sheet innings place own other book warned evidence Heard.Noted = []
 heard_text sheet innings place own other book warned evidence Heard.Agreed = agreed sheet innings place book
@@ -251,7 +251,7 @@ heard_text sheet innings place own other book warned evidence Heard.Old = shown_
 heard_text sheet innings place own other book warned evidence Heard.Ahead = shown_text warned evidence
 heard_text sheet innings place own other book warned evidence heard = []
 
--- of what came at this place, likewise
+-- told of a datagram received at this place, with the same arguments
 abbrev pub came_text : Sheet → ℕ → ℕ → Option Entry → Option Entry → List Entry → Warned → Evidence → What → List ℕ
 came_text sheet innings place own other book warned evidence (What.Bad fault) = warning warned.of_bytes (bad_text fault)
 came_text sheet innings place own other book warned evidence (What.Heard heard) =
@@ -271,9 +271,9 @@ unwarned = record {
   doubt = Doubt.No;
 }
 
--- what was told of a peer since a vote that is news came, after the answer to what came; anyone's asks are as any
--- desk's, and a vote is repeated until it is answered, so that they are no sign that all is right; that the other desk
--- isn't heard stands until it is told that it is again, and what the desk doubts until that is clear
+-- what still counts as told after a vote that is news: the other desk's silence, until it is told that it is heard again, and
+-- the desk's doubt, until it is cleared; an ask or a repeated vote is no sign that all is right, since anyone may ask and a
+-- vote is repeated until it is answered
 abbrev pub unwarned_but : Warned → Warned
 unwarned_but warned = record unwarned { of_silence = warned.of_silence; doubt = warned.doubt }
 
@@ -297,17 +297,17 @@ warned_after warned evidence (What.Heard Heard.Ahead) = warned_shown warned evid
 warned_after warned evidence What.Asked = warned_shown warned evidence
 warned_after warned evidence what = warned
 
--- once bytes came that don't open
+-- after a datagram that doesn't open
 abbrev pub warned_unopened : Warned → Warned
 warned_unopened warned = record warned { of_seal = true }
 
--- once this was told of the other desk
+-- after this reminder about the other desk
 abbrev pub warned_reminded : Warned → Reminder → Warned
 warned_reminded warned Reminder.HasWritten = record warned { of_writing = true }
 warned_reminded warned Reminder.IsMissed = record warned { of_silence = true }
 warned_reminded warned Reminder.IsHeard = record warned { of_silence = false }
 
--- once a line came to this: the scorer may have said that he goes on
+-- after a line came to this: the scorer may have said `go on`
 abbrev pub warned_said : Warned → Said → Warned
 warned_said warned (Said.Asks Word.GoOn) = record warned { doubt = dismissed warned.doubt }
 warned_said warned said = warned

@@ -1,2 +1,2 @@
--- What serves private functions and proofs only: the contracts can be judged without it.
+-- Only for private functions and proofs: the contracts can be judged without it.
 pub mod Telling

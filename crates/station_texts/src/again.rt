@@ -1,4 +1,4 @@
-//! What a desk's scorer is told of a line without `again`, where the scorers differed.
+//! What a desk's scorer is told when a line lacks `again` after the scorers differed.
 
 ghost use Rattle.std.specs.Prelude.{OnOk};
 ghost use Rattle.streams.specs.Watched.{Prints, TellsFailure};
@@ -10,7 +10,7 @@ use crate::texts::{print_at, why_full};
 use agree_core::Position;
 use streams::{Sink, Watched, WriteFailed};
 
-/// Prints that this line must begin with `again`, where the scorers differed.
+/// Prints the line as it must be typed, with `again` before it, since the scorers differed.
 fn print_with_again<W: Sink>(
     out: &mut Watched<W>,
     place: u32,
@@ -25,7 +25,7 @@ fn print_with_again<W: Sink>(
     )
 }
 
-/// Prints that a line, this one if it can, must begin with `again`, where the scorers differed.
+/// Prints that the line must begin with `again`, since the scorers differed; shows it so if it fits.
 fn print_ask_again<W: Sink>(
     out: &mut Watched<W>,
     place: u32,
@@ -40,8 +40,8 @@ fn print_ask_again<W: Sink>(
     }
 }
 
-/// Prints that a line, this one if it can, must begin with `again`, where the scorers differed at this position, or why that
-/// would be in vain.
+/// Prints that the line must begin with `again`, since the scorers differed at this position (shown so if it fits); or, where
+/// no vote can be cast, why.
 pub fn print_again<W: Sink>(
     out: &mut Watched<W>,
     at: Position,

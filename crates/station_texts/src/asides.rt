@@ -1,4 +1,4 @@
-//! What a desk's scorer is told of lines that the desk isn't given yet, or never will be.
+//! What a desk's scorer is told of typed lines that the desk hasn't been given yet, or never will be.
 
 ghost use Rattle.std.specs.Prelude.{◌≤◌, ◌++◌, codes, decimal, OnOk};
 ghost use Rattle.cards.specs.Sheet.{most_columns};
@@ -9,7 +9,7 @@ use crate::texts::print_at;
 use links::{Aside, HeldLine};
 use streams::{Sink, Watched, WriteFailed};
 
-/// Prints a line behind a comma, in a new row where there is no room in this one.
+/// Prints a comma and then the line, on a new row if this one has no room.
 fn print_behind<W: Sink>(
     out: &mut Watched<W>,
     line: &str,
@@ -25,7 +25,7 @@ fn print_behind<W: Sink>(
     }
 }
 
-/// Prints each line behind a comma, in a row that has so many of its columns: a new one begins where it would have more.
+/// Prints each line with a comma before it; `at` is how many of a row's `columns` are used so far. A full row is wrapped.
 fn print_more<W: Sink>(
     out: &mut Watched<W>,
     columns: usize,
@@ -46,7 +46,7 @@ fn print_more<W: Sink>(
     print_more(out, columns, before + own, more)
 }
 
-/// Prints lines with a comma between two, behind words that count as 12 columns.
+/// Prints lines separated by commas; the words before them count as 12 columns.
 fn print_lines<W: Sink>(
     out: &mut Watched<W>,
     columns: usize,
@@ -64,7 +64,7 @@ fn print_lines<W: Sink>(
     print_more(out, columns, words.len() + 12, more)
 }
 
-/// Prints lines with a comma between two, as rows.
+/// Prints lines separated by commas, wrapped into rows, and ends the last row.
 fn print_rows<W: Sink>(
     out: &mut Watched<W>,
     columns: usize,
@@ -78,7 +78,7 @@ fn print_rows<W: Sink>(
     writeln!(out)
 }
 
-/// Prints that lines are dropped; nothing of none.
+/// Prints how many lines are dropped, and which; prints nothing if there are none.
 fn print_dropped<W: Sink>(
     out: &mut Watched<W>,
     columns: usize,
@@ -104,7 +104,7 @@ fn print_held<W: Sink>(out: &mut Watched<W>, place: u32, line: &str) -> Result<(
     writeln!(out, "{place} held: {line}")
 }
 
-/// Prints which lines are held.
+/// Prints all held lines.
 fn print_holds<W: Sink>(
     out: &mut Watched<W>,
     columns: usize,
@@ -120,7 +120,7 @@ fn print_holds<W: Sink>(
     print_rows(out, columns, lines)
 }
 
-/// Prints that one is taken back.
+/// Prints that a held line is taken back.
 fn print_taken_back<W: Sink>(
     out: &mut Watched<W>,
     place: u32,
@@ -132,7 +132,7 @@ fn print_taken_back<W: Sink>(
     writeln!(out, "{place} taken back: {line}")
 }
 
-/// Prints that one wasn't taken.
+/// Prints that a line wasn't taken.
 fn print_untaken<W: Sink>(out: &mut Watched<W>, place: u32, line: &str) -> Result<(), WriteFailed>
     ensures text { OnOk result (Prints W.contents out.old out.new (asides.line_at place (codes " not taken: ") line.now)) }
     ensures failed { TellsFailure result out.old out.new }
@@ -140,7 +140,7 @@ fn print_untaken<W: Sink>(out: &mut Watched<W>, place: u32, line: &str) -> Resul
     writeln!(out, "{place} not taken: {line}")
 }
 
-/// Prints that one wasn't taken, and that those behind it are dropped.
+/// Prints that a line wasn't taken, and that the lines behind it are dropped.
 fn print_not_taken<W: Sink>(
     out: &mut Watched<W>,
     columns: usize,
@@ -157,7 +157,7 @@ fn print_not_taken<W: Sink>(
     print_dropped(out, columns, behind)
 }
 
-/// Prints that one can't be held.
+/// Prints that a line can't be held, since 24 are.
 fn print_full<W: Sink>(out: &mut Watched<W>, line: &str) -> Result<(), WriteFailed>
     ensures text { OnOk result (Prints W.contents out.old out.new
         (codes "24 lines are held, and not this: " ++ line.now ++ codes "\n")) }
@@ -166,7 +166,7 @@ fn print_full<W: Sink>(out: &mut Watched<W>, line: &str) -> Result<(), WriteFail
     writeln!(out, "24 lines are held, and not this: {line}")
 }
 
-/// Prints how one that was held and is agreed is taken back.
+/// Prints how to undo an agreed line that was held before.
 fn print_was_held<W: Sink>(out: &mut Watched<W>, place: u32, line: &str) -> Result<(), WriteFailed>
     ensures text { OnOk result (Prints W.contents out.old out.new (asides.way_back place line.now)) }
     ensures failed { TellsFailure result out.old out.new }
@@ -182,7 +182,7 @@ fn print_was_held<W: Sink>(out: &mut Watched<W>, place: u32, line: &str) -> Resu
     }
 }
 
-/// Prints what is told of lines that the desk isn't given, in rows of so many columns.
+/// Prints a message about lines that the desk isn't given, wrapped at this many columns.
 fn print_of_lines<W: Sink>(
     out: &mut Watched<W>,
     columns: usize,
@@ -212,7 +212,7 @@ fn print_of_lines<W: Sink>(
     }
 }
 
-/// Prints what is told of lines that the desk isn't given, in rows of so many columns, and hands it on at once.
+/// Prints a message about lines that the desk isn't given, wrapped at this many columns, and flushes it.
 pub fn print_aside<W: Sink>(
     out: &mut Watched<W>,
     columns: usize,
@@ -226,7 +226,7 @@ pub fn print_aside<W: Sink>(
     out.flush()
 }
 
-/// Prints that these lines are dropped where a desk ends, those that were held and those that were dropped as they were typed.
+/// Prints the lines dropped when a desk ends: first those that were held, then those that were dropped as they were typed.
 fn print_both_dropped<W: Sink>(
     out: &mut Watched<W>,
     columns: usize,
@@ -241,7 +241,7 @@ fn print_both_dropped<W: Sink>(
     print_dropped(out, columns, lost)
 }
 
-/// The same, handed on at once.
+/// Prints the lines dropped when a desk ends, and flushes them.
 pub fn print_all_dropped<W: Sink>(
     out: &mut Watched<W>,
     columns: usize,

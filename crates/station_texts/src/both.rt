@@ -3,7 +3,7 @@
 use agree_core::Position;
 use notation::Entry;
 
-/// The votes of one position, where they are known: the desk's own, and the other desk's.
+/// Both votes at one position, as far as they are known: the desk's own, and the other desk's.
 #[derive(Clone, Copy)]
 pub struct Both {
     pub at: Position,

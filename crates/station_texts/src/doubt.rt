@@ -1,4 +1,4 @@
-//! What messages show of lines that a desk's file lacks, and whether a desk doubts its own for that.
+//! What messages show of lines that a desk's file lacks, and whether a desk doubts its own file for that.
 
 ghost use Rattle.std.specs.Prelude.{◌≡◌, OnOk};
 ghost use Rattle.streams.specs.Watched.{Prints, TellsFailure};
@@ -6,36 +6,36 @@ ghost use Rattle.station_texts.specs.Doubts as doubts;
 
 use streams::{Sink, Watched, WriteFailed};
 
-/// What a message that came shows of the files of both desks.
+/// What a received message shows about the files of both desks.
 #[derive(Clone, Copy, Debug)]
 pub enum Evidence {
     /// Nothing.
     Nothing,
     /// The other desk's file lacks lines that this one has.
     OtherLacks,
-    /// The other desk is ahead of this one: by what this desk has voted it can't be there.
+    /// The other desk is at a position that it can't have reached, by what this desk has voted.
     Ahead,
-    /// A vote of this desk came that its file hasn't.
+    /// A vote of this desk came that isn't in its file.
     Unkept,
-    /// The other desk stands where this one does.
+    /// The other desk is at this desk's position.
     Level,
 }
 
-/// Whether a desk doubts that its file has all its lines. While it does it casts no vote.
+/// Whether a desk doubts that its file has all its lines. While it does, it casts no vote.
 #[derive(Clone, Copy, Debug)]
 pub enum Doubt {
-    /// It doesn't.
+    /// The desk has no doubt.
     No,
-    /// The other desk was ahead of it: until that one stands where this one does, or its scorer goes on.
+    /// The other desk was ahead. This lasts until the other desk is at this desk's position, or the scorer says `go on`.
     Yes,
-    /// A vote of its own came that its file hasn't: until its scorer goes on.
+    /// A vote of this desk came that isn't in its file. This lasts until the scorer says `go on`.
     Lost,
-    /// Its scorer went on. From then on nothing is made of who is ahead.
+    /// The scorer said `go on`. From then on no evidence raises a doubt.
     Dismissed,
 }
 
 impl Doubt {
-    /// What it is once a message has shown this.
+    /// Returns the doubt after a message has shown this evidence.
     pub fn after(self, evidence: Evidence) -> Doubt
         ensures { result ≡ doubts.doubt_after self evidence }
     {
@@ -47,14 +47,14 @@ impl Doubt {
         }
     }
 
-    /// Whether the desk casts no vote.
+    /// Whether the doubt keeps the desk from casting votes.
     pub fn holds_up(self) -> bool
         ensures { result ≡ doubts.holds_up self }
     {
         matches!(self, Doubt::Yes | Doubt::Lost)
     }
 
-    /// What it is once the scorer has said that he goes on.
+    /// Returns the doubt after the scorer has said `go on`.
     pub fn dismissed(self) -> Doubt
         ensures { result ≡ doubts.dismissed self }
     {
@@ -87,7 +87,7 @@ fn print_unkept<W: Sink>(out: &mut Watched<W>) -> Result<(), WriteFailed>
     )
 }
 
-/// Prints that a desk begins to doubt its file, or doesn't any more.
+/// Prints that a desk begins to doubt its file, or that it no longer does.
 pub(crate) fn print_doubt<W: Sink>(
     out: &mut Watched<W>,
     doubt: Doubt,
@@ -107,7 +107,7 @@ pub(crate) fn print_doubt<W: Sink>(
     }
 }
 
-/// Prints that a desk doubts its file, where it does.
+/// Prints that a desk doubts its file, if it does.
 pub(crate) fn print_doubted<W: Sink>(out: &mut Watched<W>, doubt: Doubt) -> Result<(), WriteFailed>
     ensures text { OnOk result (Prints W.contents out.old out.new (doubts.doubted_text doubt)) }
     ensures failed { TellsFailure result out.old out.new }
@@ -119,7 +119,7 @@ pub(crate) fn print_doubted<W: Sink>(out: &mut Watched<W>, doubt: Doubt) -> Resu
     }
 }
 
-/// Prints that a desk goes on, or that nothing held it up.
+/// Prints the answer to `go on`: the desk goes on, or nothing held it up.
 pub(crate) fn print_going<W: Sink>(out: &mut Watched<W>, doubt: Doubt) -> Result<(), WriteFailed>
     ensures text { OnOk result (Prints W.contents out.old out.new (doubts.going_text (doubts.holds_up doubt))) }
     ensures failed { TellsFailure result out.old out.new }

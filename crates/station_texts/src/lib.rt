@@ -1,4 +1,4 @@
-//! What a desk and a board tell, and what a typed line comes to: the texts of the loops of `live`.
+//! The texts of a desk and a board, and what a typed line comes to: used by the loops of `live`.
 #![tactic(auto)]
 
 mod again;

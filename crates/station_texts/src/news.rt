@@ -1,4 +1,4 @@
-//! What a desk's scorer is told of what comes, and of the other desk.
+//! What a desk's scorer is told of received messages, and of the other desk.
 
 ghost use Rattle.std.specs.Prelude.{IfSome, OnOk};
 ghost use Rattle.streams.specs.Watched.{Prints, TellsFailure};
@@ -16,7 +16,7 @@ use corrections::BookOf;
 use streams::{Sink, Watched, WriteFailed};
 use wire::What;
 
-/// Prints a text of a peer, unless it was told.
+/// Prints a warning about a peer, unless it was already told.
 fn print_warning<W: Sink>(
     out: &mut Watched<W>,
     is_told: bool,
@@ -31,7 +31,7 @@ fn print_warning<W: Sink>(
     write!(out, "{text}")
 }
 
-/// Prints why bytes that came are no message of the match, unless it was told.
+/// Prints why a datagram is no message of the match, unless that was already told.
 fn print_bad<W: Sink>(
     out: &mut Watched<W>,
     is_told: bool,
@@ -48,7 +48,7 @@ fn print_bad<W: Sink>(
     writeln!(out, "peer: {code} {fault}")
 }
 
-/// Prints what a message that came shows of both desks' files; that the other's lacks lines unless it was told.
+/// Prints what a message shows of both desks' files; that the other desk's file lacks lines only if that wasn't told yet.
 fn print_shown<W: Sink>(
     out: &mut Watched<W>,
     warned: Warned,
@@ -67,7 +67,7 @@ fn print_shown<W: Sink>(
     }
 }
 
-/// Prints what a vote that came came to, where it is news: of both votes, the desk's own was there before.
+/// Prints the outcome of a received vote, if it is news. The desk's own vote in `both` was there before.
 fn print_heard<B: BookOf, W: Sink>(
     out: &mut Watched<W>,
     sheet: &MatchSheet,
@@ -92,7 +92,7 @@ fn print_heard<B: BookOf, W: Sink>(
     }
 }
 
-/// Prints what came of bytes at the position of both votes, where it is news.
+/// Prints the outcome of a datagram, if it is news, with both votes at the position.
 fn print_news<B: BookOf, W: Sink>(
     out: &mut Watched<W>,
     sheet: &MatchSheet,
@@ -116,7 +116,7 @@ fn print_news<B: BookOf, W: Sink>(
     }
 }
 
-/// Tells the scorer at once what came of bytes at the position of both votes, where it is news.
+/// Tells the scorer at once the outcome of a datagram, if it is news, with both votes at the position.
 pub fn print_came<B: BookOf, W: Sink>(
     out: &mut Watched<W>,
     sheet: &MatchSheet,
@@ -136,7 +136,7 @@ pub fn print_came<B: BookOf, W: Sink>(
     out.flush()
 }
 
-/// Tells the scorer at once that bytes came that don't open, unless it was told.
+/// Tells the scorer at once that a datagram doesn't open, unless that was already told.
 pub fn print_unopened<W: Sink>(out: &mut Watched<W>, warned: Warned) -> Result<(), WriteFailed>
     ensures text { OnOk result (Prints W.contents out.old out.new (texts.unopened_text warned)) }
     ensures failed { TellsFailure result out.old out.new }
@@ -145,7 +145,7 @@ pub fn print_unopened<W: Sink>(out: &mut Watched<W>, warned: Warned) -> Result<(
     out.flush()
 }
 
-/// Prints this of the other desk, at this place.
+/// Prints a reminder about the other desk, at this place.
 fn print_of_other<W: Sink>(
     out: &mut Watched<W>,
     place: u32,
@@ -161,7 +161,7 @@ fn print_of_other<W: Sink>(
     }
 }
 
-/// Tells the scorer this of the other desk, at this place.
+/// Tells the scorer at once a reminder about the other desk, at this place.
 pub fn print_reminder<W: Sink>(
     out: &mut Watched<W>,
     place: u32,

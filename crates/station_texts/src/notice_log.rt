@@ -1,11 +1,11 @@
-//! What a board told, which clauses alone read.
+//! The notices that a board has told: only contracts read them.
 
 ghost use Rattle.std.specs.Prelude.{◌≡◌, ◌∷◌, ◌++◌, []};
 
 use crate::notices::Notice;
 use std::snapshot::Snapshot;
 
-/// Every notice that was told, in order.
+/// All notices that were told, in order.
 #[derive(Drop)]
 pub enum NoticeLog {
     Empty,
@@ -15,7 +15,7 @@ pub enum NoticeLog {
 impl NoticeLog {
     ghost use Rattle.station_texts.specs.NoticeLogs.{notices_of};
 
-    /// This log, and then a notice.
+    /// Returns this log with a notice added at its end.
     pub fn told(&self, notice: Notice) -> NoticeLog
         ensures { notices_of result ≡ notices_of self.now ++ notice ∷ [] }
     {

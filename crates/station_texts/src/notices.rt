@@ -1,4 +1,4 @@
-//! What a board tells of what it can't take.
+//! What a board tells when it can't take something.
 
 ghost use Rattle.std.specs.Prelude.{◌≡◌, ◌∷◌, ◌++◌, [], List, OnOk};
 ghost use Rattle.streams.specs.Watched.{Prints, TellsFailure};
@@ -12,33 +12,33 @@ use board::{BoardRefusal, Trouble, Why};
 use streams::{Sink, Watched, WriteFailed};
 use wire::{What, WireFault};
 
-/// What a board can't take.
+/// Something that a board can't take.
 #[derive(Clone, Copy)]
 pub enum Notice {
-    /// Bytes that are no message of the match.
+    /// A datagram that is no message of the match.
     Bytes(WireFault),
-    /// Bytes that don't open.
+    /// A datagram that doesn't open.
     Unopened,
     /// Two votes of one desk for one position.
     TwoVotes,
-    /// Both desks' votes of this place for an entry that its book refuses. What it has shown may be wrong.
+    /// Both desks' votes at this place for an entry that the board's book refuses. What the board has shown may be wrong.
     BadVotes { place: u32 },
-    /// A vote for this place that no desk casts whose file has all its lines: the desk voted for another entry at the same
-    /// position before, or both had voted alike in an earlier round.
+    /// A vote for this place that no desk casts whose file has all its lines: the desk had voted for another entry at this
+    /// position, or both desks had voted alike in an earlier round.
     Parted { place: u32 },
-    /// The desks vote for later places, and not for the round of this place that the board has come to, by votes that weren't
-    /// alike.
+    /// The desks vote for later places and not for the round of this place that the board has come to, after votes for the
+    /// place that weren't alike.
     Apart { place: u32 },
 }
 
-/// Takes what a board tells. Nothing is known of who reads it; what was handed to it is told.
+/// Takes a board's notices. Nothing is known of who reads them; each notice handed to `tell` counts as told.
 pub trait Notices {
     ghost use Rattle.station_texts.specs.declared.notices.Notice.{Notice};
 
-    /// What was handed to it, the oldest first.
+    /// The notices handed to `tell`, the oldest first.
     ghost told: { Self → List Notice };
 
-    /// Tells this. That it can't be told is no fault.
+    /// Tells a notice. It is no fault if the notice can't be delivered.
     fn tell(&mut self, notice: Notice)
         ensures { told self.new ≡ told self.old ++ notice ∷ [] };
 }
@@ -68,14 +68,14 @@ pub fn print_notice<W: Sink>(out: &mut Watched<W>, notice: Notice) -> Result<(),
     }
 }
 
-/// What a board has told since a vote that it takes came, and what it has told that keeps it from going on.
+/// What a board has told since it last took a vote, and the trouble that it told of which keeps it from going on.
 #[derive(Clone, Copy, Debug)]
 pub struct Telling {
     pub warned: Warned,
     pub trouble: Option<Trouble>,
 }
 
-/// Tells this, unless it was told.
+/// Tells a notice, unless it was already told.
 fn note<N: Notices>(notices: &mut N, is_told: bool, notice: Notice)
     ensures { N.told notices.new ≡ texts.noted is_told (N.told notices.old) notice }
 {
@@ -84,7 +84,7 @@ fn note<N: Notices>(notices: &mut N, is_told: bool, notice: Notice)
     }
 }
 
-/// Whether a board goes on to another position by that answer: both votes of its own were heard.
+/// Whether this answer brings the board to another position: the board has now heard both votes of its own.
 pub fn opens(answer: What) -> bool
     ensures { result ≡ texts.opens answer }
 {
@@ -92,13 +92,13 @@ pub fn opens(answer: What) -> bool
 }
 
 impl Telling {
-    /// Nothing was told.
+    /// The state in which nothing was told.
     pub const NOTHING: Telling = Telling {
         warned: Warned::NOTHING,
         trouble: None,
     };
 
-    /// Whether the board takes nothing more.
+    /// Whether the board takes no further votes.
     pub fn is_stopped(self) -> bool
         ensures { result ≡ texts.is_stopped self }
     {
@@ -108,7 +108,7 @@ impl Telling {
         }
     }
 
-    /// What keeps the board from going on once it has come to another position.
+    /// Returns the trouble that remains after the board has come to another position: only one that stops it.
     fn left(self) -> Option<Trouble>
         ensures { result ≡ left_of self.trouble }
     {
@@ -118,7 +118,7 @@ impl Telling {
         }
     }
 
-    /// The same, but for what keeps the board from going on.
+    /// Returns the same state with this trouble.
     fn troubled(self, place: u32, why: Why) -> Telling
         ensures { result ≡ texts.with_trouble self place why }
     {
@@ -128,7 +128,7 @@ impl Telling {
         }
     }
 
-    /// Tells what is news in the answer to bytes that came.
+    /// Tells what is news in the answer to a datagram.
     pub fn tell<N: Notices>(self, answer: Result<What, BoardRefusal>, notices: &mut N)
         ensures { N.told notices.new ≡ texts.notices_after self (N.told notices.old) answer }
     {
@@ -144,7 +144,7 @@ impl Telling {
         }
     }
 
-    /// Tells that bytes came that don't open, unless it was told, and answers what was told then.
+    /// Tells that a datagram doesn't open, unless that was already told, and returns the new state.
     pub fn unopened<N: Notices>(self, notices: &mut N) -> Telling
         ensures told { N.told notices.new ≡ texts.notices_unopened self (N.told notices.old) }
         ensures after { result ≡ texts.telling_unopened self }
@@ -156,7 +156,7 @@ impl Telling {
         }
     }
 
-    /// Tells that a vote for this place came which shows that a desk's file lacks lines, and answers what was told then.
+    /// Tells that a vote for this place shows that a desk's file lacks lines, and returns the new state.
     pub fn part<N: Notices>(self, place: u32, notices: &mut N) -> Telling
         ensures told { N.told notices.new ≡ N.told notices.old ++ Notice.Parted place ∷ [] }
         ensures after { result ≡ texts.with_trouble self place Why.Anew }
@@ -165,7 +165,7 @@ impl Telling {
         self.troubled(place, Why::Anew)
     }
 
-    /// Tells that the desks vote for later places than this one, and answers what was told then.
+    /// Tells that the desks vote for later places than this one, and returns the new state.
     pub fn split<N: Notices>(self, place: u32, notices: &mut N) -> Telling
         ensures told { N.told notices.new ≡ N.told notices.old ++ Notice.Apart place ∷ [] }
         ensures after { result ≡ texts.with_trouble self place Why.Apart }
@@ -174,7 +174,7 @@ impl Telling {
         self.troubled(place, Why::Apart)
     }
 
-    /// What was told after that answer.
+    /// Returns the state after that answer.
     pub fn after(self, answer: Result<What, BoardRefusal>) -> Telling
         ensures { result ≡ texts.telling_after self answer }
     {

@@ -1,4 +1,4 @@
-//! What is told of a plan.
+//! What the scorer is told of a plan.
 
 ghost use Rattle.std.specs.Prelude.{◌++◌, codes, All, OnOk};
 ghost use Rattle.notation.specs.Written.{IsEntry, IsPlain, text_of};
@@ -16,7 +16,7 @@ use notation::{Entry, line_of};
 use plans::{Plan, Planned};
 use streams::{Sink, Watched, WriteFailed};
 
-/// Prints the line of an entry.
+/// Prints an entry's line.
 fn print_row<W: Sink>(out: &mut Watched<W>, entry: &Entry) -> Result<(), WriteFailed>
     requires { IsEntry entry.now }
     ensures text { OnOk result (Prints W.contents out.old out.new (text_of entry.now ++ codes "\n")) }
@@ -27,7 +27,7 @@ fn print_row<W: Sink>(out: &mut Watched<W>, entry: &Entry) -> Result<(), WriteFa
     writeln!(out, "{words}")
 }
 
-/// Prints the lines of entries, each in a row.
+/// Prints the lines of entries, one per row.
 fn print_rows<W: Sink>(out: &mut Watched<W>, entries: &[Entry]) -> Result<(), WriteFailed>
     requires { All IsEntry entries.now }
     ensures text { OnOk result (Prints W.contents out.old out.new (planning.rows entries.now)) }
@@ -40,7 +40,7 @@ fn print_rows<W: Sink>(out: &mut Watched<W>, entries: &[Entry]) -> Result<(), Wr
     print_rows(out, more)
 }
 
-/// Prints how many lines they are, of more than a desk holds.
+/// Prints how many lines a plan has, if it has more than the 24 that a desk holds.
 fn print_many<W: Sink>(out: &mut Watched<W>, count: usize) -> Result<(), WriteFailed>
     ensures text { OnOk result (Prints W.contents out.old out.new (planning.many_text count)) }
     ensures failed { TellsFailure result out.old out.new }
@@ -73,7 +73,7 @@ fn print_words<W: Sink>(out: &mut Watched<W>, words: &str) -> Result<(), WriteFa
     write!(out, "{words}")
 }
 
-/// Prints that this names no entry of its kind.
+/// Prints that this entry corrects or follows no entry of the book.
 fn print_unnamed<W: Sink>(out: &mut Watched<W>, entry: &Entry) -> Result<(), WriteFailed>
     requires { IsEntry entry.now }
     ensures text { OnOk result (Prints W.contents out.old out.new
@@ -87,7 +87,7 @@ fn print_unnamed<W: Sink>(out: &mut Watched<W>, entry: &Entry) -> Result<(), Wri
     print_row(out, entry)
 }
 
-/// Prints what the Laws refuse with all that is wanted, and why.
+/// Prints the entry that the Laws refuse once everything wanted is in, and why.
 fn print_against<W: Sink>(
     out: &mut Watched<W>,
     placed: &Placed,
@@ -119,7 +119,7 @@ fn print_plan<W: Sink>(out: &mut Watched<W>, plan: &Plan) -> Result<(), WriteFai
     }
 }
 
-/// Prints what is answered to a line that begins with `plan`.
+/// Prints the answer to a line that begins with `plan`.
 pub fn print_planned<B: BookOf, W: Sink>(
     out: &mut Watched<W>,
     sheet: &MatchSheet,

@@ -1,4 +1,4 @@
-//! What a scorer is told of a line that isn't clear or has a fault.
+//! What a scorer is told of a line that is unclear or has a fault.
 
 ghost use Rattle.std.specs.Prelude.{◌≡◌, ◌++◌, codes, true, filter, OnOk};
 ghost use Rattle.std.specs.List.{list_all};
@@ -25,7 +25,7 @@ fn print_fault<W: Sink>(out: &mut Watched<W>, fault: LineFault) -> Result<(), Wr
     writeln!(out, "fault {code} {fault}: {sentence}")
 }
 
-/// Prints those of these players who have a word that begins so.
+/// Prints those of the numbered players whose name has a word with this beginning.
 fn print_those<W: Sink>(
     out: &mut Watched<W>,
     sheet: &MatchSheet,
@@ -53,7 +53,7 @@ fn print_those<W: Sink>(
     print_those(out, sheet, side, beginning, more, false)
 }
 
-/// Prints all players of a side who have a word that begins so.
+/// Prints all players of a side whose name has a word with this beginning.
 fn print_all<W: Sink>(
     out: &mut Watched<W>,
     sheet: &MatchSheet,
@@ -68,7 +68,7 @@ fn print_all<W: Sink>(
     print_those(out, sheet, side, name, &numbers, true)
 }
 
-/// Prints whom of a side a name may mean.
+/// Prints which players of a side a name may mean.
 fn print_candidates<W: Sink>(
     out: &mut Watched<W>,
     sheet: &MatchSheet,
@@ -86,7 +86,7 @@ fn print_candidates<W: Sink>(
     writeln!(out)
 }
 
-/// Prints that no player has such a name.
+/// Prints that no player has this name.
 fn print_no_such<W: Sink>(out: &mut Watched<W>, name: &str) -> Result<(), WriteFailed>
     ensures text { OnOk result (Prints W.contents out.old out.new
         (codes "no such player: " ++ name.now ++ codes "\n")) }
@@ -95,7 +95,7 @@ fn print_no_such<W: Sink>(out: &mut Watched<W>, name: &str) -> Result<(), WriteF
     writeln!(out, "no such player: {name}")
 }
 
-/// Prints that the innings begun last has no such delivery.
+/// Prints that the latest innings has no such delivery.
 fn print_no_such_ball<W: Sink>(out: &mut Watched<W>, name: &str) -> Result<(), WriteFailed>
     ensures text { OnOk result (Prints W.contents out.old out.new
         (codes "no such ball: " ++ name.now ++ codes "\n")) }
@@ -115,7 +115,7 @@ fn print_meanings<W: Sink>(out: &mut Watched<W>, letter: Letter) -> Result<(), W
     }
 }
 
-/// Prints that no fielder has a part in this way of being out.
+/// Prints that this way of being out involves no fielder.
 fn print_no_fielder<W: Sink>(
     out: &mut Watched<W>,
     how: Unaided,
@@ -131,7 +131,7 @@ fn print_no_fielder<W: Sink>(
     }
 }
 
-/// Prints what isn't clear in a line.
+/// Prints what is unclear in a line.
 pub(crate) fn print_unclear<W: Sink>(
     out: &mut Watched<W>,
     sheet: &MatchSheet,

@@ -18,7 +18,7 @@ use notation::{Entry, Plain, line_of};
 use screen::refusal_sentence;
 use streams::{Sink, Watched, WriteFailed};
 
-/// Prints the number and the name of a refusal, and its sentence.
+/// Prints a refusal's number, name and sentence.
 fn print_explained<W: Sink>(out: &mut Watched<W>, why: Refusal) -> Result<(), WriteFailed>
     ensures text { OnOk result (Prints W.contents out.old out.new
         (explained (codes "refused") (number_of why) (name_of why) (of_desk why))) }
@@ -29,7 +29,7 @@ fn print_explained<W: Sink>(out: &mut Watched<W>, why: Refusal) -> Result<(), Wr
     writeln!(out, "refused {code} {why}: {sentence}")
 }
 
-/// Prints why an entry is refused. A failed disk isn't told here.
+/// Prints why an entry is refused. Nothing is printed here of a failed disk.
 pub(crate) fn print_refused<W: Sink>(out: &mut Watched<W>, why: Refusal) -> Result<(), WriteFailed>
     ensures text { OnOk result (Prints W.contents out.old out.new (texts.refused_text why)) }
     ensures failed { TellsFailure result out.old out.new }
@@ -44,7 +44,7 @@ pub(crate) fn print_refused<W: Sink>(out: &mut Watched<W>, why: Refusal) -> Resu
     }
 }
 
-/// Prints the place that a correction leaves refused, and the cause, by their numbers.
+/// Prints the place that a correction leaves refused, and the cause's number.
 fn print_later_numbers<W: Sink>(
     out: &mut Watched<W>,
     place: u32,
@@ -57,7 +57,7 @@ fn print_later_numbers<W: Sink>(
     write!(out, "refused 32 Later {place} {cause}")
 }
 
-/// Prints what would stand at the place, and why that is refused.
+/// Prints the entry that would stand at the place, and why it is refused.
 pub(crate) fn print_later_words<W: Sink>(
     out: &mut Watched<W>,
     place: u32,
@@ -74,7 +74,7 @@ pub(crate) fn print_later_words<W: Sink>(
     writeln!(out, ": place {place}, {words}:\n  {sentence}")
 }
 
-/// Prints the place that a correction leaves refused, with what would stand there, and why.
+/// Prints the place that a correction leaves refused, the entry that would stand there, and why it is refused.
 fn print_later<B: BookOf, W: Sink>(
     out: &mut Watched<W>,
     book: &B,
@@ -92,7 +92,7 @@ fn print_later<B: BookOf, W: Sink>(
     print_later_words(out, place, item, why)
 }
 
-/// Prints why an entry is refused; of a correction, the first place that it leaves refused, with what would stand there.
+/// Prints why an entry is refused; for a correction, the first place that it leaves refused, and what would stand there.
 pub(crate) fn print_refused_entry<B: BookOf, W: Sink>(
     out: &mut Watched<W>,
     book: &B,

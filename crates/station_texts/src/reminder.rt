@@ -1,6 +1,6 @@
-//! What a desk's scorer is told of the other desk without anything that is news.
+//! What a desk's scorer is told of the other desk when there is no news.
 
-/// What a desk's scorer is told of the other desk, by how long it is since something of it came.
+/// What a desk's scorer is told of the other desk, by the time since it was last heard.
 #[derive(Clone, Copy)]
 pub enum Reminder {
     /// The other has written its vote of this position.

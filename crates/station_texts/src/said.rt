@@ -1,4 +1,4 @@
-//! What a scorer's line comes to.
+//! What a scorer's typed line comes to.
 
 ghost use Rattle.std.specs.Prelude.{◌≡◌, ◌≢◌, ◌⊎◌, ◌++◌, List, ℕ, codes, Some, None, MatchOption, IfErr, IfOk, IfSome, true, false};
 ghost use Rattle.notation.specs.declared.entry.Entry.{Entry};
@@ -21,36 +21,36 @@ use shorthand::{Unclear, entry_in_full, marked_alone};
 use std::alloc::Global;
 use std::str;
 
-/// A text that makes a line behind `again `: with it, it isn't longer than a line is.
+/// A text that is short enough to make a line with `again ` before it.
 pub(crate) type BehindAgain = ArrayString<122>;
 
-/// What a scorer's line comes to.
+/// What a scorer's typed line comes to.
 #[derive(Drop)]
 pub enum Said {
     /// `quit` or `exit`: it ends the process.
     Quit,
     /// A word that asks to see something.
     Asks(Word),
-    /// `plan`, with what is answered.
+    /// `plan`, with its answer.
     Plan(Planned),
-    /// It means no entry: something isn't clear in it, or in full it has a fault.
+    /// The line means no entry: something in it is unclear, or the full line has a fault.
     Unclear(Unclear),
-    /// The two scorers differed at this place, and the line doesn't begin with `again `; with the line, if it can.
+    /// The scorers differed at this place, and the line doesn't begin with `again `. It is given if it fits behind `again `.
     SayAgain(Option<BehindAgain>),
-    /// The line begins with `again`, and they didn't differ.
+    /// The line begins with `again`, but the scorers didn't differ, or this one has nothing to say again.
     NoneDiffers,
-    /// They differed, the desk's vote of the new round is cast, and the line says an entry without `again `: it is
-    /// refused as one behind `again ` is.
+    /// The scorers differed, the desk's vote of the new round is cast, and the line says an entry without `again `: it is
+    /// refused just as it would be with `again `.
     Waiting,
     /// The desk refuses the entry.
     Refused(Entry, Refusal),
-    /// It says an entry, and the desk, which doubts its file, casts no vote.
+    /// The line says an entry, but the desk doubts its file and casts no vote.
     Withheld,
     /// The vote for the entry is cast.
     Penned(Entry, Settled),
 }
 
-/// What a line comes to that is this word.
+/// Returns what a line comes to that is this word.
 fn word_said<B: BookOf>(
     alloc: Global,
     line: &[u8],
@@ -68,7 +68,7 @@ fn word_said<B: BookOf>(
     }
 }
 
-/// What a line comes to that is one of the words that are no entry's.
+/// Returns what a line comes to if it is a word that means no entry; `None` for any other line.
 fn word<B: BookOf>(alloc: Global, line: &[u8], book: &B, sheet: &MatchSheet) -> Option<Said>
     ensures word { (votes : List Ballot) → (differs : _) → (is_cast : _)
         → IfSome result (ComesTo sheet.now (B.content book.now) votes differs is_cast line.now) }
@@ -83,7 +83,7 @@ fn word<B: BookOf>(alloc: Global, line: &[u8], book: &B, sheet: &MatchSheet) -> 
     }
 }
 
-/// What stands behind `again `, where a line begins so.
+/// Returns the text after `again `, if the line begins so.
 fn behind_again(line: &[u8]) -> Option<&[u8]>
     requires { line.now ≢ codes "again" }
     ensures { MatchOption result (IsNotAgain line.now) (λ text. line.now ≡ codes "again " ++ text.now) }
@@ -91,7 +91,7 @@ fn behind_again(line: &[u8]) -> Option<&[u8]>
     line.strip_prefix(b"again ")
 }
 
-/// A line as it is told behind `again `, if it may stand there.
+/// Returns the line as it can be shown behind `again `, if it is text and fits there.
 fn shown(line: &[u8]) -> Option<BehindAgain>
     ensures { IsTold line.now result }
 {
@@ -101,7 +101,7 @@ fn shown(line: &[u8]) -> Option<BehindAgain>
     }
 }
 
-/// What a line without `again ` comes to, where the two scorers differed.
+/// Returns what a line without `again ` comes to after the scorers differed.
 fn bare_said<B: BookOf>(line: &[u8], book: &B, sheet: &MatchSheet, is_cast: bool) -> Said
     requires word { IsNoWord line.now }
     requires bare { IsNotAgain line.now }
@@ -116,8 +116,8 @@ fn bare_said<B: BookOf>(line: &[u8], book: &B, sheet: &MatchSheet, is_cast: bool
     }
 }
 
-/// The text of an entry's line, in the first round of a place or in another one, in which the desk's vote is cast or
-/// not.
+/// Returns the text of an entry's line. `differs` holds in every round of a place but the first, `is_cast` once the desk has
+/// voted in the round.
 fn entry_text<'a, B: BookOf>(
     line: &'a [u8],
     book: &B,
@@ -148,7 +148,7 @@ fn entry_text<'a, B: BookOf>(
     }
 }
 
-/// What `again` alone comes to: once more what this scorer wrote last, where the two scorers differed.
+/// Returns what `again` alone comes to: the entry that this scorer wrote last, if the scorers differed.
 fn once_more(last: Option<Entry>, differs: bool) -> Result<Entry, Said>
     requires { IfSome last IsEntry }
     ensures said { IfOk result (λ entry. (differs ≡ true) × (last ≡ Some entry) × IsEntry entry) }
@@ -166,8 +166,7 @@ fn once_more(last: Option<Entry>, differs: bool) -> Result<Entry, Said>
     }
 }
 
-/// The entry of a line that is one mark, in the first round of a place: the one that it means in full. No such line is one
-/// of the words.
+/// Returns the entry that a line of one mark means in full, in the first round of a place. No such line is one of the words.
 fn marked<B: BookOf>(line: &[u8], book: &B, differs: bool) -> Option<Entry>
     ensures { (s : Sheet) → (votes : List Ballot) → IfSome result (LineMeans s (B.content book.now) votes differs line.now) }
 {
@@ -177,8 +176,8 @@ fn marked<B: BookOf>(line: &[u8], book: &B, differs: bool) -> Option<Entry>
     marked_alone(line, book)
 }
 
-/// The entry that a line says, put in full by the sheet and the book, or once more what this scorer wrote last; in the
-/// first round of a place or in another one, in which the desk's vote is cast or not.
+/// Returns the entry that a line says, put in full by the sheet and the book, or for `again` alone what this scorer wrote last.
+/// `differs` holds in every round of a place but the first, `is_cast` once the desk has voted in the round.
 pub fn entry_said<B: BookOf>(
     alloc: Global,
     line: &[u8],

@@ -30,7 +30,7 @@ use screen::{
 };
 use streams::{Sink, Watched, WriteFailed};
 
-/// Prints a place, and what is told of it.
+/// Prints a place, and words about it.
 pub(crate) fn print_at<W: Sink>(
     out: &mut Watched<W>,
     place: u32,
@@ -42,14 +42,14 @@ pub(crate) fn print_at<W: Sink>(
     writeln!(out, "{place} {words}")
 }
 
-/// Whether the umpire calls over.
+/// Whether the entry is the umpire's call of over.
 fn is_over(entry: &Entry) -> bool
     ensures { result ≡ texts.is_over entry.now }
 {
     matches!(entry, Entry::Write(Plain::Over))
 }
 
-/// Prints how many overs were called in the innings begun last.
+/// Prints how many overs were called in the latest innings.
 fn print_called<W: Sink>(out: &mut Watched<W>, score: &Match) -> Result<(), WriteFailed>
     ensures text { ForEachHistory score.now (λ n h.
         OnOk result (Prints W.contents out.old out.new (texts.over_called h))) }
@@ -75,8 +75,8 @@ fn print_line<W: Sink>(out: &mut Watched<W>, place: u32, entry: &Entry) -> Resul
     write!(out, "{place} agreed: {words}")
 }
 
-/// Prints that an over is agreed at this place, how many of its deliveries count where they aren't six, the result of a
-/// match that is decided, and the check of the over.
+/// Prints that an over is agreed at this place, how many of its deliveries count if not six, the result if the match is
+/// decided, and the check of the over.
 fn print_over<B: BookOf, W: Sink>(
     out: &mut Watched<W>,
     sheet: &MatchSheet,
@@ -98,7 +98,7 @@ fn print_over<B: BookOf, W: Sink>(
     print_check(out, sheet, book)
 }
 
-/// Prints that an entry but `over` is agreed at this place, and how the match stands.
+/// Prints that an entry other than `over` is agreed at this place, and how the match stands.
 fn print_play<B: BookOf, W: Sink>(
     out: &mut Watched<W>,
     sheet: &MatchSheet,
@@ -116,7 +116,7 @@ fn print_play<B: BookOf, W: Sink>(
     print_row(out, sheet, book)
 }
 
-/// Prints that an entry is agreed at this place, and what it brought.
+/// Prints that an entry is agreed at this place, and what it changed.
 fn print_entry<B: BookOf, W: Sink>(
     out: &mut Watched<W>,
     sheet: &MatchSheet,
@@ -136,7 +136,7 @@ fn print_entry<B: BookOf, W: Sink>(
     }
 }
 
-/// The entry at a place of a book, if it has one there.
+/// Returns the entry at a place of a book, if there is one.
 #[tactic(auto, using(std::proofs::lemmas::Option::slice_get_past))]
 fn entry_at<B: BookOf>(book: &B, place: u32) -> Option<Entry>
     ensures value { result ≡ slice_get (B.content book.now) place }
@@ -149,7 +149,7 @@ fn entry_at<B: BookOf>(book: &B, place: u32) -> Option<Entry>
     }
 }
 
-/// Prints that a place is agreed, where the book has its entry, and what it brought.
+/// Prints that the entry at a place is agreed and what it changed, if the book has one there.
 fn print_agreed_at<B: BookOf, W: Sink>(
     out: &mut Watched<W>,
     sheet: &MatchSheet,
@@ -182,7 +182,7 @@ pub(crate) fn print_agreed<B: BookOf, W: Sink>(
     print_last_changes(out, sheet, book)
 }
 
-/// Prints that the entry was penned at this place, in full.
+/// Prints the full line of the entry that is pending at this place.
 fn print_pending<W: Sink>(
     out: &mut Watched<W>,
     place: u32,
@@ -197,7 +197,7 @@ fn print_pending<W: Sink>(
     writeln!(out, "{place} pending: {words}")
 }
 
-/// Prints that the two scorers differ at a place, with the entry of each where it is known.
+/// Prints that the scorers differ at a place, with both entries if they are known.
 pub(crate) fn print_differs<W: Sink>(out: &mut Watched<W>, both: Both) -> Result<(), WriteFailed>
     requires own { IfSome both.own IsEntry }
     requires other { IfSome both.other IsEntry }
@@ -218,8 +218,7 @@ pub(crate) fn print_differs<W: Sink>(out: &mut Watched<W>, both: Both) -> Result
     }
 }
 
-/// Prints what became of a vote for the entry that was cast at this position, where this is the other scorer's that was
-/// noted before.
+/// Prints the outcome of the vote for this entry at this position; `other` is the other scorer's vote, if it was noted before.
 fn print_settled<B: BookOf, W: Sink>(
     out: &mut Watched<W>,
     sheet: &MatchSheet,
@@ -245,7 +244,7 @@ fn print_settled<B: BookOf, W: Sink>(
     }
 }
 
-/// Why no vote can be cast at a position, if none can.
+/// Returns why no vote can be cast at a position, if none can.
 pub(crate) fn why_full(at: Position) -> Option<Refusal>
     ensures { result ≡ texts.why_full at }
 {
@@ -258,7 +257,7 @@ pub(crate) fn why_full(at: Position) -> Option<Refusal>
     }
 }
 
-/// Prints where a desk stands whose vote of this position isn't cast.
+/// Prints the state of a desk that hasn't voted at this position.
 fn print_open<W: Sink>(out: &mut Watched<W>, at: Position) -> Result<(), WriteFailed>
     ensures text { OnOk result (Prints W.contents out.old out.new (texts.open_text at (texts.why_full at))) }
     ensures failed { TellsFailure result out.old out.new }
@@ -275,7 +274,7 @@ fn print_open<W: Sink>(out: &mut Watched<W>, at: Position) -> Result<(), WriteFa
     }
 }
 
-/// Prints where a desk stands: at this position, with its own vote there or none.
+/// Prints the state of a desk at this position, with its own vote there if it is cast.
 fn print_place<W: Sink>(
     out: &mut Watched<W>,
     at: Position,
@@ -291,7 +290,7 @@ fn print_place<W: Sink>(
     }
 }
 
-/// Prints how the match stands, and where the desk does.
+/// Prints how the match stands, and where the desk stands.
 pub fn print_greeting<B: BookOf, W: Sink>(
     out: &mut Watched<W>,
     sheet: &MatchSheet,
@@ -308,7 +307,7 @@ pub fn print_greeting<B: BookOf, W: Sink>(
     print_place(out, at, own)
 }
 
-/// Prints that the other scorer has written, where this one is waited for.
+/// Prints that the other scorer has written, if this one is waited for.
 fn print_other<W: Sink>(
     out: &mut Watched<W>,
     place: u32,
@@ -324,7 +323,7 @@ fn print_other<W: Sink>(
     }
 }
 
-/// Prints that the other desk isn't heard, where that was told and it wasn't heard since.
+/// Prints that the other desk isn't heard, if that was told and still holds.
 fn print_silence<W: Sink>(out: &mut Watched<W>, is_silent: bool) -> Result<(), WriteFailed>
     ensures text { OnOk result (Prints W.contents out.old out.new (texts.silence_text is_silent)) }
     ensures failed { TellsFailure result out.old out.new }
@@ -336,7 +335,7 @@ fn print_silence<W: Sink>(out: &mut Watched<W>, is_silent: bool) -> Result<(), W
     }
 }
 
-/// Prints that a desk that doubts its file writes nothing.
+/// Prints that the entry isn't written, since the desk doubts its file.
 fn print_withheld<W: Sink>(out: &mut Watched<W>, place: u32) -> Result<(), WriteFailed>
     ensures text { OnOk result (Prints W.contents out.old out.new (texts.withheld place)) }
     ensures failed { TellsFailure result out.old out.new }
@@ -348,7 +347,7 @@ fn print_withheld<W: Sink>(out: &mut Watched<W>, place: u32) -> Result<(), Write
     )
 }
 
-/// Whether the other scorer has written, and the desk's own hasn't.
+/// Whether the other scorer has voted and the desk's own scorer hasn't.
 fn is_waited_for(own: Option<Entry>, other: Option<Entry>) -> bool
     ensures { result ≡ texts.is_waited_for own other }
 {
@@ -359,7 +358,7 @@ fn is_waited_for(own: Option<Entry>, other: Option<Entry>) -> bool
     }
 }
 
-/// Prints how the match stands, where the desk does, and what is known of the other desk.
+/// Prints how the match stands, where the desk stands, and what is known of the other desk.
 fn print_standing<B: BookOf, W: Sink>(
     out: &mut Watched<W>,
     sheet: &MatchSheet,
@@ -381,7 +380,7 @@ fn print_standing<B: BookOf, W: Sink>(
     print_doubted(out, warned.doubt)
 }
 
-/// Prints what a word asks to see; of `plan` nothing.
+/// Prints what a word asks to see; nothing for `plan`, which is answered elsewhere.
 fn print_asked<B: BookOf, W: Sink>(
     out: &mut Watched<W>,
     sheet: &MatchSheet,
@@ -423,7 +422,7 @@ fn print_asked<B: BookOf, W: Sink>(
     }
 }
 
-/// Prints what a line came to, where the desk had both votes of its position before, and the scorer was told this of a peer.
+/// Prints what a line came to. `both` has the votes before the line, `warned` what was told of a peer.
 fn print_answer<B: BookOf, W: Sink>(
     out: &mut Watched<W>,
     sheet: &MatchSheet,
@@ -455,8 +454,7 @@ fn print_answer<B: BookOf, W: Sink>(
     }
 }
 
-/// Tells the scorer at once what a line came to, where the desk had both votes of its position before, and the scorer was told
-/// this of a peer.
+/// Tells the scorer at once what a line came to. `both` has the votes before the line, `warned` what was told of a peer.
 pub fn print_said<B: BookOf, W: Sink>(
     out: &mut Watched<W>,
     sheet: &MatchSheet,

@@ -1,4 +1,4 @@
-//! What a desk's scorer was told of a peer.
+//! What a desk's scorer has been told of a peer.
 
 ghost use Rattle.std.specs.Prelude.{◌≡◌};
 ghost use Rattle.station_texts.specs.Texts as texts;
@@ -10,29 +10,29 @@ use agree_core::Heard;
 use screen::Word;
 use wire::What;
 
-/// What a desk's scorer was told of a peer since a vote that is news came. Anyone's asks are as any desk's, and a desk
-/// that waits repeats its vote twice a second, so that only a vote that is news is a sign that all is right. That the other
-/// desk isn't heard stands until it is heard, and what the desk doubts until that is clear.
+/// What a desk's scorer was told of a peer since the last vote that was news. Only such a vote is a sign that all is right:
+/// anyone's ask looks like a desk's, and a waiting desk repeats its vote twice a second. The silence of the other desk stands
+/// until it is heard, the desk's own doubt until it is cleared.
 #[derive(Clone, Copy, Debug)]
 pub struct Warned {
-    /// That bytes came that are no message of the match.
+    /// A datagram came that is no message of the match.
     pub of_bytes: bool,
-    /// That bytes came that don't open.
+    /// A datagram came that doesn't open.
     pub of_seal: bool,
-    /// That two votes of the other desk came for one position.
+    /// Two votes of the other desk came for one position.
     pub of_votes: bool,
-    /// That the other desk's file lacks lines.
+    /// The other desk's file lacks lines.
     pub of_lines: bool,
-    /// That the other has written its vote of this position.
+    /// The other desk has written its vote of this position.
     pub of_writing: bool,
-    /// That the other desk isn't heard, and not yet that it is again.
+    /// The other desk isn't heard, and it wasn't told yet that it is heard again.
     pub of_silence: bool,
-    /// Whether this desk's file lacks lines.
+    /// Whether this desk doubts that its file has all its lines.
     pub doubt: Doubt,
 }
 
 impl Warned {
-    /// Nothing was told.
+    /// The state in which nothing was told.
     pub const NOTHING: Warned = Warned {
         of_bytes: false,
         of_seal: false,
@@ -43,7 +43,7 @@ impl Warned {
         doubt: Doubt::No,
     };
 
-    /// What was told once bytes came that don't open.
+    /// Returns the state after a datagram that doesn't open.
     pub fn after_unopened(self) -> Warned
         ensures { result ≡ texts.warned_unopened self }
     {
@@ -53,7 +53,7 @@ impl Warned {
         }
     }
 
-    /// What was told once a message has shown this.
+    /// Returns the state after a message has shown this evidence.
     fn shown(self, evidence: Evidence) -> Warned
         ensures { result ≡ texts.warned_shown self evidence }
     {
@@ -64,7 +64,7 @@ impl Warned {
         }
     }
 
-    /// What was told after the answer to bytes that came, which show this of both desks' files.
+    /// Returns the state after the answer to a datagram, which shows this evidence of both desks' files.
     pub fn after(self, evidence: Evidence, what: What) -> Warned
         ensures { result ≡ texts.warned_after self evidence what }
     {
@@ -89,7 +89,7 @@ impl Warned {
         }
     }
 
-    /// What was told once a line came to this.
+    /// Returns the state after a line came to this.
     pub fn after_said(self, said: &Said) -> Warned
         ensures { result ≡ texts.warned_said self said.now }
     {
@@ -102,7 +102,7 @@ impl Warned {
         }
     }
 
-    /// What was told after this.
+    /// Returns the state after this reminder.
     pub fn after_reminder(self, reminder: Reminder) -> Warned
         ensures { result ≡ texts.warned_reminded self reminder }
     {

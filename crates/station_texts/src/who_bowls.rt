@@ -1,4 +1,4 @@
-//! What isn't clear in a line, and who may bowl where it doesn't say who does.
+//! What is unclear in a line, and who may bowl if the line doesn't name the bowler.
 
 ghost use Rattle.std.specs.Prelude.{◌++◌, OnOk};
 ghost use Rattle.corrections.specs.CleanList.{history_of};
@@ -12,7 +12,7 @@ use score_rows::print_bowlers;
 use shorthand::Unclear;
 use streams::{Sink, Watched, WriteFailed};
 
-/// Prints who may bowl, where the sheet limits the overs of a bowler.
+/// Prints who may bowl, if the sheet limits a bowler's overs.
 fn print_limited_bowlers<B: BookOf, W: Sink>(
     out: &mut Watched<W>,
     sheet: &MatchSheet,
@@ -29,7 +29,7 @@ fn print_limited_bowlers<B: BookOf, W: Sink>(
     }
 }
 
-/// The same, where a line doesn't say who bowls.
+/// Prints who may bowl, if the line doesn't name the bowler and the sheet limits a bowler's overs.
 fn print_who_may<B: BookOf, W: Sink>(
     out: &mut Watched<W>,
     sheet: &MatchSheet,
@@ -53,7 +53,7 @@ fn print_who_may<B: BookOf, W: Sink>(
     }
 }
 
-/// Prints what isn't clear in a line, and behind it who may bowl, where that isn't and overs are limited.
+/// Prints what is unclear in a line; if that is the bowler and overs are limited, also who may bowl.
 pub(crate) fn print_question<B: BookOf, W: Sink>(
     out: &mut Watched<W>,
     sheet: &MatchSheet,

@@ -1,4 +1,4 @@
--- What comes of one more key or piece of rows, and what holds of all.
+-- The outcome of one more key or piece of rows, and what holds of all.
 use Rattle.std.proofs.Common.{◌≡◌, ◌++◌, ◌&&◌, ◌||◌, ℕ, Bool, true, false, List, [], ◌∷◌, refl, sym, ap, ◌∙◌, append-nil, append_assoc}
 use Rattle.std.specs.Prelude.{not, if◌then◌else◌}
 use Rattle.typing.specs.Courses.{Heard, Pressed, Rows, Piece, Own, Told, bytes_of, handed_by, handed_from, is_nothing, is_unbroken, keys_in, next, pieces_by, pieces_from, rows_in, standing_behind, told_in}
@@ -36,7 +36,7 @@ told_is_heard s [] = refl
 told_is_heard s (Pressed b ∷ xs) = told_is_heard (pressed s b) xs
 told_is_heard s (Rows bs ∷ xs) = ap (λ u. bs ++ u) (told_is_heard (told s bs) xs)
 
--- where a row is there in part, nothing is
+-- nothing of the terminal's own is written within a row
 own_is_nothing : (is_within : Bool) (bs : List ℕ) → (not is_within || is_nothing (if is_within then [] else bs)) ≡ true
 own_is_nothing true bs = refl
 own_is_nothing false bs = refl
@@ -61,7 +61,7 @@ not_false : (a : Bool) → not a ≡ false → a ≡ true
 not_false true e = refl
 not_false false e = absurd (cc)
 
--- the line is drawn last
+-- the line being typed is drawn last
 pub drawn_last : (s : Standing) (x : Heard) → (next s x).is_within ≡ false → (above : List ℕ) × (bytes_of (pieces_by s x) ≡ above ++ line_drawn (next s x))
 drawn_last s (Pressed b) e =
     (entered_drawn (handed s b), append-nil _ ∙ ap (λ (w : Bool). if w then [] else entered_drawn (handed s b) ++ line_drawn (pressed s b)) e)
@@ -72,7 +72,7 @@ drawn_last s (Rows bs) e =
           ∙ (ap (λ u. away ++ (bs ++ u)) (append-nil _) ∙ sym (append_assoc away bs _)),
     )
 
--- so it is behind all that was heard
+-- the line being typed is also drawn last after all that was heard
 pub drawn_behind : (s : Standing) (xs : List Heard) (x : Heard) → (next (standing_behind s xs) x).is_within ≡ false →
     (above : List ℕ) × (bytes_of (pieces_from s (xs ++ x ∷ [])) ≡ above ++ line_drawn (standing_behind s (xs ++ x ∷ [])))
 drawn_behind s xs x e =
@@ -83,7 +83,7 @@ drawn_behind s xs x e =
           ∙ ap (λ t. (bytes_of (pieces_from s xs) ++ last.0) ++ line_drawn t) (sym (standing_more s xs x)))),
     )
 
--- two that differ in what the desk tells alone
+-- two terminals that differ only in what the desk told them hand it the same
 pub handed_alike : (s t : Standing) (xs : List Heard) → s.draft ≡ t.draft → s.reading ≡ t.reading → handed_from s xs ≡ handed_from t (keys_in xs)
 handed_alike s t [] d r = refl
 handed_alike s t (Pressed b ∷ xs) d r =

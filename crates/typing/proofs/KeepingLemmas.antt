@@ -6,7 +6,7 @@ use Rattle.typing.specs.Courses.{Heard, bytes_of, handed_by, handed_from, next, 
 use Rattle.typing.specs.Terminals.{Standing}
 use Rattle.typing.proofs.CourseLemmas.{bytes_more, handed_more, standing_more}
 
--- how a terminal stands that began so, whether all was handed, and what the desk and the screen had and have
+-- the terminal that began so, whether all was handed, and the desk's and the screen's bytes before and after
 pub record IsKept (begun : Standing) (heard : List Heard) (s : Standing) (is_handed : Bool)
     (lines lines' screen screen' : Option (List ℕ)) : Type 0 where
   pub standing : s ≡ standing_behind begun heard

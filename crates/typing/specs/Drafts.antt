@@ -1,4 +1,4 @@
--- A line that is being typed, and what each key does to it.
+-- The line being typed, and what each key does to it.
 use Rattle.std.specs.Prelude.{◌+◌, ◌-◌, ◌==◌, ◌&&◌, ℕ, Bool, true, nat_lt, not, min, if◌then◌else◌, List, [], ◌∷◌, ◌++◌, length, take, drop, insert, remove, slice_index_or, Option, Some, None, codes}
 use Rattle.arrayvec.specs.ArrayVec.{ArrayVec}
 use Rattle.typing.specs.declared.key.Key.{Key}
@@ -9,8 +9,8 @@ use Rattle.typing.specs.declared.editor.TheConstants.{LINE_ROOM, MOST_LINES}
 abbrev pub bytes : ArrayVec ℕ → List ℕ
 bytes line = line.items
 
--- a line, where the cursor stands in it, the lines entered before, the oldest first, how many lines back the one is that is
--- shown, and the line that is being typed meanwhile
+-- the shown line, the cursor's place in it, the lines entered before, the oldest first, how many lines back the shown line is,
+-- and the line being typed, kept aside meanwhile
 pub record Draft : Type 0 where
   pub text : List ℕ
   pub cursor : ℕ
@@ -18,7 +18,7 @@ pub record Draft : Type 0 where
   pub back : ℕ
   pub aside : List ℕ
 
--- an empty line, and none before it
+-- an empty line, and no earlier lines
 abbrev pub blank : Draft
 blank = record { text = []; cursor = 0; earlier = []; back = 0; aside = [] }
 
@@ -35,7 +35,7 @@ erased d =
 abbrev pub deleted : Draft → Draft
 deleted d = if nat_lt d.cursor (length d.text) then record d { text = remove d.text d.cursor } else d
 
--- where the last word begins of bytes of which so many are passed: the last byte that is no blank behind one that is, or in front
+-- where the last word begins, after `passed` bytes are read: at the last byte that isn't blank and follows a blank or nothing
 abbrev pub last_start : ℕ → ℕ → Bool → List ℕ → ℕ
 last_start start passed is_behind_blank [] = start
 last_start start passed is_behind_blank (b ∷ bs) =
@@ -44,7 +44,7 @@ last_start start passed is_behind_blank (b ∷ bs) =
 abbrev pub word_start : List ℕ → ℕ
 word_start text = last_start 0 0 true text
 
--- the word before the cursor is gone, with the blanks behind it
+-- the word before the cursor is removed, with the blanks after it
 abbrev pub without_word : Draft → Draft
 without_word d =
     record d { text = take (word_start (take d.cursor d.text)) d.text ++ drop d.cursor d.text; cursor = word_start (take d.cursor d.text) }
@@ -53,7 +53,7 @@ without_word d =
 abbrev pub with_text : List ℕ → Draft → Draft
 with_text text d = record d { text = text; cursor = length text }
 
--- the line so many lines back is shown
+-- the line this many lines back is shown
 abbrev pub shown_back : ℕ → Draft → Draft
 shown_back back d =
     with_text (if back == 0 then d.aside else slice_index_or d.earlier (length d.earlier - back) []) (record d { back = back })
@@ -66,7 +66,7 @@ earlier_shown d =
 abbrev pub later_shown : Draft → Draft
 later_shown d = if d.back == 0 then d else shown_back (d.back - 1) d
 
--- the lines entered so far, and this one: an empty one isn't kept, and of more than a hundred the oldest is let go
+-- the entered lines, with this one: an empty one isn't kept, and beyond a hundred the oldest is dropped
 abbrev pub kept : List (List ℕ) → List ℕ → List (List ℕ)
 kept earlier [] = earlier
 kept earlier (b ∷ bs) = (if length earlier == MOST_LINES then drop 1 earlier else earlier) ++ (b ∷ bs) ∷ []
@@ -75,7 +75,7 @@ kept earlier (b ∷ bs) = (if length earlier == MOST_LINES then drop 1 earlier e
 abbrev pub next_line : Draft → Draft
 next_line d = record { text = []; cursor = 0; earlier = kept d.earlier d.text; back = 0; aside = [] }
 
--- what a key makes of it
+-- the draft after a key
 abbrev pub after : Draft → Key → Draft
 after d (Sign b) = inserted b d
 after d Erase = erased d
@@ -91,7 +91,7 @@ after d Later = later_shown d
 after d Enter = next_line d
 after d Stop = d
 
--- the line that a key enters, if it does: Ctrl-D enters `quit` where nothing is typed
+-- the line that a key enters, if any: Ctrl-D enters `quit` if nothing is typed
 abbrev pub entered : Draft → Key → Option (List ℕ)
 entered d Enter = Some d.text
 entered d Stop = if length d.text == 0 then Some (codes "quit") else None

@@ -1,10 +1,10 @@
--- The keys of a terminal's bytes.
+-- The keys in a terminal's bytes.
 use Rattle.std.specs.Prelude.{◌==◌, ◌&&◌, ◌||◌, ℕ, nat_lt, nat_le, if◌then◌else◌, Option, Some, None}
 use Rattle.typing.specs.declared.{key.Key.Key, reading.Reading.Reading}
 use Rattle.typing.specs.declared.key.Key.TheVariants.{Sign, Erase, Delete, EraseWord, EraseLine, Front, End, Left, Right, Earlier, Later, Enter, Stop}
 use Rattle.typing.specs.declared.reading.Reading.TheVariants.{Begun, Escape, Opened, Three, Unknown}
 
--- Ctrl-A, Ctrl-D, Ctrl-E, Ctrl-H, the ends of a line, Ctrl-U and Ctrl-W
+-- Ctrl-A, Ctrl-D, Ctrl-E, Ctrl-H, Enter (line feed or carriage return), Ctrl-U and Ctrl-W
 abbrev pub control : ℕ → Option Key
 control b =
     if b == 1 then Some Front
@@ -16,7 +16,7 @@ control b =
     else if b == 23 then Some EraseWord
     else None
 
--- the arrows, Home and End: the letter behind `ESC [` or `ESC O`
+-- the arrows, Home and End: the letter after `ESC [` or `ESC O`
 abbrev pub arrow : ℕ → Option Key
 arrow b =
     if b == 65 then Some Earlier
@@ -27,14 +27,14 @@ arrow b =
     else if b == 70 then Some End
     else None
 
--- a byte by itself, not below 32: a sign or Backspace
+-- a byte of 32 or more by itself: a character or Backspace
 abbrev pub alone : ℕ → Option Key
 alone b =
     if b == 127 then Some Erase
     else if nat_lt b 128 then Some (Sign b)
     else None
 
--- the key of a byte that isn't below 32, by what was read before
+-- the key of a byte of 32 or more, by what was read before
 abbrev pub key_behind : Reading → ℕ → Option Key
 key_behind Begun b = alone b
 key_behind Escape b = None
@@ -42,15 +42,15 @@ key_behind Opened b = arrow b
 key_behind Three b = if b == 126 then Some Delete else None
 key_behind Unknown b = None
 
--- the key that a byte ends, if it is one
+-- the key that a byte completes, if any
 abbrev pub key_of : Reading → ℕ → Option Key
 key_of reading b = if nat_lt b 32 then control b else key_behind reading b
 
--- a sequence that no key is known of goes on with a figure or a sign, and ends with any other byte
+-- a sequence of no known key continues with a digit or a punctuation character (32 to 63), and ends with any other byte
 abbrev pub unknown_behind : ℕ → Reading
 unknown_behind b = if nat_le 32 b && nat_lt b 64 then Unknown else Begun
 
--- what is read behind a byte that isn't Escape
+-- the reading after a byte other than Escape
 abbrev pub read_behind : Reading → ℕ → Reading
 read_behind Begun b = Begun
 read_behind Escape b = if b == 91 || b == 79 then Opened else Begun
@@ -58,6 +58,6 @@ read_behind Opened b = if b == 51 then Three else unknown_behind b
 read_behind Three b = unknown_behind b
 read_behind Unknown b = unknown_behind b
 
--- what is read behind a byte
+-- the reading after a byte
 abbrev pub reading_behind : Reading → ℕ → Reading
 reading_behind reading b = if b == 27 then Escape else read_behind reading b

@@ -1,4 +1,4 @@
--- What is claimed: Keys, what a terminal's bytes are; Drafts, what each key does to the line; Terminals, what one byte or one
+-- The claims: Keys, the keys in a terminal's bytes; Drafts, what each key does to the line; Terminals, what one byte or one
 -- piece of the desk's rows does; Courses, what all of them do; Logs, what was heard.
 pub mod Courses
 pub mod Drafts

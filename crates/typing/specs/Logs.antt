@@ -1,4 +1,4 @@
--- What a log of what was heard tells.
+-- The keys and rows in a log of what was heard.
 use Rattle.std.specs.Prelude.{List, [], ◌∷◌, ◌++◌, take}
 use Rattle.typing.specs.declared.heard.HeardLog.{HeardLog}
 use Rattle.typing.specs.declared.heard.HeardLog as logs

@@ -1,4 +1,4 @@
-//! A line that is being typed, and the lines that were entered before.
+//! The line being typed, and the lines entered before.
 
 ghost use Rattle.std.specs.Prelude.{◌≡◌, ◌≤◌, length};
 ghost use Rattle.typing.specs.Drafts as drafts;
@@ -7,24 +7,24 @@ use crate::key::Key;
 use arrayvec::ArrayVec;
 use std::marker::Model;
 
-/// How many bytes a line has at most. A desk takes as many of one, so it sees that a longer one is too long.
+/// The most bytes of a line. A desk's buffer for a line has as many, so the desk notices a line that is too long.
 pub const LINE_ROOM: usize = 128;
 
-/// How many lines that were entered are kept.
+/// The most entered lines that are kept.
 pub const MOST_LINES: usize = 100;
 
-/// A line.
+/// The bytes of a line.
 pub type Line = ArrayVec<u8, 128>;
 
-/// A line that is being typed, with the cursor in it, and the lines that were entered before. One of these may be shown in its
-/// place; then it is kept aside.
+/// The line being typed, with its cursor, and the lines entered before. While an earlier line is shown in its place, the line
+/// being typed is kept in `aside`.
 #[derive(Drop)]
 pub struct Editor {
     text: Line,
     cursor: usize,
-    /// The oldest first.
+    /// The lines entered before, the oldest first.
     earlier: ArrayVec<Line, 100>,
-    /// How many lines back the one is that is shown.
+    /// How many lines back the shown line is; 0 for the line being typed.
     back: usize,
     aside: Line,
 }
@@ -46,7 +46,7 @@ impl Model for Editor {
     ghost invariant = { λ e. (e.cursor ≤ length e.text.items) × (e.back ≤ length e.earlier.items) };
 }
 
-/// The same line.
+/// Returns a copy of a line.
 fn copied(line: &[u8]) -> Line
     requires { length line.now ≤ 128 }
     ensures { result.items ≡ line.now }
@@ -56,7 +56,7 @@ fn copied(line: &[u8]) -> Line
     same
 }
 
-/// Where the last word of a text begins; at its front where it has none.
+/// Returns where the last word of a text begins; 0 if it has no word.
 fn word_start(text: &[u8]) -> usize
     ensures bound { result ≤ length text.now }
     ensures start { result ≡ drafts.word_start text.now }
@@ -77,7 +77,7 @@ impl Editor {
     ghost use Rattle.std.specs.Prelude.{◌≡◌, ◌≤◌, length};
     ghost use Rattle.typing.specs.Drafts as drafts;
 
-    /// An empty line, and none before it.
+    /// Returns an editor with an empty line, and no earlier lines.
     pub fn new() -> Editor
         ensures { result ≡ drafts.blank }
     {
@@ -90,7 +90,7 @@ impl Editor {
         }
     }
 
-    /// The line.
+    /// Returns the shown line.
     pub fn text(&self) -> &[u8]
         ensures text { result.now ≡ self.now.text }
         ensures bound { length result.now ≤ 128 }
@@ -98,7 +98,7 @@ impl Editor {
         self.text.as_slice()
     }
 
-    /// Where the cursor stands in it.
+    /// Returns the cursor's place in the shown line.
     pub fn cursor(&self) -> usize
         ensures cursor { result ≡ self.now.cursor }
         ensures bound { result ≤ length self.now.text }
@@ -106,7 +106,7 @@ impl Editor {
         self.cursor
     }
 
-    /// Puts a sign in at the cursor, where there is room.
+    /// Inserts a character at the cursor, if there is room.
     fn insert(&mut self, sign: u8)
         ensures { self.new ≡ drafts.inserted sign self.old }
     {
@@ -116,7 +116,7 @@ impl Editor {
         }
     }
 
-    /// Takes out the sign before the cursor.
+    /// Removes the character before the cursor.
     fn erase(&mut self)
         ensures { self.new ≡ drafts.erased self.old }
     {
@@ -126,7 +126,7 @@ impl Editor {
         }
     }
 
-    /// Takes out the sign at the cursor.
+    /// Removes the character at the cursor.
     fn delete(&mut self)
         ensures { self.new ≡ drafts.deleted self.old }
     {
@@ -135,7 +135,7 @@ impl Editor {
         }
     }
 
-    /// Takes out the word before the cursor.
+    /// Removes the word before the cursor.
     fn erase_word(&mut self)
         ensures { self.new ≡ drafts.without_word self.old }
     {
@@ -154,7 +154,7 @@ impl Editor {
         self.text = text;
     }
 
-    /// Shows the line entered before, if there is one.
+    /// Shows the previous entered line, if there is one.
     fn go_back(&mut self)
         ensures { self.new ≡ drafts.earlier_shown self.old }
     {
@@ -169,7 +169,7 @@ impl Editor {
         self.put(line);
     }
 
-    /// Shows the line entered behind it, or the one that is being typed.
+    /// Shows the next entered line, or after the last one the line being typed.
     fn go_on(&mut self)
         ensures { self.new ≡ drafts.later_shown self.old }
     {
@@ -185,7 +185,7 @@ impl Editor {
         self.put(line);
     }
 
-    /// Keeps the line among those that were entered, unless it is empty, and begins the next.
+    /// Keeps the line among the entered lines, unless it is empty, and begins the next one.
     fn enter(&mut self)
         ensures { self.new ≡ drafts.next_line self.old }
     {
@@ -201,7 +201,7 @@ impl Editor {
         self.aside.clear();
     }
 
-    /// Does what a key does to the line.
+    /// Applies a key to the line.
     pub fn press(&mut self, key: Key)
         ensures { self.new ≡ drafts.after self.old key }
     {

@@ -1,12 +1,11 @@
-//! What is heard at a terminal, of its keys and of the desk.
+//! What a terminal receives: keys from the scorer and rows from the desk.
 
 ghost use Rattle.std.specs.Prelude.{◌≡◌, ◌∷◌, ◌++◌, List, [], take};
 ghost use Rattle.typing.specs.Courses.{Heard, IsHeard};
 
 use std::snapshot::Snapshot;
 
-/// What came: nothing yet, a byte that was typed, so many bytes of the desk's rows, that there are no more rows, or that no
-/// more can be read.
+/// What came next: nothing yet, a typed byte, this many bytes of the desk's rows, the end of the rows, or a failure to read.
 #[derive(Clone, Copy)]
 pub enum Came {
     Nothing,
@@ -16,17 +15,17 @@ pub enum Came {
     Failed,
 }
 
-/// Keys and rows. Nothing is known of when they come.
+/// A source of keys and rows. Nothing is known of when they come.
 pub trait Inputs {
-    /// What came, the oldest first.
+    /// All keys and rows that came, the oldest first.
     ghost heard: { Self → List Heard };
 
-    /// What comes next. It may wait for it.
+    /// Returns what comes next. It may wait for it.
     fn next(&mut self, rows: &mut [u8; 256]) -> Came
         ensures { IsHeard result rows.new (heard self.old) (heard self.new) };
 }
 
-/// All that came, in order, which clauses alone read. It takes no memory, and has no last value.
+/// All keys and rows that came, in order: only contracts read it. It takes no memory.
 #[derive(Drop)]
 pub enum HeardLog {
     Empty,
@@ -38,14 +37,14 @@ impl HeardLog {
     ghost use Rattle.typing.specs.Courses.{Pressed, Rows};
     ghost use Rattle.typing.specs.Logs.{heard_in};
 
-    /// This, and then a byte that was typed.
+    /// Returns this log with a typed byte added.
     pub fn key(&self, byte: u8) -> HeardLog
         ensures { heard_in result ≡ heard_in self.now ++ Pressed byte ∷ [] }
     {
         HeardLog::Key(Snapshot::of(self), Snapshot::of(&byte))
     }
 
-    /// This, and then rows: the front of the buffer.
+    /// Returns this log with rows added: the first `count` bytes of the buffer.
     pub fn rows(&self, buffer: &[u8; 256], count: usize) -> HeardLog
         ensures { heard_in result ≡ heard_in self.now ++ Rows (take count buffer.now) ∷ [] }
     {

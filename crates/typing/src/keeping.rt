@@ -18,14 +18,14 @@ pub enum Fault {
     Write,
 }
 
-/// A terminal, and whether all that was entered was handed to the desk: not where that has ended before.
+/// A terminal, and whether all entered lines were handed to the desk: they weren't if the desk ended before.
 #[derive(Drop)]
 pub struct Kept {
     pub terminal: Terminal,
     pub is_handed: bool,
 }
 
-/// Hands bytes to the desk, unless others weren't before.
+/// Hands bytes to the desk, unless earlier bytes couldn't be handed; returns whether all were.
 fn is_handed<L: Write>(lines: &mut L, bytes: &[u8], were_others: bool) -> bool
     ensures { result ≡ true → (were_others ≡ true) × Appends (L.contents lines.old) (L.contents lines.new) bytes.now }
 {
@@ -43,7 +43,7 @@ fn show<S: Write>(screen: &mut S, bytes: &[u8]) -> Result<(), Fault>
 }
 
 impl Kept {
-    /// Takes a byte that was typed.
+    /// Takes a typed byte.
     fn press<L: Write, S: Write>(
         &mut self,
         byte: u8,
@@ -76,8 +76,8 @@ impl Kept {
     }
 }
 
-/// Keeps a terminal of so many columns until the desk's last row, for so many turns at most: what is entered is handed to the
-/// desk, and its rows are shown above the line that is being typed.
+/// Keeps a terminal with this many columns until the desk's last row, for at most `turns` turns: hands entered lines to the
+/// desk, and shows the desk's rows above the line being typed.
 pub fn keep_terminal<I: Inputs, L: Write, S: Write>(
     inputs: &mut I,
     lines: &mut L,

@@ -1,30 +1,30 @@
-//! The keys.
+//! The keys of a terminal.
 
 /// What a scorer presses at a terminal.
 #[derive(Clone, Copy)]
 pub enum Key {
-    /// A letter, a figure, a blank or another sign.
+    /// A letter, a digit, a blank or another character.
     Sign(u8),
-    /// Takes out the sign before the cursor.
+    /// Removes the character before the cursor.
     Erase,
-    /// Takes out the sign at the cursor.
+    /// Removes the character at the cursor.
     Delete,
-    /// Takes out the word before the cursor.
+    /// Removes the word before the cursor.
     EraseWord,
-    /// Takes out the whole line.
+    /// Removes the whole line.
     EraseLine,
-    /// Goes to the line's front.
+    /// Goes to the start of the line.
     Front,
-    /// Goes to its end.
+    /// Goes to the end of the line.
     End,
     Left,
     Right,
-    /// Shows the line entered before the one that is shown.
+    /// Shows the entered line before the shown one.
     Earlier,
-    /// Shows the one behind it.
+    /// Shows the line after the shown one.
     Later,
     /// Enters the line.
     Enter,
-    /// Ctrl-D, which on an empty line enters `quit`.
+    /// Ctrl-D: on an empty line it enters `quit`.
     Stop,
 }

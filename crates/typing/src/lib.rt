@@ -1,5 +1,5 @@
-//! The line that a scorer types at a terminal: what each key does to it, what is handed to the desk, and how the terminal
-//! shows it below the desk's rows.
+//! The line that a scorer types at a terminal: what each key does to it, what is handed to the desk, and how the terminal shows
+//! it below the desk's rows.
 #![tactic(auto)]
 
 mod editor;

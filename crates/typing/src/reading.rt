@@ -5,22 +5,22 @@ ghost use Rattle.typing.specs.Keys as keys;
 
 use crate::key::Key;
 
-/// How much is read of a key that has several bytes.
+/// How much of a key's byte sequence was read.
 #[derive(Clone, Copy)]
 pub enum Reading {
-    /// Nothing.
+    /// Nothing yet.
     Begun,
-    /// The byte of Escape.
+    /// The Escape byte.
     Escape,
-    /// `[` or `O` behind it.
+    /// Escape and `[` or `O`.
     Opened,
-    /// A `3` behind that.
+    /// Escape, `[` or `O`, and `3`.
     Three,
-    /// Another figure or sign, or several.
+    /// A sequence that belongs to no known key.
     Unknown,
 }
 
-/// The key of a byte below 32.
+/// Returns the key of a byte below 32, if there is one.
 fn control(byte: u8) -> Option<Key>
     ensures { result ≡ keys.control byte }
 {
@@ -36,7 +36,7 @@ fn control(byte: u8) -> Option<Key>
     }
 }
 
-/// The key of a byte behind `ESC [` or `ESC O`.
+/// Returns the key of a byte after `ESC [` or `ESC O`, if there is one.
 fn arrow(byte: u8) -> Option<Key>
     ensures { result ≡ keys.arrow byte }
 {
@@ -51,7 +51,7 @@ fn arrow(byte: u8) -> Option<Key>
     }
 }
 
-/// The key of a byte by itself.
+/// Returns the key of a byte of 32 or more by itself, if there is one.
 fn alone(byte: u8) -> Option<Key>
     ensures { result ≡ keys.alone byte }
 {
@@ -63,7 +63,7 @@ fn alone(byte: u8) -> Option<Key>
 }
 
 impl Reading {
-    /// The key that this byte ends, if it is one. One below 32 ends whatever was begun.
+    /// Returns the key that this byte completes, if any. A byte below 32 ends any sequence that was begun.
     pub fn key(self, byte: u8) -> Option<Key>
         ensures { result ≡ keys.key_of self byte }
     {
@@ -78,7 +78,8 @@ impl Reading {
         }
     }
 
-    /// What is read behind this byte. A figure or a sign goes on with a sequence, a letter or another byte ends it.
+    /// Returns the reading after this byte. A digit or a punctuation character (32 to 63) continues a sequence, any other byte
+    /// ends it.
     pub fn behind(self, byte: u8) -> Reading
         ensures { result ≡ keys.reading_behind self byte }
     {

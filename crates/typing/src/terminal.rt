@@ -1,4 +1,4 @@
-//! How a terminal shows the desk's rows, and below them the line that is being typed.
+//! How a terminal shows the desk's rows, and below them the line being typed.
 
 ghost use Rattle.std.specs.Prelude.{◌≡◌, ◌≤◌, ◌<◌, ◌+◌, ◌++◌, length};
 ghost use Rattle.typing.specs.Terminals as terminals;
@@ -9,16 +9,16 @@ use crate::reading::Reading;
 use arrayvec::ArrayVec;
 use std::marker::Model;
 
-/// How many bytes of the desk's rows are shown at once.
+/// The most bytes of the desk's rows that are shown at once.
 pub const ROWS_ROOM: usize = 256;
 
-/// Goes to the front of a terminal's row, and clears it.
+/// Moves the cursor to the start of a terminal's row, and clears the row.
 const CLEAR: [u8; 4] = *b"\r\x1b[K";
 
-/// Stands before the line that is being typed.
+/// Stands before the line being typed.
 const PROMPT: [u8; 2] = *b"> ";
 
-/// What Ctrl-D enters.
+/// The line that Ctrl-D enters.
 const QUIT: [u8; 4] = *b"quit";
 
 /// What is handed to the desk: nothing, or a line and its newline.
@@ -27,8 +27,8 @@ pub type Handed = ArrayVec<u8, 129>;
 /// What is written to the terminal at once.
 pub type Drawing = ArrayVec<u8, 1024>;
 
-/// A terminal of so many columns. The line that is being typed is shown in one row, a part of it where it is longer; it isn't
-/// shown while a row of the desk's is there in part.
+/// A terminal with this many columns. The line being typed is shown in one row, a longer one in part; it isn't shown while a
+/// row of the desk's is incomplete.
 #[derive(Drop)]
 pub struct Terminal {
     editor: Editor,
@@ -59,7 +59,7 @@ fn put(drawing: &mut Drawing, bytes: &[u8])
     drawing.try_extend_from_slice(bytes).unwrap();
 }
 
-/// A line and its newline.
+/// Returns a line and its newline.
 fn with_newline(line: &[u8]) -> Handed
     requires { length line.now ≤ 128 }
     ensures { result.items ≡ terminals.with_newline line.now }
@@ -70,7 +70,7 @@ fn with_newline(line: &[u8]) -> Handed
     handed
 }
 
-/// What a key hands to the desk.
+/// Returns what a key hands to the desk.
 fn handed_by(editor: &Editor, key: Option<Key>) -> Handed
     ensures { result.items ≡ terminals.handed_by editor.now key }
 {
@@ -85,7 +85,7 @@ impl Terminal {
     ghost use Rattle.std.specs.Prelude.{◌≡◌, ◌≤◌, ◌<◌, ◌+◌, ◌++◌, length};
     ghost use Rattle.typing.specs.Terminals as terminals;
 
-    /// A terminal of so many columns, where nothing is typed.
+    /// Returns a terminal with this many columns, and nothing typed.
     pub fn new(columns: usize) -> Terminal
         ensures { result ≡ terminals.begun columns }
     {
@@ -97,7 +97,7 @@ impl Terminal {
         }
     }
 
-    /// Takes a byte that was typed, and tells what is handed to the desk.
+    /// Takes a typed byte, and returns what is handed to the desk.
     pub fn press(&mut self, byte: u8) -> Handed
         ensures standing { self.new ≡ terminals.pressed self.old byte }
         ensures handed { result.items ≡ terminals.handed self.old byte }
@@ -111,14 +111,14 @@ impl Terminal {
         handed
     }
 
-    /// How much of a line is shown.
+    /// Returns how many bytes of a line fit in the row.
     fn room(&self) -> usize
         ensures { result ≡ terminals.room self.now }
     {
         self.columns.saturating_sub(3)
     }
 
-    /// What is shown of the line before the cursor.
+    /// Returns the shown part of the line before the cursor.
     fn front(&self) -> &[u8]
         ensures front { result.now ≡ terminals.front self.now }
         ensures bound { length result.now ≤ 128 }
@@ -127,7 +127,7 @@ impl Terminal {
         &self.editor.text()[cursor.saturating_sub(self.room())..cursor]
     }
 
-    /// What is shown of what stands behind it.
+    /// Returns the shown part of the line from the cursor on.
     fn rest(&self) -> &[u8]
         ensures rest { result.now ≡ terminals.rest self.now }
         ensures bound { length result.now ≤ 128 }
@@ -141,7 +141,7 @@ impl Terminal {
         }
     }
 
-    /// Draws the line as far as the cursor.
+    /// Draws the prompt and the line up to the cursor.
     fn draw_front(&self, drawing: &mut Drawing)
         requires { length drawing.old.items ≤ 850 }
         ensures items { drawing.new.items ≡ drawing.old.items ++ terminals.front_drawn self.now }
@@ -151,7 +151,7 @@ impl Terminal {
         put(drawing, self.front());
     }
 
-    /// Draws the line that is being typed in place of the terminal's row, and puts the cursor where it stands.
+    /// Draws the line being typed in place of the terminal's row, with the cursor where it stands.
     fn draw_line(&self, drawing: &mut Drawing)
         requires { length drawing.old.items ≤ 512 }
         ensures { drawing.new.items ≡ drawing.old.items ++ terminals.line_drawn self.now }
@@ -163,8 +163,8 @@ impl Terminal {
         self.draw_front(drawing);
     }
 
-    /// What is drawn behind a byte that was typed, by which this was handed to the desk: the line that was entered, and the one
-    /// that is being typed.
+    /// Returns the drawing after a typed byte, which handed these bytes to the desk: the entered line, if any, and the line
+    /// being typed.
     pub fn drawing(&self, handed: &[u8]) -> Drawing
         requires { length handed.now ≤ 129 }
         ensures { result.items ≡ terminals.key_drawn handed.now self.now }
@@ -182,7 +182,7 @@ impl Terminal {
         drawing
     }
 
-    /// What is drawn of a piece of the desk's rows, above the line that is being typed.
+    /// Returns the drawing of a piece of the desk's rows, above the line being typed.
     pub fn tell(&mut self, rows: &[u8]) -> Drawing
         requires some { 0 < length rows.now }
         requires bound { length rows.now ≤ 256 }
@@ -201,7 +201,7 @@ impl Terminal {
         drawing
     }
 
-    /// What is written behind the desk's last row, so that the terminal's row is empty.
+    /// Returns what is written after the desk's last row, so that the terminal's row is empty.
     pub fn ending(&self) -> Drawing
         ensures { result.items ≡ terminals.ending self.now }
     {

@@ -12,7 +12,7 @@ use Rattle.shorthand.proofs.Marked.{EachMark, of_mark}
 use Rattle.station_texts.specs.Saying.{IsNoWord, LineMeans}
 use Rattle.station_texts.proofs.said.marked.Goals as goal
 
--- no mark is one of the words that are no entry's
+-- no mark is a word that means no entry
 abbrev IsOther : Token → Token → Token → Type 0
 IsOther t kind runs = (ends_desk t ≡ false) × (asked t ≡ None)
 
