@@ -1,5 +1,8 @@
-//! Prints the code of each line of standard input, for tests.
+//! Prints the QR code of each line of standard input. Beside it are tests of who may type from a desk's page.
 #![tactic(auto)]
+
+#[cfg(test)]
+mod tests;
 
 use qr::code_of;
 use std::io::{self, Write};
