@@ -4,7 +4,6 @@ ghost use Rattle.std.specs.Prelude.{◌≡◌, option_map, string_bytes, IfOk};
 ghost use Rattle.match_laws.specs.Result.{outcome};
 ghost use Rattle.match_laws.specs.Stands.{ForEachHistory};
 ghost use Rattle.cards.specs.Sheet.{name_of};
-ghost use Rattle.toml.specs.Data.{no_members};
 ghost use Rattle.toml.specs.View.{table_view};
 ghost use Rattle.archive_deliveries.specs.Names.{told_apart};
 ghost use Rattle.export.specs.Disagreement as laws;
