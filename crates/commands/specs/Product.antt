@@ -1,5 +1,5 @@
 -- What is printed of a book, and why it isn't: s is the sheet, and document the table that its text is.
-use Rattle.std.specs.Prelude.{◌≡◌, ℕ, ⊤, List, ◌++◌, Option, codes}
+use Rattle.std.specs.Prelude.{◌≡◌, ℕ, ⊤, List, [], ◌++◌, Option, codes}
 use Rattle.notation.specs.declared.entry.Entry.{Entry}
 use Rattle.cards.specs.Sheet.{Sheet}
 use Rattle.toml.specs.Data.{Members}
@@ -11,6 +11,7 @@ use Rattle.books.specs.Card.{card_text}
 use Rattle.books.specs.CardBook.{IsBookFrom, WhyNoBook}
 use Rattle.archive_deliveries.specs.Names.{told_apart}
 use Rattle.delivery_rows.specs.Table.{table_text}
+use Rattle.export.specs.Disagreement.{disagreement_of}
 use Rattle.export.specs.Value.{IsExport}
 use Rattle.page.specs.Page.{page_text}
 use Rattle.setup.specs.Fault.{IsOfStreams}
@@ -28,14 +29,22 @@ IsTextOf Json s document book text = (value : List ℕ) × (IsExport (told_apart
 IsTextOf Page s document book text = text ≡ page_text (told_apart s) document book
 IsTextOf (Rows table) s document book text = text ≡ table_text table (told_apart s) document book
 
+-- what standard error is told beside it: of a product that has an outcome, where the sheet's has another winner than the Laws
+abbrev pub beside : Product → Sheet → Members → List Entry → List ℕ
+beside Cards s document book = []
+beside Lines s document book = []
+beside product s document book = disagreement_of (told_apart s) document book
+
 module _
     {S : Type 0} (contents : S → Option (List ℕ)) (old new : Watched S) (product : Product) (s : Sheet) (document : Members)
+    (told : List ℕ)
   where
-    -- the product of this book is written
+    -- the product of this book is written, and this is told beside it
     pub record PrintsProduct (book : List Entry) : Type 0 where
       pub text : List ℕ
       pub made : IsTextOf product s document book text
       pub written : Prints contents old new text
+      pub is_told : told ≡ beside product s document book
 
     -- that of a book of which this is so
     pub record PrintsBook (IsBook : List Entry → Type 0) : Type 0 where

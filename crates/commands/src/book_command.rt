@@ -1,6 +1,6 @@
 //! `ground card`, `lines`, `export` and `page`: what is printed of a book, which is made of pen lines or of a desk's votes file.
 
-ghost use Rattle.std.specs.Prelude.{IfErr, IfSome, OnOk};
+ghost use Rattle.std.specs.Prelude.{string_bytes, IfErr, IfOk, IfSome};
 ghost use Rattle.books.specs.CardBook.{IsBookFrom};
 ghost use Rattle.streams.specs.Watched.{stream_of};
 ghost use Rattle.toml.specs.View.{table_view};
@@ -8,11 +8,12 @@ ghost use Rattle.commands.specs.Product.{IsOfBook, PrintsBook, WhyNotPrinted};
 ghost use Rattle.setup.specs.Ends.{EndsReading, EndsWriting};
 
 use crate::product::{Product, print_product};
+use crate::telling::tell;
 use books::{Source, book_from};
 use cards::MatchSheet;
 use export::document_of;
 use setup::{
-    SheetFile, StopFault, Stopped, card_sheet_at, open_input, output, short_sheet_at,
+    SheetFile, StopFault, Stopped, card_sheet_at, handed_fault, open_input, output, short_sheet_at,
     short_sheet_bytes, short_sheet_of,
 };
 use std::alloc::Global;
@@ -20,7 +21,7 @@ use streams::{Feed, Sink, Watched, read_all};
 use toml::Table;
 
 /// Reads pen lines or a votes file to the end, and prints a product of their book, with the sheet and its document. Where a line
-/// isn't taken, or the file or its votes are refused, nothing is written.
+/// isn't taken, or the file or its votes are refused, nothing is written. It answers what standard error is to be told.
 pub fn book_run<R: Feed, W: Sink>(
     alloc: Global,
     product: Product,
@@ -29,10 +30,10 @@ pub fn book_run<R: Feed, W: Sink>(
     source: Source,
     reader: &mut Watched<R>,
     writer: &mut Watched<W>,
-) -> Result<(), StopFault>
-    ensures written { OnOk result (IfSome (R.remaining (stream_of reader.old)) (λ input.
+) -> Result<String, StopFault>
+    ensures written { IfOk result (λ told. IfSome (R.remaining (stream_of reader.old)) (λ input.
         PrintsBook W.contents writer.old writer.new product sheet.now (table_view document.now)
-        (IsBookFrom source sheet.now input))) }
+        (string_bytes told) (IsBookFrom source sheet.now input))) }
     ensures why { IfErr result (λ fault. IfSome (R.remaining (stream_of reader.old)) (λ input.
         WhyNotPrinted source sheet.now input fault)) }
     ensures only { IfErr result IsOfBook }
@@ -53,7 +54,7 @@ fn sheet_and_document<'a>(
     let sheet = short_sheet_of(rt, path, text.as_slice())?;
     match document_of(rt.alloc(), text.as_slice()) {
         Ok(document) => Ok((sheet, document)),
-        Err(why) => Err(Stopped::at(path, StopFault::from(why))),
+        Err(why) => Err(Stopped::at(path, handed_fault(rt, text.as_slice(), why))),
     }
 }
 
@@ -107,7 +108,10 @@ pub fn start_book<'a>(
         &mut reader,
         &mut writer,
     ) {
-        Ok(()) => Ok(false),
+        Ok(told) => {
+            tell(rt, told.as_str());
+            Ok(false)
+        }
         Err(fault) => Err(Stopped::at(from, fault)),
     }
 }

@@ -1,6 +1,6 @@
 //! The record of a match from both desks' votes files: what is printed of their agreed list.
 
-ghost use Rattle.std.specs.Prelude.{◌≡◌, ◌≢◌, [], IfErr, IfOk, IfSome, OnOk};
+ghost use Rattle.std.specs.Prelude.{◌≡◌, ◌≢◌, [], string_bytes, IfErr, IfOk, IfSome};
 ghost use Rattle.agree_core.specs.Books.{AllTaken};
 ghost use Rattle.agree_core.specs.declared.messages.DeskId.TheVariants.{A, B};
 ghost use Rattle.streams.specs.Watched.{stream_of};
@@ -15,6 +15,7 @@ ghost use Rattle.setup.specs.Ends.{EndsReading, EndsWriting};
 use crate::book_command::sheet_for;
 use crate::file_ends::{places_of, tell_ends};
 use crate::product::{Product, print_product};
+use crate::telling::tell;
 use agree_core::DeskId;
 use books::{BothFault, book_of_both};
 use cards::MatchSheet;
@@ -191,8 +192,8 @@ pub fn book_of_readers<R: Feed>(
 }
 
 /// Reads both desks' votes files to the end, and prints a product of the agreed list of their votes, the last entry too. Where a
-/// file is refused, the votes aren't of one history, or the agreed list is no legal book, nothing is written. It answers how many
-/// places each file has.
+/// file is refused, the votes aren't of one history, or the agreed list is no legal book, nothing is written. It answers what
+/// standard error is to be told, and how many places each file has.
 pub fn book_both_run<R: Feed, W: Sink>(
     alloc: Global,
     product: Product,
@@ -201,13 +202,13 @@ pub fn book_both_run<R: Feed, W: Sink>(
     a: &mut Watched<R>,
     b: &mut Watched<R>,
     writer: &mut Watched<W>,
-) -> Result<(u32, u32), BothPrintFault>
-    ensures written { OnOk result (IfSome (R.remaining (stream_of a.old)) (λ first.
+) -> Result<(String, (u32, u32)), BothPrintFault>
+    ensures written { IfOk result (λ answer. IfSome (R.remaining (stream_of a.old)) (λ first.
         IfSome (R.remaining (stream_of b.old)) (λ second.
         PrintsBook W.contents writer.old writer.new product sheet.now (table_view document.now)
-        (IsBookOfBoth sheet.now first second)))) }
-    ensures places { IfOk result (λ places. IfSome (R.remaining (stream_of a.old)) (λ first.
-        IfSome (R.remaining (stream_of b.old)) (λ second. HavePlaces sheet.now.game first second places.0 places.1))) }
+        (string_bytes answer.0) (IsBookOfBoth sheet.now first second)))) }
+    ensures places { IfOk result (λ answer. IfSome (R.remaining (stream_of a.old)) (λ first.
+        IfSome (R.remaining (stream_of b.old)) (λ second. HavePlaces sheet.now.game first second answer.1.0 answer.1.1))) }
     ensures why { IfErr result (λ fault. IfSome (R.remaining (stream_of a.old)) (λ first.
         IfSome (R.remaining (stream_of b.old)) (λ second. WhyNotBoth sheet.now first second fault))) }
     ensures read_first { EndsReading R.remaining (BothPrintFault.Read A) result a.old a.new }
@@ -216,7 +217,7 @@ pub fn book_both_run<R: Feed, W: Sink>(
 {
     let placed = book_of_readers(alloc, sheet, a, b)?;
     match print_product(alloc, product, sheet, document, &placed.book, writer) {
-        Ok(()) => Ok(placed.places),
+        Ok(told) => Ok((told, placed.places)),
         Err(why) => Err(BothPrintFault::of_printing(why)),
     }
 }
@@ -249,8 +250,9 @@ pub fn start_book_of_both<'a>(
         &mut second,
         &mut writer,
     ) {
-        Ok(places) => {
+        Ok((told, places)) => {
             tell_ends(rt, a, b, places);
+            tell(rt, told.as_str());
             Ok(false)
         }
         Err(fault) => Err(stopped_at(fault, a, b)),

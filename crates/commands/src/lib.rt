@@ -11,6 +11,7 @@ mod lines;
 mod migrate;
 mod product;
 mod sheet_command;
+mod telling;
 
 pub use crate::book_command::{book_run, start_book};
 pub use crate::both_files::{BothPrintFault, book_both_run, start_book_of_both};

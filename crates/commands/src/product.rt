@@ -1,6 +1,6 @@
 //! What is printed of a book: its cards, its lines, or what archives, tables and browsers take.
 
-ghost use Rattle.std.specs.Prelude.{◌≡◌, [], ◌++◌, codes, IfErr, OnOk};
+ghost use Rattle.std.specs.Prelude.{◌≡◌, [], ◌++◌, codes, string_bytes, IfErr, IfOk, OnOk};
 ghost use Rattle.agree_core.specs.Books.{AllTaken};
 ghost use Rattle.corrections.specs.Refusal.{book_refusal};
 ghost use Rattle.streams.specs.Watched.{IsHandedOn, Prints, TellsFailure};
@@ -13,7 +13,7 @@ use books::print_card;
 use cards::MatchSheet;
 use corrections::CheckedBook;
 use delivery_rows::{Table, table_of};
-use export::text_of;
+use export::{disagreement_of, text_of};
 use page::page_of;
 use setup::StopFault;
 use std::alloc::Global;
@@ -56,7 +56,8 @@ fn print_line<W: Sink>(text: &str, out: &mut Watched<W>) -> Result<(), WriteFail
     out.flush()
 }
 
-/// Prints a product of a legal book, with the sheet and its document. Where memory is refused, nothing is written.
+/// Prints a product of a legal book, with the sheet and its document. Where memory is refused, nothing is written. It answers what
+/// standard error is to be told: of a product that has an outcome, where the sheet's has another winner than the Laws.
 pub fn print_product<W: Sink>(
     alloc: Global,
     product: Product,
@@ -64,28 +65,40 @@ pub fn print_product<W: Sink>(
     document: &Document,
     book: &CheckedBook,
     out: &mut Watched<W>,
-) -> Result<(), StopFault>
+) -> Result<String, StopFault>
     requires same_match { book.now.innings_a_side ≡ sheet.now.innings }
     requires legal { AllTaken (book_refusal sheet.now.innings) [] book.now.entries }
-    ensures written { OnOk result (PrintsProduct W.contents out.old out.new product sheet.now (table_view document.now)
-        book.now.entries) }
+    ensures written { IfOk result (λ told. PrintsProduct W.contents out.old out.new product sheet.now (table_view document.now)
+        (string_bytes told) book.now.entries) }
     ensures only { IfErr result IsOfPrinting }
     ensures writes { EndsWriting W.calls StopFault.Write result out.old out.new }
 {
     match product {
-        Product::Cards => Ok(print_card(sheet, book, out)?),
-        Product::Lines => Ok(print_lines(book, out)?),
+        Product::Cards => {
+            print_card(sheet, book, out)?;
+            Ok(String::new(alloc))
+        }
+        Product::Lines => {
+            print_lines(book, out)?;
+            Ok(String::new(alloc))
+        }
         Product::Json => {
             let text = text_of(alloc, sheet, document, book)?;
-            Ok(print_line(text.as_str(), out)?)
+            let told = disagreement_of(alloc, sheet, document, book)?;
+            print_line(text.as_str(), out)?;
+            Ok(told)
         }
         Product::Page => {
             let text = page_of(alloc, sheet, document, book)?;
-            Ok(print_whole(text.as_str(), out)?)
+            let told = disagreement_of(alloc, sheet, document, book)?;
+            print_whole(text.as_str(), out)?;
+            Ok(told)
         }
         Product::Rows(table) => {
             let text = table_of(alloc, table, sheet, document, book)?;
-            Ok(print_whole(text.as_str(), out)?)
+            let told = disagreement_of(alloc, sheet, document, book)?;
+            print_whole(text.as_str(), out)?;
+            Ok(told)
         }
     }
 }

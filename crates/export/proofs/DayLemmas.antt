@@ -16,7 +16,7 @@ use Rattle.toml.specs.Data.{Data}
 use Rattle.json.specs.Json.{string, number}
 use Rattle.json_fields.specs.Values.{number_value}
 use Rattle.export.specs.Given.{IsValueOf}
-use Rattle.export.specs.Meta.{local_date, day_of, revision_of}
+use Rattle.sheet_check.specs.Handed.{local_date, day_of, revision_of}
 
 digits_back : (a b : ℕ) → is_ascii_digit a ≡ true → is_ascii_digit b ≡ true
     → (10 * (a - 48) + (b - 48) < 100) × (two_wide (10 * (a - 48) + (b - 48)) ≡ a ∷ b ∷ [])

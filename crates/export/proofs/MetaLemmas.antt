@@ -4,10 +4,10 @@ use Rattle.std.specs.Prelude.{unwrap_or}
 use Rattle.std.proofs.lemmas.Bool.{true≢false}
 use Rattle.toml.specs.Data.{Members}
 use Rattle.json_fields.specs.Values.{number_value}
-use Rattle.export.specs.Document.{is_fine_document}
+use Rattle.sheet_check.specs.Handed.{day_of, is_fine, is_fine_document, meta_at, revision_of}
 use Rattle.export.specs.Given.{IsValueOf}
 use Rattle.export.specs.Laws.{TellsDay, TellsOfFile, in_meta}
-use Rattle.export.specs.Meta.{day_of, is_fine, meta_at, revision_in, revision_of}
+use Rattle.export.specs.Meta.{revision_in}
 use Rattle.export.proofs.DayLemmas.{value_of_day, value_of_revision}
 
 -- what a value tells, where it tells something

@@ -15,7 +15,8 @@ use Rattle.json_fields.specs.Values.{Field, number_value}
 use Rattle.archive_deliveries.specs.declared.notes.Noted.{Noted}
 use Rattle.archive_deliveries.specs.Notes.{notes}
 use Rattle.export.specs.Given.{IsValueOf, info_in, is_own}
-use Rattle.export.specs.Meta.{day_of, meta_at, meta_of}
+use Rattle.sheet_check.specs.Handed.{day_of, meta_at}
+use Rattle.export.specs.Meta.{meta_of}
 use Rattle.export.specs.Info.{info_of}
 use Rattle.export.specs.Innings.{innings_of}
 use Rattle.export.specs.Entries.{entries_of, entry_of}

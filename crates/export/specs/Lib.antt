@@ -1,6 +1,7 @@
 -- What the public calls claim: Value with all that it cites (Innings, Document, Given, Meta, Info, Limited, Falls, Entries,
--- Escapes), Laws and Readers. inner: for private functions only.
+-- Escapes), Disagreement, Laws and Readers. inner: for private functions only.
 pub mod Innings
+pub mod Disagreement
 pub mod Document
 pub mod Given
 pub mod Meta

@@ -3,7 +3,7 @@ use Rattle.std.specs.Prelude.{◌≡◌, ℕ, true, false, pos, negsuc, List, []
 use Rattle.toml.specs.Data.{Data, Members, no_members, member, datetime, string, integer, table}
 use Rattle.toml_datetime.specs.declared.datetime.{Date.Date, Time.Time}
 use Rattle.json_fields.specs.Values.{Field, object_of, text_field, number_field}
-use Rattle.export.specs.Document.{is_fine_document}
+use Rattle.sheet_check.specs.Handed.{is_fine_document}
 use Rattle.export.specs.Info.{has_no_result}
 use Rattle.export.specs.Meta.{meta_of}
 

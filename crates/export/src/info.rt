@@ -226,7 +226,7 @@ fn is_text(value: Option<&Value>, word: &str) -> bool
 }
 
 /// What the outcome of the sheet's table `[info]` has at a key.
-fn outcome_at<'a>(info: &'a Table, key: &str) -> Option<&'a Value>
+pub fn outcome_at<'a>(info: &'a Table, key: &str) -> Option<&'a Value>
     ensures { option_map (λ value. view value.now) result ≡ laws.outcome_at key.now (table_view info.now) }
 {
     match table_in(info, "outcome") {

@@ -12,7 +12,7 @@ ghost use Rattle.toml.specs.Data.{Members};
 ghost use Rattle.falls.specs.Laws.{FallsStand};
 ghost use Rattle.json.specs.Json.{string};
 ghost use Rattle.json_fields.specs.Values.{Field};
-ghost use Rattle.export.specs.Document.{is_fine_document};
+ghost use Rattle.sheet_check.specs.Handed.{is_fine_document};
 ghost use Rattle.export.specs.Escapes.{IsPlain, IsReadBack, is_obeyed};
 ghost use Rattle.export.specs.Given.{HandsOn};
 ghost use Rattle.export.specs.Laws.{HasEachEntry, HasEachKey, LeavesOwn, TellsDay, TellsOfFile, TotalsAddUp, WicketsAddUp, in_meta};

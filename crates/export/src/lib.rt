@@ -2,6 +2,7 @@
 //! and each entry as it was penned.
 #![tactic(auto, using(json_fields::proofs::Putting::json_parts), unfolding(json_fields::specs::Values::fields_tokens, json_fields::specs::Values::values_tokens))]
 
+mod disagreement;
 mod document;
 mod entries;
 mod escapes;
@@ -18,6 +19,7 @@ mod readers;
 mod text;
 mod value;
 
+pub use disagreement::disagreement_of;
 pub use document::document_of;
 pub use given::info_or;
 pub use innings::{runs_after, runs_before};

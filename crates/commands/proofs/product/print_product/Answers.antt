@@ -1,4 +1,4 @@
-use Rattle.std.proofs.Common.{refl}
+use Rattle.std.proofs.Common.{refl, rules}
 use Rattle.commands.specs.Lines.{lines_text}
 use Rattle.commands.proofs.LinesAgain.{again}
 use Rattle.commands.proofs.product.print_product.Goals as goal
@@ -7,4 +7,4 @@ pub returns-in_ok-print_lines-in-Lines-clause-written : goal.returns-in_ok-print
 returns-in_ok-print_lines-in-Lines-clause-written g c =
     let book = c.args.book.now.entries in
     let lines = c.in_ok-print_lines-in-Lines.ensures in
-    rw c.in-Lines.is (record { text = lines_text book; made = (refl, again c.args.sheet.now.innings book lines.again c.requires.legal); written = lines.text })
+    rw c.in-Lines.is (record { text = lines_text book; made = (refl, again c.args.sheet.now.innings book lines.again c.requires.legal); written = lines.text; is_told = search rules })

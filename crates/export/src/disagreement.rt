@@ -1,0 +1,142 @@
+//! Where the outcome of a sheet's table `[info]` has another winner than the Laws.
+
+ghost use Rattle.std.specs.Prelude.{◌≡◌, option_map, string_bytes, IfOk};
+ghost use Rattle.match_laws.specs.Result.{outcome};
+ghost use Rattle.match_laws.specs.Stands.{ForEachHistory};
+ghost use Rattle.cards.specs.Sheet.{name_of};
+ghost use Rattle.toml.specs.View.{table_view};
+ghost use Rattle.archive_deliveries.specs.Names.{told_apart};
+ghost use Rattle.export.specs.Disagreement as laws;
+
+use crate::given::info_or;
+use crate::info::outcome_at;
+use archive_deliveries::NamedSheet;
+use cards::MatchSheet;
+use corrections::BookOf;
+use match_laws::{Match, Outcome};
+use notation::Side;
+use sheet_check::shown;
+use std::alloc::{AllocError, Global};
+use toml::Table;
+
+/// The side that has won by the Laws, where one has.
+fn winner_of(outcome: Outcome) -> Option<Side>
+    ensures { result ≡ laws.winner_of outcome }
+{
+    match outcome {
+        Outcome::Runs(side, _)
+        | Outcome::Wickets(side, _)
+        | Outcome::InningsAnd(side, _)
+        | Outcome::PenaltyRuns(side) => Some(side),
+        Outcome::Undecided | Outcome::Draw | Outcome::Tie => None,
+    }
+}
+
+/// The name of a side, where there is one.
+fn name_of<'a>(sheet: &'a NamedSheet<'_>, winner: Option<Side>) -> Option<&'a str>
+    ensures { option_map (λ name. name.now) result ≡ option_map (name_of sheet.now) winner }
+{
+    match winner {
+        Some(side) => Some(sheet.name(side)),
+        None => None,
+    }
+}
+
+/// The name of the side that has won by the Laws, where one has.
+fn winner_in<'a>(sheet: &'a NamedSheet<'_>, score: &Match) -> Option<&'a str>
+    ensures { ForEachHistory score.now (λ n h. option_map (λ name. name.now) result
+        ≡ option_map (name_of sheet.now) (laws.winner_of (outcome n h))) }
+{
+    name_of(sheet, winner_of(score.result()))
+}
+
+/// Whether the outcome says why it isn't that of the Laws.
+fn says_why(info: &Table) -> bool
+    ensures { result ≡ laws.says_why (table_view info.now) }
+{
+    outcome_at(info, "method").is_some()
+        || outcome_at(info, "eliminator").is_some()
+        || outcome_at(info, "bowl_out").is_some()
+}
+
+/// The text that the outcome has at a key.
+fn outcome_text<'a>(info: &'a Table, key: &str) -> Option<&'a str>
+    ensures { option_map (λ text. text.now) result ≡ laws.outcome_text key.now (table_view info.now) }
+{
+    match outcome_at(info, key) {
+        Some(value) => value.as_str(),
+        None => None,
+    }
+}
+
+/// Whether these are one name, or both none.
+fn is_same(a: Option<&str>, b: Option<&str>) -> bool
+    ensures { result ≡ laws.is_same (option_map (λ text. text.now) a.entry) (option_map (λ text. text.now) b.entry) }
+{
+    match (a, b) {
+        (Some(a), Some(b)) => a == b,
+        (None, None) => true,
+        _ => false,
+    }
+}
+
+/// The name of a winner as it is told, or that there is none.
+fn winner_words(alloc: Global, name: Option<&str>) -> Result<String, AllocError>
+    ensures { IfOk result (λ words. string_bytes words ≡ laws.winner_words (option_map (λ text. text.now) name.entry)) }
+{
+    match name {
+        Some(name) => shown(alloc, name),
+        None => String::from_str(alloc, "no winner"),
+    }
+}
+
+/// What is told of the winner that the sheet has and of the Laws': without a byte, where they are one.
+fn difference(alloc: Global, told: Option<&str>, winner: Option<&str>) -> Result<String, AllocError>
+    ensures { IfOk result (λ words. string_bytes words
+        ≡ laws.difference (option_map (λ text. text.now) told.entry) (option_map (λ text. text.now) winner.entry)) }
+{
+    if is_same(told, winner) {
+        return Ok(String::new(alloc));
+    }
+    let told = winner_words(alloc, told)?;
+    let winner = winner_words(alloc, winner)?;
+    let mut words = String::from_str(alloc, "sheet: info.outcome says ")?;
+    words.push_str(told.as_str())?;
+    words.push_str(", the Laws say ")?;
+    words.push_str(winner.as_str())?;
+    words.push_str("\n")?;
+    Ok(words)
+}
+
+/// What is told where the Laws' winner has this name.
+fn disagreement(alloc: Global, info: &Table, winner: Option<&str>) -> Result<String, AllocError>
+    ensures { IfOk result (λ words. string_bytes words
+        ≡ laws.disagreement (table_view info.now) (option_map (λ text. text.now) winner.entry)) }
+{
+    if says_why(info) {
+        return Ok(String::new(alloc));
+    }
+    match (outcome_text(info, "winner"), outcome_text(info, "result")) {
+        (Some(told), _) => difference(alloc, Some(told), winner),
+        (None, Some(_)) => difference(alloc, None, winner),
+        (None, None) => Ok(String::new(alloc)),
+    }
+}
+
+/// The line that is told of a sheet's document and a book, where the outcome that the document tells has another winner than the
+/// Laws, and says no method by which: without a byte otherwise.
+pub fn disagreement_of<B: BookOf>(
+    alloc: Global,
+    sheet: &MatchSheet,
+    document: &Table,
+    book: &B,
+) -> Result<String, AllocError>
+    requires { B.innings_a_side book.now ≡ sheet.now.innings }
+    ensures { IfOk result (λ words. string_bytes words
+        ≡ laws.disagreement_of (told_apart sheet.now) (table_view document.now) (B.content book.now)) }
+{
+    let named = NamedSheet::new(alloc, sheet)?;
+    let empty = Table::new(alloc);
+    let info = info_or(document, &empty);
+    disagreement(alloc, info, winner_in(&named, book.score()))
+}
