@@ -1,4 +1,4 @@
--- What tells a day or a revision has its value: a text that is a day is the day's text.
+-- A TOML value read as a day or a revision has that JSON value: a text that is a day is the day's text.
 use Rattle.std.proofs.Common.{◌≡◌, ℕ, ◌+◌, ◌-◌, ◌*◌, ◌/◌, ◌%◌, ◌<◌, Bool, true, false, cond, ◌==◌, nat_le}
 use Rattle.std.proofs.Common.{pos, List, [], ◌∷◌, ◌++◌, Option, Some, None, option_map, option_and_then, get_or}
 use Rattle.std.proofs.Common.{sym, ap, ◌∙◌, arith, append_assoc, append-nil, lt-ltb}
@@ -59,7 +59,7 @@ full_date_back text p e =
     let units : (100 * century.0 + year.0) % 100 ≡ year.0 = omega (arith, small) in
     rw (← same, hundreds, units, (two_back text century is₁).1, behind, marked_back year.1 month is₃, marked_back month.1 day is₄) (in_a_row (two_wide century.0) (two_wide year.0) (two_wide month.0) (two_wide day.0) day.1)
 
--- ---- a date-time that is a day alone
+-- ---- a date-time that is only a day
 
 after_day : (d : Date) (more : List ℕ) (dt : Datetime) (day : Date) → after_date d more ≡ Some dt → local_date dt ≡ Some day → (more ≡ []) × (d ≡ day)
 unfolding after_date

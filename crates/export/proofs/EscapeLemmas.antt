@@ -1,4 +1,4 @@
--- What stands for a character that a terminal obeys is plain text, and is read as that character.
+-- The escape of a character that a terminal obeys is plain text, and is read as that character.
 use Rattle.std.proofs.Common.{◌≡◌, ℕ, ◌+◌, ◌*◌, ◌/◌, ◌%◌, ◌<◌, true, List, [], ◌∷◌, ◌++◌, Some, arith, encode_utf8, lt-ltb}
 use Rattle.std.proofs.lemmas.Bool.Decides.{nat_tests}
 use Rattle.std.proofs.lemmas.Str.{digit_value-digit_char, encode_ascii}
@@ -17,7 +17,7 @@ printable_digit d h = grind (arith, nat_tests)
 obeyed_below : (c : ℕ) → is_obeyed c ≡ true → c < 0x2070
 obeyed_below c h = grind (arith, nat_tests)
 
--- four digits are read as the number
+-- four hex digits are read as their number
 read_digits : (a b c d : ℕ) → a < 16 → b < 16 → c < 16 → d < 16
     → code_unit (digit_char a) (digit_char b) (digit_char c) (digit_char d) ≡ Some (a * 4096 + b * 256 + c * 16 + d)
 unfolding code_unit
@@ -33,7 +33,7 @@ read_digits a b c d p q r s =
       lt-ltb d 16 s,
     )
 
--- and an escape with them as the character
+-- an escape with four digits is read as the character
 read_unit : (a b c d u : ℕ) (more : List ℕ) → code_unit a b c d ≡ Some u → u < 0xd800
     → content plain (92 ∷ 117 ∷ a ∷ b ∷ c ∷ d ∷ more) ≡ prepend (encode_utf8 u) (content plain more)
 unfolding content

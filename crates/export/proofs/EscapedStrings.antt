@@ -1,4 +1,4 @@
--- Each string of an export's text is read as it was before what a terminal obeys in it was escaped.
+-- Each string of an export is read as it was before the characters that a terminal obeys were escaped.
 use Rattle.std.proofs.Common.{◌≡◌, ℕ, zero, suc, ◌<◌, ◌≤◌, Bool, true, false, nat_lt, List, [], ◌∷◌, ◌++◌, Some, IsUtf8, chars, flat_map, encode_utf8, encode_utf8_all, inl, inr, refl, sym, ap, ◌∙◌, arith, append_assoc, append-nil, length, get_or, le-ltb, ne_eqb, ltb-true}
 use Rattle.std.proofs.lemmas.Bool.{and_parts, cases_lt, cases_eq}
 use Rattle.std.proofs.lemmas.Bool.Decides.{nat_tests}
@@ -13,7 +13,7 @@ use Rattle.std.specs.List.{list_all}
 use Rattle.export.specs.Escapes.{IsReadBack, is_obeyed, shown, shown_char}
 use Rattle.export.proofs.EscapeLemmas.{read_back}
 
--- ---- what is made of a string
+-- ---- how a string is escaped
 
 shown_past : (c : ℕ) (more : List ℕ) → IsScalar c → shown (encode_utf8 c ++ more) ≡ shown_char c ++ shown more
 shown_past c more ok =
@@ -21,7 +21,7 @@ shown_past c more ok =
     let one = chars_past_char (encode_utf8 c) [] c text (sym (append-nil (encode_utf8 c))) in
     rw (chars-append (encode_utf8 c) more text, one, chars-nil) refl
 
--- bytes below DEL stay
+-- each byte is below DEL: such bytes aren't escaped
 abbrev are_below : List ℕ → Bool
 are_below = list_all (λ x. nat_lt x 127)
 
@@ -35,12 +35,12 @@ shown_below (x ∷ xs) more h =
     let past : shown (x ∷ (xs ++ more)) ≡ x ∷ shown (xs ++ more) = rw (one, unseen) at (shown_past x (xs ++ more) (low_scalar x (omega arith))) in
     rw (past, shown_below xs more p.1) refl
 
--- so a text of such bytes stays
+-- a text of bytes below DEL stays as it is
 pub shown_whole : (xs : List ℕ) → are_below xs ≡ true → shown xs ≡ xs
 shown_whole xs h =
     ap shown (sym (append-nil xs)) ∙ shown_below xs [] h ∙ ap (λ (l : List ℕ). xs ++ flat_map shown_char l) chars-nil ∙ append-nil xs
 
--- the bytes of a character from DEL on are none that JSON escapes
+-- each byte is from DEL on, as those of a character from DEL on: JSON escapes none of these
 abbrev AreHigh : List ℕ → Type 0
 AreHigh xs = (k : ℕ) → k < length xs → 127 ≤ get_or xs k 0
 
@@ -50,7 +50,7 @@ escape_high (x ∷ xs) h =
     let high : 127 ≤ x = h 0 (omega arith) in
     rw (escape_byte_plain x (λ e. omega arith) (λ e. omega arith) (omega arith), escape_high xs (λ k below. h (suc k) (omega arith)))
 
--- ---- what a reader makes of that
+-- ---- how a reader reads an escaped string
 
 abbrev IsRead : List ℕ → List ℕ → Type 0
 IsRead text chars = (more : List ℕ) → content plain (text ++ more) ≡ prepend chars (content plain more)
@@ -68,7 +68,7 @@ shown_read : (b : Bool) (c : ℕ) (more : List ℕ) → is_obeyed c ≡ b → Ar
 shown_read true c more is high = read_back c more is
 shown_read false c more is high = rw is (read_high (encode_utf8 c) high more)
 
--- the escape of a byte below DEL has such bytes alone, and is read as that byte
+-- the escape of a byte below DEL has only bytes below DEL, and is read as that byte
 abbrev IsLow : ℕ → Type 0
 IsLow x = (are_below (escape_byte x) ≡ true) × IsRead (escape_byte x) (x ∷ [])
 

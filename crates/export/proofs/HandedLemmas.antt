@@ -1,4 +1,4 @@
--- What stands at a key of `info`.
+-- The value at a key of `info`.
 use Rattle.std.proofs.Common.{◌≡◌, ℕ, Bool, true, false, cond, if◌then◌else◌, arith, append_assoc, bytes_eq, List}
 use Rattle.std.proofs.Common.{Some, None, inl, inr, codes, sym, ap, ◌∙◌, subst}
 use Rattle.std.specs.Prelude.{is_some}
@@ -25,13 +25,13 @@ module _ (key : List ℕ) where
   abbrev under : List Field → Json
   under fs = member_at key (members_of fs)
 
-  -- what is handed on has what the table has at a key, unless the key is the export's own
+  -- the copied members have the table's value at a key, unless the key is the export's own
   others-at : (ms : Members) → get_member key (others ms) ≡ (if is_own key then None else get_member key ms)
   others-at no_members = grind arith
   others-at (member name d ms) =
       grind (arith, others-at ms, get_member-cons key name d ms, get_member-cons key name d (others ms), bytes_eq-Decides key name)
 
-  -- fields have a key where the members have it, with its value
+  -- fields have the keys of their members, with their values
   has_all : (ms : Members) (fs : List Field) → AreFieldsOf ms fs → has fs ≡ is_some (get_member key ms)
   has_all no_members fs are = ap has are
   has_all (member name d ms) fs (v, rest, whole, here, more) =
@@ -59,7 +59,7 @@ leaves_own document given are key own =
 -- ---- the export's own fields stand under other keys
 
 module _ (key : List ℕ) where
-  -- a key that is handed on is none that isn't
+  -- a key that is copied differs from each key that isn't
   none_of : (name : List ℕ) (given : List Field) → list_any (λ f. bytes_eq key f.0) given ≡ true →
       list_any (λ f. bytes_eq name f.0) given ≡ false → bytes_eq key name ≡ false
   none_of name given here none = grind (arith, bytes_eq-Decides key name)

@@ -37,7 +37,7 @@ own_runs striker b = runs_of b
 
 -- ---- wickets
 
--- how many items of innings i are a wicket
+-- how many items of innings i are wickets
 abbrev pub wickets_listed : List Noted → ℕ → ℕ
 wickets_listed xs i = count_of (λ x. is_wicket x.item && (x.innings == i)) xs
 
@@ -52,18 +52,18 @@ wickets_so_far n h (x ∷ xs) i e =
 -- ---- penalty runs: each award that counts in an innings stands in one place
 
 module _ (f : Begun) (i : ℕ) where
-  -- the totals of the deliveries, and what was awarded before the first, are all that stands there
+  -- the totals of the deliveries and the awards before the first delivery are all runs and awards among the items
   totals_sum : (xs : List Noted) → tally (λ k. k) (totals_of f i xs) + penalties f i (carried xs) ≡ tally (noted_weight own_runs) xs + penalties f i xs
   totals_sum [] = refl
   totals_sum (x ∷ xs) = grind (arith, totals_sum xs)
 
-  -- an item stands in this innings, in one before it or in one after it
+  -- each item stands in this innings, an earlier one or a later one
   places : (xs : List Noted) → penalties f i (items_in i xs)
       + (penalties f i (filter (λ x. nat_lt x.innings i) xs) + penalties f i (filter (λ x. nat_lt i x.innings) xs)) ≡ penalties f i xs
   places [] = refl
   places (x ∷ xs) = grind (arith, nat_tests, places xs)
 
--- ---- and the awards are those of the Laws
+-- ---- the awards are those of the Laws
 
 abbrev counts_at : History → ℕ → Award → Bool
 counts_at h i a = is_at (award_innings h a) i
@@ -79,7 +79,7 @@ wickets_added n book legal i =
     let fallen = wickets_so_far n [] (clean book) i (scored_legal n book legal) in
     rw (← history_after-clean book) (omega (arith, fallen))
 
--- the totals of the deliveries of an innings and its penalty runs are its total
+-- the totals of an innings' deliveries and its penalty runs add up to its total
 pub total_added : (n : ℕ) (book : List Entry) → IsLegalBook n book → (i : ℕ) →
     let f = begun_of (history_of book) in
     let xs = noted_items book in

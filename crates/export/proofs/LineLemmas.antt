@@ -1,4 +1,4 @@
--- What is summed up by names is what the players of these names have: sums over deliveries, and over who batted or bowled.
+-- A sum by name over deliveries is the sum of the figures of the players of that name who batted or bowled.
 use Rattle.std.proofs.Common.{◌≡◌, ℕ, ◌+◌, ◌==◌, ◌&&◌, ◌||◌, cond, if◌then◌else◌, Bool, true, false, List, [], ◌∷◌}
 use Rattle.std.proofs.Common.{◌++◌, Option, Some, None, refl, sym, ◌∙◌, arith, eqb-true, eq-eqb}
 use Rattle.std.specs.Cmp.{nat_eq_equiv}
@@ -23,13 +23,13 @@ among_once : (k : ℕ) (ps : List ℕ) → among k (named_once ps) ≡ among k p
 among_once k [] = refl
 among_once k (p ∷ ps) = grind (arith, among_once k ps, list_any-append (λ q. q == k) (named_once ps) (p ∷ []), eqb-true p k)
 
--- what two numbers of those whom a test takes come to
+-- two sums over the elements that pass a test add up to the sum of both numbers
 pub sum_if : {X : Type 0} (test : X → Bool) (f g k : X → ℕ) → ((x : X) → f x + g x ≡ k x) → (xs : List X)
     → tally (λ x. if test x then f x else 0) xs + tally (λ x. if test x then g x else 0) xs ≡ tally (λ x. if test x then k x else 0) xs
 sum_if test f g k e [] = refl
 sum_if test f g k e (x ∷ xs) = grind (arith, sum_if test f g k e xs, e x)
 
--- ---- sums over players whom a test takes
+-- ---- sums over players who pass a test
 
 abbrev pub picked : (ℕ → Bool) → (ℕ → ℕ) → List ℕ → ℕ
 picked test figure ps = tally (λ p. if test p then figure p else 0) ps
@@ -43,14 +43,14 @@ module _ (test : ℕ → Bool) where
   picked-push f [] p = refl
   picked-push f (q ∷ ps) p = omega (arith, picked-push f ps p)
 
-  -- a number of one player alone
+  -- the sum of a number that only player k has
   picked-one : (k n : ℕ) (ps : List ℕ) → picked test (λ p. if k == p then n else 0) (named_once ps) ≡ cond (among k ps) (cond (test k) n 0) 0
   picked-one k n [] = refl
   picked-one k n (p ∷ ps) =
       let more = picked-push (λ q. if k == q then n else 0) (named_once ps) p in
       grind (arith, picked-one k n ps, more, among_once k ps, nat_eq_equiv.symm p k, eqb-true k p)
 
--- a player of his own name
+-- a player whose name no other has
 module _ (test : ℕ → Bool) (figure : ℕ → ℕ) (p : ℕ) where
   only : (ps : List ℕ) → ((q : ℕ) → among q ps ≡ true → test q ≡ (p == q)) →
       picked test figure ps ≡ picked (λ q. true) (λ q. if p == q then figure p else 0) ps
@@ -68,7 +68,7 @@ abbrev pub takes : (ℕ → Bool) → Option ℕ → Bool
 takes test None = false
 takes test (Some k) = test k
 
--- ---- a sum over deliveries is one over players, each of whom stands among the names
+-- ---- a sum over deliveries is a sum over players, each of whom is among those named
 
 module _ (i : ℕ) (key : Delivery → Option ℕ) where
   abbrev pub AreNamed : List ℕ → List Delivery → Type 0
@@ -94,7 +94,7 @@ module _ (i : ℕ) (key : Delivery → Option ℕ) where
         let both = sum_if test (λ p. tally (λ c. of c p) ds) (of d) (λ p. tally (λ c. of c p) (d ∷ ds)) (λ p. refl) (named_once ps) in
         omega (arith, by_players ds named.0, one_delivery (is_of i d) (key d) (f d.ball) named.1, both)
 
--- ---- who bowls
+-- ---- the bowler of a delivery
 
 abbrev pub bowler_of : Delivery → Option ℕ
 bowler_of d = Some (d.ball).bowler
@@ -103,7 +103,7 @@ pub bowlers_named : (i : ℕ) (ds : List Delivery) → AreNamed i bowler_of (fil
 bowlers_named i [] = tt
 bowlers_named i (d ∷ ds) = (named_more i bowler_of (bowler_in i d) (filter_map (bowler_in i) ds) ds (bowlers_named i ds), λ k of at. grind arith)
 
--- ---- who bats has come in
+-- ---- a batter at either end has come in
 
 abbrev at_ends : ℕ → Ends → Bool
 at_ends k e = is_at e.striker k || is_at e.other k

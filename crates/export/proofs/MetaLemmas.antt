@@ -1,4 +1,4 @@
--- What stands under `meta`.
+-- The values under `meta`.
 use Rattle.std.proofs.Common.{◌≡◌, true, Option, Some, None, is_some, option_and_then, codes, refl, sym, ap, ◌∙◌, arith, subst}
 use Rattle.std.specs.Prelude.{unwrap_or}
 use Rattle.std.proofs.lemmas.Bool.{true≢false}
@@ -10,7 +10,7 @@ use Rattle.export.specs.Laws.{TellsDay, TellsOfFile, in_meta}
 use Rattle.export.specs.Meta.{revision_in}
 use Rattle.export.proofs.DayLemmas.{value_of_day, value_of_revision}
 
--- what a value tells, where it tells something
+-- the value of an option that has one
 told : {A : Type 0} (o : Option A) → is_some o ≡ true → (x : A) × (o ≡ Some x)
 told None e = absurd (true≢false (sym e))
 told (Some x) e = (x, refl)

@@ -1,4 +1,4 @@
--- What is looked up in the value of an export.
+-- What a reader looks up in the value of an export.
 use Rattle.std.proofs.Common.{◌≡◌, ℕ, ◌+◌, true, List, [], ◌∷◌, ◌++◌, map, codes, refl, ap, ◌∙◌, append_assoc, arith, eq-eqb, if◌then◌else◌, Some, None}
 use Rattle.std.specs.List.{flat_map}
 use Rattle.std.proofs.lemmas.List.Concat.{flat_map-cons}
@@ -26,7 +26,7 @@ in_over over = values_of (at (codes "deliveries") over)
 -- ---- totals
 
 module _ (f : Begun) (i : ℕ) where
-  -- the totals of the deliveries of these items
+  -- the totals of the deliveries among the items
   abbrev pub own_total : Plain → List Noted → List ℕ
   own_total (Bowl b) late = (all_runs (split_of_ball b) + penalties f i late) ∷ []
   own_total _ late = []
@@ -36,7 +36,7 @@ module _ (f : Begun) (i : ℕ) where
   totals_of (x ∷ xs) = own_total x.item (carried xs) ++ totals_of xs
 
 module _ (s : Sheet) (side : Side) (f : Begun) (i : ℕ) where
-  -- the deliveries of these items, without their overs
+  -- the deliveries among the items, not grouped by over
   abbrev pub all_listed : List Noted → List Noted → List Json
   all_listed early [] = []
   all_listed early (x ∷ xs) =

@@ -1,4 +1,4 @@
--- What a reader takes of a delivery.
+-- What a reader takes from a delivery.
 use Rattle.std.proofs.Common.{◌≡◌, ℕ, ◌+◌, ◌≤◌, ◌==◌, ◌&&◌, not, false, List, [], ◌∷◌, codes, refl, arith, eqb-true, bytes_eq}
 use Rattle.std.proofs.lemmas.Fmt.{digits_value-decimal}
 use Rattle.notation.specs.declared.entry.{Side.Side, Ball.Ball}

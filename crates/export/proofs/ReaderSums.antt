@@ -1,4 +1,4 @@
--- What such readers sum up for batters and bowlers is what the card has.
+-- A reader's sums for batters and bowlers are the figures of the card.
 use Rattle.std.proofs.Common.{◌≡◌, ℕ, ◌+◌, ◌*◌, ◌≤◌, ◌==◌, ◌&&◌, not, cond, if◌then◌else◌, Bool, true, List, [], ◌∷◌, All, Option, Some, refl, ◌∙◌, arith, eqb-true, eq-eqb, bytes_eq, codes}
 use Rattle.std.specs.List.{filter_map, list_all}
 use Rattle.std.proofs.lemmas.Bool.Decides.{nat_tests}
@@ -30,7 +30,7 @@ use Rattle.export.proofs.ReaderLemmas.{debited_read, faced_read, noballs_read, w
 use Rattle.export.proofs.SumLemmas.{sum_read}
 use Rattle.export.proofs.LineLemmas.{AreNamed, bowlers_named, by_players, comers, picked, picked-own, sum_if, strikers_named, takes}
 
--- a value of each delivery that is a number of the ball
+-- a reader's number of each delivery is a number of its ball
 abbrev Reads : Sheet → Side → (Json → ℕ) → (Ball → ℕ) → Type 0
 Reads s side g f = (penalty : ℕ) (early late : List Noted) (ends : Ends) (b : Ball) → b.ran ≤ 20 → g (delivery_of s side penalty early ends b late) ≡ f b
 
@@ -46,13 +46,13 @@ all_by : (p : ℕ) (bs : List Ball) → list_all (bowled_by p) bs ≡ true → c
 all_by p [] e = refl
 all_by p (b ∷ bs) e = grind (arith, all_by p bs)
 
--- of the called overs, those that he bowled alone and the others
+-- a bowler's balls in called overs are those of the overs that he bowled alone and those of the others
 overs_apart : (p : ℕ) (overs : List (List Ball)) → tally (counting_by p) overs
     ≡ tally (λ over. if alone p over then counting over else 0) overs + tally (shared_by p) overs
 overs_apart p [] = refl
 overs_apart p (over ∷ overs) = grind (arith, overs_apart p overs, all_by p over)
 
--- each delivery of an innings is of a called over, or since the last call
+-- each delivery of an innings is in a called over, or after the last call
 by_overs : (h : History) (i p : ℕ) → tally (of_bowler counted_one i p) (deliveries h)
     ≡ tally (counting_by p) (innings_overs h i) + counting_by p (since_call h i)
 by_overs [] i p = refl
@@ -72,7 +72,7 @@ module _ (s : Sheet) (n : ℕ) (book : List Entry) (all : All IsEntry book) (leg
   abbrev h : History
   h = history_of book
 
-  -- what is summed up by the name of a player who has to do with the ball
+  -- sums by the name of a player in the delivery: its batter or its bowler
   module _ (key : List ℕ) (who : Option ℕ → Ball → Option ℕ) (test : ℕ → Bool) (names : List ℕ)
       (told : (penalty : ℕ) (early late : List Noted) (ends : Ends) (b : Ball) →
       is_text name (at key (delivery_of s (side_of h i) penalty early ends b late)) ≡ takes test (who ends.striker b))

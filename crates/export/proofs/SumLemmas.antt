@@ -1,4 +1,4 @@
--- A sum over the deliveries of an export is one over those of the Laws, where each value is read as a number of its ball.
+-- A sum over an export's deliveries is a sum over those of the Laws, where each value is read as a number of its ball.
 use Rattle.std.proofs.Common.{◌≡◌, ℕ, ◌+◌, ◌≤◌, ◌==◌, List, [], ◌∷◌, All, Option, refl, ap, ◌∙◌, arith}
 use Rattle.std.specs.List.{AllByRecursion, flat_map}
 use Rattle.std.proofs.lemmas.List.Elements.{All-append, All-cons, All-filter, All-from_recursion, All-nil, recursion_from_All}
@@ -23,7 +23,7 @@ use Rattle.export.specs.Laws.{deliveries_in, innings_at, noted_items}
 use Rattle.export.proofs.ReadLemmas.{all_listed, elements-of, in_over, overs_all}
 use Rattle.export.proofs.Weights.{delivery_weight, in_innings, noted_weight, weight, weights_so_far}
 
--- ---- the numbers of what stands are in their ranges
+-- ---- the numbers in the items are in their ranges
 
 abbrev IsPlainItem : Placed → Type 0
 IsPlainItem x = IsPlain x.item
@@ -48,7 +48,7 @@ unfolding clean clean_items_of
 clean_plain book all =
     let are = recursion_from_All IsEntry book all in All-filter is_kept IsPlainItem (clean_items_from book 0 book) (items_plain book are 0 book are)
 
--- the same of the items with where they stand
+-- an item noted with where it stands has its numbers in their ranges
 abbrev IsPlainNoted : Noted → Type 0
 IsPlainNoted x = IsPlain x.item
 

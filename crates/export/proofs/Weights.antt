@@ -1,4 +1,4 @@
--- A number of each delivery: its sum over the items of an innings is that over the deliveries of the Laws.
+-- A number of each delivery: its sum over the items of an innings is its sum over the deliveries of the Laws.
 use Rattle.std.proofs.Common.{◌≡◌, ℕ, ◌+◌, ◌==◌, cond, if◌then◌else◌, List, [], ◌∷◌, None, Option, refl, arith}
 use Rattle.std.proofs.lemmas.Bool.Decides.{nat_tests}
 use Rattle.notation.specs.declared.entry.{Ball.Ball, Leave.Leave, Plain.Plain}
@@ -17,7 +17,7 @@ use Rattle.corrections.proofs.ScoringLemmas.{first_refused-cons}
 use Rattle.archive_deliveries.specs.declared.notes.Noted.{Noted}
 use Rattle.archive_deliveries.specs.Notes.{items_in, notes}
 
--- a delivery or a departure stands in the innings that is on
+-- a delivery or a departure belongs to the current innings
 pub ball_here : (n : ℕ) (h : History) (b : Ball) (i : ℕ) → refusal n h (Bowl b) ≡ None → (begun h == i + 1) ≡ (current h == i)
 ball_here n h b i e = grind (arith, nat_tests, current-open h (ball_open n h b e))
 
@@ -25,7 +25,7 @@ pub gone_here : (n : ℕ) (h : History) (way : Leave) (p i : ℕ) → refusal n 
 gone_here n h way p i e = grind (arith, nat_tests, current-open h (gone_open n h way p e))
 
 module _ (w : Option ℕ → Ball → ℕ) where
-  -- the number of an item, where it is a delivery
+  -- the number of an item: w of a delivery, and 0 of any other item
   abbrev pub weight : Plain → Option ℕ → ℕ
   weight (Bowl b) striker = w striker b
   weight _ striker = 0

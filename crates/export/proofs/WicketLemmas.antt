@@ -42,7 +42,7 @@ pub count_append : {X : Type 0} (p : X → Bool) (xs ys : List X) → count_of p
 count_append p [] ys = omega arith
 count_append p (x ∷ xs) ys = grind (arith, count_append p xs ys)
 
--- ---- the wickets that a reader finds of a delivery and takes by a test: those of who went before it or behind it, and its own
+-- ---- the wickets of a delivery that pass a test: departures before or after it, and its own wicket
 
 module _ (takes : Json → Bool) (s : Sheet) (side : Side) (goes : Plain → Bool) (own : Option Out → ℕ)
     (one_gone : (p : Plain) → count_of takes (gone_of s side p) ≡ cond (is_gone p && goes p) 1 0)
@@ -78,7 +78,7 @@ module _ (takes : Json → Bool) (s : Sheet) (side : Side) (goes : Plain → Boo
         elements-of ws,
       )
 
--- ---- those that have fallen
+-- ---- the wickets that have fallen
 
 module _ (s : Sheet) (side : Side) where
   all_fell : (penalty : ℕ) (early late : List Noted) (ends : Ends) (b : Ball)

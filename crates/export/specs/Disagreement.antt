@@ -1,5 +1,5 @@
--- Where the outcome that a sheet's table [info] tells, as the umpires or the league have it, has another winner than the Laws.
--- s is the sheet, whose sides are told apart, and info that table.
+-- The line shown where the outcome in a sheet's table [info], as ruled by the umpires or the league, has another winner than
+-- the Laws. s is the sheet, whose sides are told apart, and info the table [info].
 use Rattle.std.specs.Prelude.{ℕ, Bool, false, true, ◌||◌, if◌then◌else◌, bytes_eq, List, [], ◌++◌, Option, Some, None, is_some, option_and_then, option_map, codes}
 use Rattle.notation.specs.declared.entry.{Entry.Entry, Side.Side}
 use Rattle.match_laws.specs.declared.outcome.Outcome.{Outcome}
@@ -12,7 +12,7 @@ use Rattle.sheet_check.specs.Letters.{shown}
 use Rattle.export.specs.Given.{info_in}
 use Rattle.export.specs.Info.{outcome_at}
 
--- who has won by the Laws, where a side has
+-- the side that has won by the Laws, where one has
 abbrev pub winner_of : Outcome → Option Side
 winner_of (Runs side n) = Some side
 winner_of (Wickets side n) = Some side
@@ -20,16 +20,16 @@ winner_of (InningsAnd side n) = Some side
 winner_of (PenaltyRuns side) = Some side
 winner_of other = None
 
--- the outcome says why it isn't that of the Laws: by a method or an award, by an over or balls after a tie
+-- the outcome says why it may differ from the Laws: a method or an award, or an over or balls after a tie
 abbrev pub says_why : Members → Bool
 says_why info =
     (is_some (outcome_at (codes "method") info) || is_some (outcome_at (codes "eliminator") info)) || is_some (outcome_at (codes "bowl_out") info)
 
--- the text that it has at a key
+-- the text at a key of the outcome
 abbrev pub outcome_text : List ℕ → Members → Option (List ℕ)
 outcome_text key info = option_and_then as_str (outcome_at key info)
 
--- one name, or twice none
+-- two names are equal, or both are missing
 abbrev pub is_same : Option (List ℕ) → Option (List ℕ) → Bool
 is_same None None = true
 is_same (Some a) (Some b) = bytes_eq a b
@@ -39,23 +39,23 @@ abbrev pub winner_words : Option (List ℕ) → List ℕ
 winner_words None = codes "no winner"
 winner_words (Some name) = shown name
 
--- what is told of the winner that the sheet has and of the Laws': nothing, where they are one
+-- the line that names the sheet's winner and the Laws', or nothing where they are the same
 abbrev pub difference : Option (List ℕ) → Option (List ℕ) → List ℕ
 difference told laws =
     if is_same told laws then []
     else codes "sheet: info.outcome says " ++ winner_words told ++ codes ", the Laws say " ++ winner_words laws ++ codes "\n"
 
--- the outcome has a `winner`; or else, by a `result`, it has none; or it tells neither, and differs from nothing
+-- an outcome with a `winner` names it; one with only a `result` has no winner; one with neither never differs
 abbrev pub outcome_difference : Option (List ℕ) → Option (List ℕ) → Option (List ℕ) → List ℕ
 outcome_difference (Some winner) result laws = difference (Some winner) laws
 outcome_difference None (Some result) laws = difference None laws
 outcome_difference None None laws = []
 
--- what is told where the Laws' winner has this name: nothing, where the outcome says why
+-- the line for the name of the Laws' winner: nothing, where the outcome says why it may differ
 abbrev pub disagreement : Members → Option (List ℕ) → List ℕ
 disagreement info laws =
     if says_why info then [] else outcome_difference (outcome_text (codes "winner") info) (outcome_text (codes "result") info) laws
 
--- what is told of a sheet's document and a book
+-- the line for a sheet's document and a book
 abbrev pub disagreement_of : Sheet → Members → List Entry → List ℕ
 disagreement_of s document book = disagreement (info_in document) (option_map (name_of s) (winner_of (outcome s.innings (history_of book))))

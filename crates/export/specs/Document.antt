@@ -1,4 +1,4 @@
--- What a sheet's text is read as for the export: its table, where what it hands on is fine.
+-- How a sheet's text is read for the export: as its table, where its `info` and `meta` are fine.
 use Rattle.std.specs.Prelude.{◌≡◌, ◌⊎◌, ℕ, if◌then◌else◌, List, Result, Ok, Err, String}
 use Rattle.std.specs.BTreeMap.{BTreeMap}
 use Rattle.std.specs.declared.alloc.Global.{Global}
@@ -10,11 +10,11 @@ use Rattle.cards.specs.declared.fault.SheetFault.TheVariants.{NotToml, WrongKind
 use Rattle.cards.specs.Reading.{HasNoTable, HasTable, Reads}
 use Rattle.sheet_check.specs.Handed.{is_fine_document}
 
--- a document that isn't fine has one fault, whichever key has it
+-- a document that isn't fine has one fault, whichever key is wrong
 abbrev pub checked : Members → Result Members SheetFault
 checked ms = if is_fine_document ms then Ok ms else Err WrongKind
 
--- what the bytes of a sheet are read as
+-- the answer for the bytes of a sheet
 abbrev pub IsDocument : List ℕ → Result (BTreeMap (String Global) Value) SheetFault → Type 0
 IsDocument bytes answer =
     (HasNoTable bytes × (answer ≡ Err NotToml))

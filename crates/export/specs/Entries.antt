@@ -6,7 +6,7 @@ use Rattle.notation.specs.Written.{text_of}
 use Rattle.json.specs.Json.{Json}
 use Rattle.json_fields.specs.Values.{Field, array_of, object_of, text_field, number_field, number_value, up_to}
 
--- place k, where the entry there is a `fix` of place p
+-- place k, where the entry at k is a `fix` of place p
 abbrev pub fix_at : ℕ → ℕ → Option Entry → List Json
 fix_at p k (Some (Fix q x)) = if q == p then number_value k ∷ [] else []
 fix_at p k _ = []

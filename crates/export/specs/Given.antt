@@ -1,4 +1,4 @@
--- What a sheet's table [info] hands on: each value of TOML as one of JSON.
+-- What the export copies from a sheet's table [info]: each TOML value as a JSON value.
 use Rattle.std.specs.Prelude.{◌≡◌, ℕ, Bool, ◌||◌, if◌then◌else◌, bytes_eq, List, [], ◌∷◌, Option, Some, None, option_and_then, Float, codes}
 use Rattle.std.specs.Bool.{MatchBool}
 use Rattle.std.specs.Float.{binary64, float_is_finite}
@@ -11,13 +11,13 @@ use Rattle.json.specs.Json.{Json, null, boolean, number, string}
 use Rattle.json.specs.Print.{IsNumber}
 use Rattle.json_fields.specs.Values.{Field, array_of, object_of}
 
--- a number of JSON that reads as the float: null, where it is no number or infinite, since JSON has none of these
+-- a JSON number that reads as the float, or null for an infinite float or NaN, which JSON lacks
 abbrev pub IsFloatOf : Float → Json → Type 0
 IsFloatOf x v =
     MatchBool (float_is_finite x) ((text : List ℕ) × (v ≡ number text) × IsNumber text × (parse_float binary64 text ≡ Some x))
     (v ≡ null)
 
--- the value of JSON for one of TOML: a date or a time is its text
+-- the JSON value for a TOML value: a date or a time becomes its text
 abbrev mutual
   pub IsValueOf : Data → Json → Type 0
   IsValueOf (toml.string text) v = v ≡ string text
@@ -42,7 +42,7 @@ is_own key =
     ((bytes_eq key (codes "teams") || bytes_eq key (codes "players")) || bytes_eq key (codes "balls_per_over"))
     || bytes_eq key (codes "outcome")
 
--- the members under other keys
+-- the members whose keys aren't the export's own
 abbrev pub others : Members → Members
 others no_members = no_members
 others (member key d ms) = if is_own key then others ms else member key d (others ms)
@@ -51,7 +51,7 @@ others (member key d ms) = if is_own key then others ms else member key d (other
 abbrev pub table_in : List ℕ → Members → Option Members
 table_in key document = option_and_then as_table (get_member key document)
 
--- the members of a table: none, where there is no such table
+-- the members of a table: none, where there is no table
 abbrev pub members_or_none : Option Members → Members
 members_or_none None = no_members
 members_or_none (Some ms) = ms
@@ -60,7 +60,7 @@ members_or_none (Some ms) = ms
 abbrev pub info_in : Members → Members
 info_in document = members_or_none (table_in (codes "info") document)
 
--- the fields that a sheet's document hands on
+-- given are the fields copied from a sheet's document
 abbrev pub HandsOn : Members → List Field → Type 0
 HandsOn document given = AreFieldsOf (others (info_in document)) given
 
@@ -70,10 +70,10 @@ abbrev pub ruling : Option Data → Members
 ruling None = no_members
 ruling (Some d) = member (codes "outcome") d no_members
 
--- the outcome that the members of [info] tell
+-- the `outcome` among the members of [info]
 abbrev pub ruled : Members → Members
 ruled info = ruling (get_member (codes "outcome") info)
 
--- that of a sheet's document, in a field, where it tells one
+-- told is the field of the outcome in a sheet's [info], where there is one
 abbrev pub IsRuled : Members → List Field → Type 0
 IsRuled document told = AreFieldsOf (ruled (info_in document)) told

@@ -1,4 +1,4 @@
--- What is said of the match. s is the sheet, info its table [info], and given what that hands on.
+-- The export's `info`: facts about the match. s is the sheet, info its table [info], and given the fields copied from info.
 use Rattle.std.specs.Prelude.{ℕ, ◌+◌, Bool, false, if◌then◌else◌, bytes_eq, List, [], ◌∷◌, ◌++◌, Option, Some, None, option_and_then, codes}
 use Rattle.std.specs.List.{list_any}
 use Rattle.notation.specs.declared.entry.Side.{Side}
@@ -20,11 +20,11 @@ event_field s = (codes "event", object_of (text_field (codes "name") s.title ∷
 abbrev pub has_event : List Field → Bool
 has_event given = list_any (λ f. bytes_eq (codes "event") f.0) given
 
--- the title as the event, unless one is handed on
+-- the title as the event, unless an event is copied from [info]
 abbrev pub event_fields : Sheet → List Field → List Field
 event_fields s given = if has_event given then [] else event_field s ∷ []
 
--- how many overs an innings has, where the sheet limits them: the first one's
+-- how many overs an innings has, where they are limited
 abbrev pub overs_told : Option ℕ → List Field
 overs_told None = []
 overs_told (Some n) = number_field (codes "overs") n ∷ []
@@ -32,7 +32,7 @@ overs_told (Some n) = number_field (codes "overs") n ∷ []
 abbrev pub has_overs : List Field → Bool
 has_overs given = list_any (λ f. bytes_eq (codes "overs") f.0) given
 
--- unless the sheet's table [info] tells it
+-- how many overs the first innings has, unless overs are copied from [info]
 abbrev pub overs_fields : Sheet → List Field → List Field
 overs_fields s given = if has_overs given then [] else overs_told (overs_for s.limits 0)
 
@@ -56,24 +56,24 @@ team_field s side = (name_of s side, array_of (names_of s side))
 abbrev pub players_field : Sheet → Field
 players_field s = (codes "players", object_of (team_field s Home ∷ [] ++ team_field s Away ∷ []))
 
--- by so many runs or wickets
+-- the margin of a win by n runs or wickets
 abbrev pub margin_field : List ℕ → ℕ → Field
 margin_field unit n = (codes "by", object_of (number_field unit n ∷ []))
 
--- by an innings and so many runs
+-- the margin of a win by an innings and n runs
 abbrev pub innings_margin : ℕ → Field
 innings_margin n =
     (codes "by", object_of (number_field (codes "runs") n ∷ [] ++ number_field (codes "innings") 1 ∷ []))
 
--- by a method that is no play
+-- a method of winning other than by runs or wickets
 abbrev pub method_field : List ℕ → Field
 method_field method = text_field (codes "method") method
 
--- a side has won, with this told of how
+-- a side has won, with a field for how
 abbrev pub win_field : Sheet → Side → Field → Field
 win_field s side how = (codes "outcome", object_of (text_field (codes "winner") (name_of s side) ∷ [] ++ how ∷ []))
 
--- no side has won
+-- a result without a winner
 abbrev pub result_field : List ℕ → Field
 result_field word = (codes "outcome", object_of (text_field (codes "result") word ∷ []))
 
@@ -81,15 +81,15 @@ abbrev pub is_text : List ℕ → Option Data → Bool
 is_text word (Some (text told)) = bytes_eq told word
 is_text word _ = false
 
--- what the `outcome` of the table [info] has at a key
+-- the value at a key of the `outcome` in the table [info]
 abbrev pub outcome_at : List ℕ → Members → Option Data
 outcome_at key info = option_and_then (get_member key) (table_in (codes "outcome") info)
 
--- its `result` is that there is none
+-- the outcome's `result` is "no result"
 abbrev pub has_no_result : Members → Bool
 has_no_result info = is_text (codes "no result") (outcome_at (codes "result") info)
 
--- the result of a match that was closed before it was decided: a draw, unless the sheet knows better
+-- the result of a match that was closed before it was decided: a draw, unless the sheet says "no result"
 abbrev pub closed_word : Members → List ℕ
 closed_word info = if has_no_result info then codes "no result" else codes "draw"
 
@@ -103,7 +103,7 @@ outcome_fields s info (Wickets side n) = win_field s side (margin_field (codes "
 outcome_fields s info (InningsAnd side n) = win_field s side (innings_margin n) ∷ []
 outcome_fields s info (PenaltyRuns side) = win_field s side (method_field (codes "penalty runs")) ∷ []
 
--- the event, the overs of an innings, sides and players, how the match stands, and what is handed on
+-- the event, the overs of an innings, the sides, the players, balls an over, the outcome, and the fields copied from [info]
 abbrev pub info_of : Sheet → History → Members → List Field → Json
 info_of s h info given =
     object_of (head_fields s given

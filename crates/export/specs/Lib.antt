@@ -1,5 +1,5 @@
--- What the public calls claim: Value with all that it cites (Innings, Document, Given, Meta, Info, Limited, Falls, Entries,
--- Escapes), Disagreement, Laws and Readers. inner: for private functions only.
+-- What the public functions claim: Value with all that it cites (Innings, Document, Given, Meta, Info, Limited, Falls, Entries,
+-- Escapes), Disagreement, Laws and Readers. inner: for private functions and proofs only.
 pub mod Innings
 pub mod Disagreement
 pub mod Document

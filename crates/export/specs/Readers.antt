@@ -1,5 +1,5 @@
--- What an export tells of its players, in a reader's words: what such readers sum up by the names in its deliveries. h is
--- the history, i the innings, and p a player.
+-- What a reader of an export sums up for its players, by the names in its deliveries. h is the history, i the innings, and
+-- p a player.
 use Rattle.std.specs.Prelude.{◌≡◌, ℕ, ◌+◌, ◌*◌, ◌==◌, nat_lt, Bool, true, false, not, ◌&&◌, bytes_eq, if◌then◌else◌, List, [], ◌∷◌, codes}
 use Rattle.std.specs.List.{list_any}
 use Rattle.std.specs.Str.Parse.{digits_value}
@@ -17,9 +17,9 @@ use Rattle.cards.specs.Sheet.{Sheet, player_of}
 use Rattle.json.specs.Json.{Json, boolean, number}
 use Rattle.export.specs.Laws.{at, deliveries_in, innings_at, is_text, wickets_of}
 
--- ---- what such a reader takes of a delivery
+-- ---- what a reader takes from a delivery
 
--- the number that stands there: 0, where none does
+-- a JSON number's value: 0, where the value is no number
 abbrev pub number_in : Json → ℕ
 number_in (number text) = digits_value 10 text
 number_in _ = 0
@@ -37,24 +37,24 @@ wides_in delivery = number_in (at (codes "wides") (at (codes "extras") delivery)
 abbrev pub noballs_in : Json → ℕ
 noballs_in delivery = number_in (at (codes "noballs") (at (codes "extras") delivery))
 
--- a ball that the batter faced: no wide
+-- 1 for a ball that the batter faced, which is any but a wide
 abbrev pub faced_in : Json → ℕ
 faced_in delivery = one_if (wides_in delivery == 0)
 
--- a ball of the bowler's: neither a wide nor a no-ball
+-- 1 for a ball that counts for the bowler: neither a wide nor a no-ball
 abbrev pub bowled_in : Json → ℕ
 bowled_in delivery = one_if ((wides_in delivery == 0) && (noballs_in delivery == 0))
 
--- n runs off the bat that aren't told to be no boundary
+-- 1 for n runs off the bat that aren't marked as no boundary
 abbrev pub boundary_in : ℕ → Json → ℕ
 boundary_in n delivery =
     one_if ((bat_runs delivery == n) && not (is_set (at (codes "non_boundary") (at (codes "runs") delivery))))
 
--- what is debited to the bowler: all runs but byes, leg byes and penalty runs
+-- the runs debited to the bowler: all but byes, leg byes and penalty runs
 abbrev pub debited_in : Json → ℕ
 debited_in delivery = bat_runs delivery + wides_in delivery + noballs_in delivery
 
--- the kinds of wickets of which a bowler has credit
+-- the kinds of wickets that are credited to the bowler
 abbrev pub credited_kinds : List (List ℕ)
 credited_kinds =
     codes "bowled" ∷ codes "caught" ∷ codes "caught and bowled" ∷ codes "lbw" ∷ codes "stumped" ∷ codes "hit wicket" ∷ []
@@ -65,15 +65,15 @@ is_credited wicket = list_any (λ kind. is_text kind (at (codes "kind") wicket))
 abbrev pub credited_in : Json → ℕ
 credited_in delivery = count_of is_credited (wickets_of delivery)
 
--- a number of each delivery that has this name under the key, summed up
+-- the sum of a number over the deliveries that have this name at the key
 abbrev pub summed : List ℕ → (Json → ℕ) → List ℕ → Json → ℕ
 summed key f name innings =
     tally (λ delivery. if is_text name (at key delivery) then f delivery else 0) (deliveries_in innings)
 
--- ---- what a card has that such a reader doesn't see, and the other way round
+-- ---- what a card has that a reader doesn't see, and the other way round
 
--- a four for which more than four were run, and a six for which more than six were, count what was run: so they aren't told
--- from runs
+-- a four on which more than four were run, and a six on which more than six were, count what was run: so a reader can't tell
+-- them from runs
 abbrev pub four_outrun : Ball → ℕ
 four_outrun b = one_if (is_struck b.kind && (is_four b.bound && nat_lt 4 b.ran))
 
@@ -86,20 +86,20 @@ fours_outrun h i p = tally (of_striker four_outrun i p) (deliveries h)
 abbrev pub sixes_outrun : History → ℕ → ℕ → ℕ
 sixes_outrun h i p = tally (of_striker six_outrun i p) (deliveries h)
 
--- a ball that is ruled dead doesn't count in the over, but no delivery tells it
+-- a ball that is ruled dead doesn't count in the over, but no delivery shows that it was dead
 abbrev pub dead_ball : Ball → ℕ
 dead_ball b = one_if (b.dead && not (is_wide_or_no_ball b.kind))
 
 abbrev pub dead_balls : History → ℕ → ℕ → ℕ
 dead_balls h i p = tally (of_bowler dead_ball i p) (deliveries h)
 
--- the balls that count of the called overs that he bowled alone, of which a card has the number
+-- the balls that count in the called overs that p bowled alone; a card has the number of these overs
 abbrev pub over_balls : History → ℕ → ℕ → ℕ
 over_balls h i p = tally (λ over. if alone p over then counting over else 0) (innings_overs h i)
 
 -- ---- the laws
 
--- a figure of the card's players of this name, summed up
+-- the sum of a figure over the card's players of this name
 abbrev pub of_name : Sheet → Side → List ℕ → List ℕ → (ℕ → ℕ) → ℕ
 of_name s side name order figure = tally (λ p. if bytes_eq name (player_of s side p) then figure p else 0) order
 
@@ -109,14 +109,15 @@ of_batters s h i name figure = of_name s (side_of h i) name (batting_order h i) 
 abbrev pub of_bowlers : Sheet → History → ℕ → List ℕ → (History → ℕ → ℕ → ℕ) → ℕ
 of_bowlers s h i name figure = of_name s (opponent (side_of h i)) name (bowling_order h i) (figure h i)
 
--- what is summed up for a batter's name, and what the card has
+-- the sums for a batter's name are the figures of the card
 pub record BatterAddsUp (s : Sheet) (h : History) (i : ℕ) (innings : Json) (name : List ℕ) : Type 0 where
   pub runs : summed (codes "batter") bat_runs name innings ≡ of_batters s h i name batter_runs
   pub balls : summed (codes "batter") faced_in name innings ≡ of_batters s h i name faced
   pub fours : summed (codes "batter") (boundary_in 4) name innings + of_batters s h i name fours_outrun ≡ of_batters s h i name fours
   pub sixes : summed (codes "batter") (boundary_in 6) name innings + of_batters s h i name sixes_outrun ≡ of_batters s h i name sixes
 
--- the same for a bowler's: his balls are those of the overs that he bowled alone, his balls of other overs, and dead ones
+-- the sums for a bowler's name are the figures of the card: his balls are those of the overs that he bowled alone, his balls
+-- in other overs, and dead balls
 pub record BowlerAddsUp (s : Sheet) (h : History) (i : ℕ) (innings : Json) (name : List ℕ) : Type 0 where
   pub balls : summed (codes "bowler") bowled_in name innings
       ≡ of_bowlers s h i name over_balls + of_bowlers s h i name bowler_balls + of_bowlers s h i name dead_balls
@@ -133,7 +134,7 @@ abbrev pub BowlersAddUp : Sheet → List Entry → Type 0
 BowlersAddUp s book =
     (i : ℕ) (name : List ℕ) → BowlerAddsUp s (history_of book) i (innings_at s book i) name
 
--- where each over was of six, the called overs that he bowled alone have six balls each
+-- where each over had six balls, so has each of the called overs that p bowled alone
 abbrev pub OversAreSixes : History → Type 0
 OversAreSixes h = (i p : ℕ) → odd_overs h i ≡ 0 → over_balls h i p ≡ 6 * bowler_overs h i p
 
@@ -142,7 +143,7 @@ pub record HasOwnName (s : Sheet) (side : Side) (order : List ℕ) (p : ℕ) : T
   pub listed : list_any (λ q. q == p) order ≡ true
   pub own : (q : ℕ) → list_any (λ r. r == q) order ≡ true → player_of s side q ≡ player_of s side p → q ≡ p
 
--- then what a card's players of his name have is what he has
+-- where p has his own name, the sum over the card's players of that name is his own figure
 pub record NamesTellPlayers (s : Sheet) (h : History) (i p : ℕ) (figure : History → ℕ → ℕ → ℕ) : Type 0 where
   pub batters : HasOwnName s (side_of h i) (batting_order h i) p → of_batters s h i (player_of s (side_of h i) p) figure ≡ figure h i p
   pub bowlers : HasOwnName s (opponent (side_of h i)) (bowling_order h i) p → of_bowlers s h i (player_of s (opponent (side_of h i)) p) figure ≡ figure h i p

@@ -1,5 +1,5 @@
--- The book of a match as one JSON value. s is the sheet, document the table that its text is, given what the table [info]
--- of that hands on, and told the outcome that it tells.
+-- The book of a match as one JSON value. s is the sheet, document the table of its text, given the fields copied from the
+-- document's table [info], and told the outcome in [info].
 use Rattle.std.specs.Prelude.{◌≡◌, ℕ, ◌^◌, Bool, nat_le, if◌then◌else◌, List, [], ◌∷◌, ◌++◌, codes, decimal}
 use Rattle.notation.specs.declared.entry.Entry.{Entry}
 use Rattle.corrections.specs.CleanList.{clean, history_of}
@@ -19,19 +19,19 @@ use Rattle.export.specs.Innings.{innings_field}
 use Rattle.export.specs.Entries.{book_field}
 use Rattle.export.specs.Escapes.{shown}
 
--- every reader has a number up to 2^53 as it is: many have gaps behind that
+-- every JSON reader reads numbers up to 2^53 exactly; many round larger numbers
 abbrev pub is_exact : ℕ → Bool
 is_exact n = nat_le n (2 ^ 53)
 
--- the match's number: where it isn't exact its text
+-- the match's number, as text where it isn't exact
 abbrev pub game_field : ℕ → Field
 game_field n = if is_exact n then number_field (codes "match_number") n else text_field (codes "match_number") (decimal n)
 
--- the title, where an event is handed on, which takes its place under `info`
+-- the title, only where an event is copied from [info], which then stands under `info` instead
 abbrev pub title_fields : Sheet → List Field → List Field
 title_fields s given = if has_event given then text_field (codes "title") s.title ∷ [] else []
 
--- what else is on the sheet
+-- the rest of the sheet: title, match number, innings a side and limits
 abbrev pub sheet_fields : Sheet → List Field → List Field
 sheet_fields s given =
     title_fields s given
@@ -39,7 +39,7 @@ sheet_fields s given =
     ++ number_field (codes "innings_a_side") s.innings ∷ []
     ++ limits_field s.limits
 
--- what the format of archives can't hold: the rest of the sheet, an outcome that it tells beside that of the Laws, the falls of
+-- what the archive format can't hold: the rest of the sheet, the sheet's outcome beside that of the Laws, the falls of
 -- wickets, and each entry as it was penned
 abbrev pub own_field : Sheet → List Field → List Field → List Entry → Field
 own_field s given told book = (
@@ -58,7 +58,7 @@ export_of s document given told book =
     ++ innings_field s (history_of book) (notes [] (clean book)) ∷ []
     ++ own_field s given told book ∷ [])
 
--- the value of a book by a sheet and its document, as the library lays it out
+-- the JSON value of a book, by its sheet and document, as the json library lays it out
 pub record IsLaidOut (s : Sheet) (document : Members) (book : List Entry) (text : List ℕ) : Type 0 where
   pub given : List Field
   pub hands_on : HandsOn document given
@@ -66,7 +66,7 @@ pub record IsLaidOut (s : Sheet) (document : Members) (book : List Entry) (text 
   pub ruled : IsRuled document told
   pub written : text ≡ pretty (json_tokens (export_of s document given told book))
 
--- that text, with what a terminal obeys in it escaped
+-- the laid-out text, with the characters escaped that a terminal obeys
 pub record IsExport (s : Sheet) (document : Members) (book : List Entry) (text : List ℕ) : Type 0 where
   pub laid : List ℕ
   pub laid_out : IsLaidOut s document book laid

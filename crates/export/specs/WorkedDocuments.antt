@@ -1,4 +1,4 @@
--- Worked documents of sheets: what is said of the file, and what is refused.
+-- Worked documents of sheets: what `meta` says, which documents are refused, and which outcomes are "no result".
 use Rattle.std.specs.Prelude.{◌≡◌, ℕ, true, false, pos, negsuc, List, [], ◌∷◌, Some, None, codes}
 use Rattle.toml.specs.Data.{Data, Members, no_members, member, datetime, string, integer, table}
 use Rattle.toml_datetime.specs.declared.datetime.{Date.Date, Time.Time}
@@ -14,7 +14,7 @@ with_key key d = member key d no_members
 abbrev pub with_meta : List ℕ → Data → Members
 with_meta key d = with_key (codes "meta") (table (with_key key d))
 
--- whose `created` is a text, and whose `revision` is a number
+-- a document whose `created` is a text
 abbrev pub dated : List ℕ → Members
 dated text = with_meta (codes "created") (string text)
 

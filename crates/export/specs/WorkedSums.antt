@@ -1,4 +1,4 @@
--- Worked sums: what the definitions give for two books, computed.
+-- Worked sums: what the definitions give for two books.
 use Rattle.std.specs.Prelude.{◌≡◌, ℕ, true, List, [], ◌∷◌, map, codes}
 use Rattle.notation.specs.declared.entry.Side.TheVariants.{Home}
 use Rattle.notation.specs.declared.entry.Kind.TheVariants.{Bat, Bye, Leg, Wide, Nb}
@@ -34,7 +34,7 @@ abbrev pub bowler_sums : List Entry → List ℕ → List ℕ
 bowler_sums book name =
     map (λ f. summed (codes "bowler") f name (first_innings book)) (bowled_in ∷ debited_in ∷ credited_in ∷ wides_in ∷ noballs_in ∷ [])
 
--- what stands under a key of each fall
+-- the value at a key of each fall
 abbrev pub of_falls : List ℕ → List Entry → List Json
 of_falls key book = map (at key) (falls_of (plain_sheet 0 1) (history_of book) 0)
 
@@ -63,7 +63,8 @@ two_overs =
     ∷ Fix 3 (Bowl (ball 7 Bat 2))
     ∷ []
 
--- a four for which five were run, six with an overthrow, a ball ruled dead with penalty runs behind it, and an over of five
+-- a four on which five were run, six runs with an overthrow, seven run on a six, a dead ball with penalty runs after it, and
+-- an over of five
 abbrev pub odd_balls : List Entry
 odd_balls =
     Write (Innings Home) ∷ Write (Come 1) ∷ Write (Come 2)

@@ -1,4 +1,4 @@
-//! Where the outcome of a sheet's table `[info]` has another winner than the Laws.
+//! The line shown where the outcome in a sheet's table `[info]` has another winner than the Laws.
 
 ghost use Rattle.std.specs.Prelude.{◌≡◌, option_map, string_bytes, IfOk};
 ghost use Rattle.match_laws.specs.Result.{outcome};
@@ -19,7 +19,7 @@ use sheet_check::shown;
 use std::alloc::{AllocError, Global};
 use toml::Table;
 
-/// The side that has won by the Laws, where one has.
+/// Returns the side that has won by the Laws, where one has.
 fn winner_of(outcome: Outcome) -> Option<Side>
     ensures { result ≡ laws.winner_of outcome }
 {
@@ -32,7 +32,7 @@ fn winner_of(outcome: Outcome) -> Option<Side>
     }
 }
 
-/// The name of a side, where there is one.
+/// Returns the winner's name, where there is a winner.
 fn name_of<'a>(sheet: &'a NamedSheet<'_>, winner: Option<Side>) -> Option<&'a str>
     ensures { option_map (λ name. name.now) result ≡ option_map (name_of sheet.now) winner }
 {
@@ -42,7 +42,7 @@ fn name_of<'a>(sheet: &'a NamedSheet<'_>, winner: Option<Side>) -> Option<&'a st
     }
 }
 
-/// The name of the side that has won by the Laws, where one has.
+/// Returns the name of the side that has won by the Laws, where one has.
 fn winner_in<'a>(sheet: &'a NamedSheet<'_>, score: &Match) -> Option<&'a str>
     ensures { ForEachHistory score.now (λ n h. option_map (λ name. name.now) result
         ≡ option_map (name_of sheet.now) (laws.winner_of (outcome n h))) }
@@ -50,7 +50,7 @@ fn winner_in<'a>(sheet: &'a NamedSheet<'_>, score: &Match) -> Option<&'a str>
     name_of(sheet, winner_of(score.result()))
 }
 
-/// Whether the outcome says why it isn't that of the Laws.
+/// Whether the outcome says why it may differ from the Laws: it has a `method`, an `eliminator` or a `bowl_out`.
 fn says_why(info: &Table) -> bool
     ensures { result ≡ laws.says_why (table_view info.now) }
 {
@@ -59,7 +59,7 @@ fn says_why(info: &Table) -> bool
         || outcome_at(info, "bowl_out").is_some()
 }
 
-/// The text that the outcome has at a key.
+/// Returns the text at a key of the outcome, where there is one.
 fn outcome_text<'a>(info: &'a Table, key: &str) -> Option<&'a str>
     ensures { option_map (λ text. text.now) result ≡ laws.outcome_text key.now (table_view info.now) }
 {
@@ -69,7 +69,7 @@ fn outcome_text<'a>(info: &'a Table, key: &str) -> Option<&'a str>
     }
 }
 
-/// Whether these are one name, or both none.
+/// Whether two names are equal, or both are missing.
 fn is_same(a: Option<&str>, b: Option<&str>) -> bool
     ensures { result ≡ laws.is_same (option_map (λ text. text.now) a.entry) (option_map (λ text. text.now) b.entry) }
 {
@@ -80,7 +80,7 @@ fn is_same(a: Option<&str>, b: Option<&str>) -> bool
     }
 }
 
-/// The name of a winner as it is told, or that there is none.
+/// Returns a winner's name as it is shown, or "no winner".
 fn winner_words(alloc: Global, name: Option<&str>) -> Result<String, AllocError>
     ensures { IfOk result (λ words. string_bytes words ≡ laws.winner_words (option_map (λ text. text.now) name.entry)) }
 {
@@ -90,7 +90,7 @@ fn winner_words(alloc: Global, name: Option<&str>) -> Result<String, AllocError>
     }
 }
 
-/// What is told of the winner that the sheet has and of the Laws': without a byte, where they are one.
+/// Returns the line that names the sheet's winner and the Laws', or an empty text where they are the same.
 fn difference(alloc: Global, told: Option<&str>, winner: Option<&str>) -> Result<String, AllocError>
     ensures { IfOk result (λ words. string_bytes words
         ≡ laws.difference (option_map (λ text. text.now) told.entry) (option_map (λ text. text.now) winner.entry)) }
@@ -108,7 +108,8 @@ fn difference(alloc: Global, told: Option<&str>, winner: Option<&str>) -> Result
     Ok(words)
 }
 
-/// What is told where the Laws' winner has this name.
+/// Returns the line for a sheet's `[info]` and the name of the Laws' winner. It is empty where the outcome says why it
+/// may differ, or has neither a `winner` nor a `result`.
 fn disagreement(alloc: Global, info: &Table, winner: Option<&str>) -> Result<String, AllocError>
     ensures { IfOk result (λ words. string_bytes words
         ≡ laws.disagreement (table_view info.now) (option_map (λ text. text.now) winner.entry)) }
@@ -123,8 +124,8 @@ fn disagreement(alloc: Global, info: &Table, winner: Option<&str>) -> Result<Str
     }
 }
 
-/// The line that is told of a sheet's document and a book, where the outcome that the document tells has another winner than the
-/// Laws, and says no method by which: without a byte otherwise.
+/// Returns the line for a sheet's document and a book where the document's outcome has another winner than the Laws and gives
+/// no `method`, `eliminator` or `bowl_out`. It is empty otherwise.
 pub fn disagreement_of<B: BookOf>(
     alloc: Global,
     sheet: &MatchSheet,

@@ -1,4 +1,4 @@
-//! The document of a match sheet.
+//! The TOML document of a match sheet.
 
 ghost use Rattle.std.specs.Prelude.{◌≡◌, ◌≢◌, Err};
 ghost use Rattle.toml.specs.View.{table_view};
@@ -11,7 +11,7 @@ use sheet_check::is_fine_document;
 use std::alloc::Global;
 use toml::Table;
 
-/// The table of a text, where what the export hands on of it can be.
+/// Returns a sheet's table, or `WrongKind` where its `info` or `meta` can't stand in an export.
 fn checked(table: Table) -> Result<Table, SheetFault>
     ensures { Reads table_view result (reads.checked (table_view table)) }
 {
@@ -22,8 +22,8 @@ fn checked(table: Table) -> Result<Table, SheetFault>
     }
 }
 
-/// Reads a sheet's text as TOML, for what the export hands on. An `info` or a `meta` that is no table is refused, and in
-/// `[meta]` a `created` that is no day and a `revision` that is no whole number from 1 on.
+/// Reads a sheet's text as TOML, for the export. Refuses text that isn't TOML, and as `WrongKind` an `info` or a `meta` that
+/// isn't a table, and in `[meta]` a `created` that isn't a day or a `revision` that isn't a whole number from 1 on.
 pub fn document_of(alloc: Global, text: &[u8]) -> Result<Table, SheetFault>
     ensures { result ≢ Err SheetFault.NoMemory → IsDocument text.now result }
 {

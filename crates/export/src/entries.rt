@@ -14,7 +14,7 @@ use json_fields::{
 use notation::{Entry, line_of};
 use std::alloc::{AllocError, Global};
 
-/// Puts the place of an entry, where it corrects another place.
+/// Puts the place `at` of an entry, where the entry corrects `place`.
 fn put_fix(out: &mut Pretty, place: u32, at: u32, entry: &Entry) -> Result<(), AllocError>
     ensures { PutsValues result out.old out.new (laws.fix_at place at (Some entry.now)) }
 {
@@ -24,7 +24,7 @@ fn put_fix(out: &mut Pretty, place: u32, at: u32, entry: &Entry) -> Result<(), A
     }
 }
 
-/// The places of a book's corrections: all that is looked at for what corrects a place.
+/// Returns the places of all corrections in a book: only these need be searched for what corrects a place.
 fn corrections_of<B: BookOf>(alloc: Global, book: &B) -> Result<Vec<u32>, AllocError>
     ensures { IfOk result (λ places. places.items ≡ fix_places (B.content book.now) (length (B.content book.now))) }
 {
@@ -37,7 +37,7 @@ fn corrections_of<B: BookOf>(alloc: Global, book: &B) -> Result<Vec<u32>, AllocE
     Ok(places)
 }
 
-/// Puts the places of the entries that correct a place, by the places of all corrections.
+/// Puts the places of the entries that correct a place; `corrections` are the places of all corrections.
 fn put_fixes<B: BookOf>(
     out: &mut Pretty,
     book: &B,
@@ -53,7 +53,7 @@ fn put_fixes<B: BookOf>(
     Ok(())
 }
 
-/// Puts the field of the places that correct a place.
+/// Puts the field of the places of the entries that correct a place.
 fn put_fixes_field<B: BookOf>(
     out: &mut Pretty,
     book: &B,
@@ -78,7 +78,7 @@ fn put_line(out: &mut Pretty, entry: &Entry) -> Result<(), AllocError>
     put_text(out, "line", line.as_str())
 }
 
-/// Puts an entry with its place.
+/// Puts an entry: its place, its line, and the places of its corrections.
 fn put_entry<B: BookOf>(
     out: &mut Pretty,
     book: &B,

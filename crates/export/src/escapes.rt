@@ -1,4 +1,4 @@
-//! The characters of an export's text that stand as JSON's escapes.
+//! The characters that an export writes as JSON escapes.
 
 ghost use Rattle.std.specs.Prelude.{◌≡◌, ◌<◌, ◌∷◌, [], ◌++◌, string_bytes, IfOk, OnOk, nat_lt};
 ghost use Rattle.std.specs.Char.{digit_char};
@@ -9,14 +9,14 @@ ghost use Rattle.export.specs.Escapes as escapes;
 use memchr::memchr;
 use std::alloc::{AllocError, Global};
 
-/// Whether a character's number is one of these.
+/// Whether a character's code is from `low` to `high`, both included.
 fn is_within(low: u32, high: u32, code: u32) -> bool
     ensures { result ≡ is_in_range low high code }
 {
     low <= code && code <= high
 }
 
-/// Whether a terminal obeys a character, or it turns or breaks the line in which it is shown.
+/// Whether a terminal obeys a character, or the character turns or breaks the line in which it is shown.
 fn is_obeyed(letter: char) -> bool
     ensures { result ≡ escapes.is_obeyed letter }
 {
@@ -27,7 +27,7 @@ fn is_obeyed(letter: char) -> bool
         || is_within(0x2060, 0x206f, code)
 }
 
-/// Puts a hex digit behind a text.
+/// Appends a hex digit to a text.
 fn push_digit(out: &mut String, digit: u32) -> Result<(), AllocError>
     requires { digit < 16 }
     ensures { OnOk result (string_bytes out.new ≡ string_bytes out.old ++ digit_char digit ∷ []) }
@@ -36,7 +36,7 @@ fn push_digit(out: &mut String, digit: u32) -> Result<(), AllocError>
     out.push(letter)
 }
 
-/// Puts the escape of a character behind a text, by its number, which is below 65,536.
+/// Appends the escape of a character to a text, by the character's code, which is below 65,536.
 fn push_escape(out: &mut String, code: u32) -> Result<(), AllocError>
     ensures { OnOk result (string_bytes out.new ≡ string_bytes out.old ++ escapes.escape_of code) }
 {
@@ -47,7 +47,7 @@ fn push_escape(out: &mut String, code: u32) -> Result<(), AllocError>
     push_digit(out, code % 16)
 }
 
-/// Puts a character, or its escape, behind a text.
+/// Appends a character to a text, or its escape where `is_obeyed` says so.
 fn push_shown(out: &mut String, letter: char) -> Result<(), AllocError>
     ensures { OnOk result (string_bytes out.new ≡ string_bytes out.old ++ escapes.shown_char letter) }
 {
@@ -58,7 +58,7 @@ fn push_shown(out: &mut String, letter: char) -> Result<(), AllocError>
     }
 }
 
-/// Whether each byte of a text stands before DEL: such a text stays as it is.
+/// Whether each byte of a text is below DEL (0x7f): such a text needs no escapes.
 fn is_below_del(text: &str) -> bool
     ensures { result ≡ list_all (λ byte. nat_lt byte 0x7f) text.now }
 {
@@ -69,7 +69,7 @@ fn is_below_del(text: &str) -> bool
     }
 }
 
-/// Puts a text behind another one, its characters one by one.
+/// Appends a text to another, escaping it character by character.
 fn push_letters(out: &mut String, text: &str) -> Result<(), AllocError>
     ensures { OnOk result (string_bytes out.new ≡ string_bytes out.old ++ escapes.shown text.now) }
 {
@@ -79,7 +79,7 @@ fn push_letters(out: &mut String, text: &str) -> Result<(), AllocError>
     Ok(())
 }
 
-/// Puts a text behind another one, at once where it stays as it is.
+/// Appends a text to another, escaped; a text that needs no escapes is appended in one go.
 fn push_text(out: &mut String, text: &str) -> Result<(), AllocError>
     ensures { OnOk result (string_bytes out.new ≡ string_bytes out.old ++ escapes.shown text.now) }
 {
@@ -90,7 +90,7 @@ fn push_text(out: &mut String, text: &str) -> Result<(), AllocError>
     }
 }
 
-/// A text with its characters that a terminal obeys, or that turn or break a line, escaped.
+/// Returns a text with those characters escaped that a terminal obeys, or that turn or break a line.
 pub fn shown(alloc: Global, text: &str) -> Result<String, AllocError>
     ensures { IfOk result (λ shown. string_bytes shown ≡ escapes.shown text.now) }
 {

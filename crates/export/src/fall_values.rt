@@ -16,7 +16,7 @@ use match_laws::{Fall, Match};
 use notation::{Player, Side};
 use std::alloc::{AllocError, Global};
 
-/// The fall at an index, where there is one.
+/// Returns the fall at an index, where there is one.
 fn fall_there(there: &[FallAt], index: usize) -> Option<FallAt>
     ensures { result ≡ slice_get there.now index }
 {
@@ -34,14 +34,14 @@ fn put_overs(alloc: Global, out: &mut Pretty, at: Option<FallAt>) -> Result<(), 
     put_text(out, "overs", text.as_str())
 }
 
-/// Puts the number of who is out.
+/// Puts the number of the player who is out.
 fn put_player(out: &mut Pretty, player: Player) -> Result<(), AllocError>
     ensures { PutsFields result out.old out.new (number_field (codes "player") player ∷ []) }
 {
     put_figure(out, "player", u32::from(player.number()))
 }
 
-/// An innings whose falls are put: the match's sheet, the side that bats, its number, from 0, and where its wickets fell.
+/// An innings whose falls are put: the match's sheet, the batting side, the innings' number from 0, and where its wickets fell.
 #[derive(Clone, Copy)]
 struct InningsFalls<'m> {
     sheet: &'m NamedSheet<'m>,
@@ -50,7 +50,7 @@ struct InningsFalls<'m> {
     there: &'m [FallAt],
 }
 
-/// Puts a fall of an innings, behind so many others.
+/// Puts a fall of an innings, by its index from 0.
 fn put_fall(
     alloc: Global,
     out: &mut Pretty,
@@ -74,7 +74,7 @@ fn put_fall(
     end_object(out)
 }
 
-/// Puts each fall of an innings; its wickets fell there.
+/// Puts each fall of an innings, by where its wickets fell.
 fn put_each(
     alloc: Global,
     out: &mut Pretty,
@@ -139,7 +139,7 @@ fn put_all(
     Ok(())
 }
 
-/// Puts the field of the falls of all innings that have begun, by where the wickets fell.
+/// Puts the field `falls`: the falls of all innings that have begun, by where the wickets fell.
 pub fn put_falls(
     alloc: Global,
     out: &mut Pretty,

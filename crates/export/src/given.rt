@@ -1,4 +1,4 @@
-//! What a sheet's table `[info]` hands on.
+//! What the export copies from a sheet's table `[info]`.
 
 ghost use Rattle.std.specs.Prelude.{◌≡◌, ◌∷◌, [], option_map, OnOk};
 ghost use Rattle.std.specs.Fmt.{signed_decimal};
@@ -15,7 +15,7 @@ use std::alloc::{AllocError, Global};
 use toml::value::{Array, Datetime};
 use toml::{Table, Value};
 
-/// The table at a key of a sheet's document, where it has one.
+/// Returns the table at a key of a sheet's document, where it has one.
 pub fn table_in<'a>(document: &'a Table, key: &str) -> Option<&'a Table>
     ensures { option_map (λ table. table_view table.now) result ≡ laws.table_in key.now (table_view document.now) }
 {
@@ -25,7 +25,7 @@ pub fn table_in<'a>(document: &'a Table, key: &str) -> Option<&'a Table>
     }
 }
 
-/// The table `[info]` of a sheet's document, or an empty one.
+/// Returns the table `[info]` of a sheet's document, or `empty` where it has none.
 pub fn info_or<'a>(document: &'a Table, empty: &'a Table) -> &'a Table
     requires { table_view empty.now ≡ no_members }
     ensures { table_view result.now ≡ laws.info_in (table_view document.now) }
@@ -48,7 +48,7 @@ fn put_whole(out: &mut Pretty, number: i64) -> Result<(), AllocError>
     out.token(Token::Number(buffer.format(number)))
 }
 
-/// Puts a number with a point, or nothing known where it is no number or infinite.
+/// Puts a float, or null where it is infinite or NaN.
 fn put_float(out: &mut Pretty, number: f64) -> Result<(), AllocError>
     ensures { OnOk result (PutsFloat number out.old out.new) }
 {
@@ -67,7 +67,7 @@ fn put_datetime(alloc: Global, out: &mut Pretty, datetime: Datetime) -> Result<(
     out.token(Token::String(text.as_str()))
 }
 
-/// Puts a value of TOML as one of JSON.
+/// Puts a TOML value as a JSON value.
 #[cycle(put)]
 fn put_value(alloc: Global, out: &mut Pretty, value: &Value) -> Result<(), AllocError>
     ensures { OnOk result (PutsValue (view value.now) out.old out.new) }
@@ -89,7 +89,7 @@ fn put_value(alloc: Global, out: &mut Pretty, value: &Value) -> Result<(), Alloc
     }
 }
 
-/// Puts the items of an array, and its end.
+/// Puts the items of an array, and its closing bracket.
 #[cycle(put)]
 fn put_items(alloc: Global, out: &mut Pretty, items: &Array) -> Result<(), AllocError>
     ensures { OnOk result (PutsItems (array_view items.now) out.old out.new) }
@@ -100,7 +100,7 @@ fn put_items(alloc: Global, out: &mut Pretty, items: &Array) -> Result<(), Alloc
     out.token(Token::EndArray)
 }
 
-/// Puts the members of a table, and its end.
+/// Puts the members of a table, and its closing brace.
 #[cycle(put)]
 fn put_members(alloc: Global, out: &mut Pretty, members: &Table) -> Result<(), AllocError>
     ensures { OnOk result (PutsMembers (table_view members.now) out.old out.new) }
@@ -123,7 +123,7 @@ fn put_handed(alloc: Global, out: &mut Pretty, key: &str, value: &Value) -> Resu
     put_value(alloc, out, value)
 }
 
-/// Puts the outcome that `[info]` tells, as it stands there.
+/// Puts the outcome in `[info]` unchanged, where there is one.
 pub fn put_ruled(alloc: Global, out: &mut Pretty, info: &Table) -> Result<(), AllocError>
     ensures { OnOk result (PutsRuled (table_view info.now) out.old out.new) }
 {
@@ -136,7 +136,7 @@ pub fn put_ruled(alloc: Global, out: &mut Pretty, info: &Table) -> Result<(), Al
     }
 }
 
-/// Puts what `[info]` hands on.
+/// Puts each member of `[info]` whose key the export doesn't write itself.
 pub fn put_given(alloc: Global, out: &mut Pretty, info: &Table) -> Result<(), AllocError>
     ensures { OnOk result (PutsGiven (table_view info.now) out.old out.new) }
 {

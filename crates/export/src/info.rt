@@ -1,4 +1,4 @@
-//! What is said of the match.
+//! The export's `info`: facts about the match.
 
 ghost use Rattle.std.specs.Prelude.{◌≡◌, ◌+◌, ◌<◌, ◌∷◌, [], codes, is_some, List, OnOk, option_map};
 ghost use Rattle.ball_laws.specs.History.{History};
@@ -55,7 +55,7 @@ fn has_overs(info: &Table) -> bool
     info.get("overs").is_some()
 }
 
-/// Puts how many overs an innings has, where that is limited.
+/// Puts how many overs an innings has, where they are limited.
 pub fn put_overs_told(out: &mut Pretty, overs: Option<u16>) -> Result<(), AllocError>
     ensures { PutsFields result out.old out.new (laws.overs_told overs) }
 {
@@ -65,7 +65,7 @@ pub fn put_overs_told(out: &mut Pretty, overs: Option<u16>) -> Result<(), AllocE
     }
 }
 
-/// Puts how many overs an innings has, unless `[info]` has it.
+/// Puts how many overs the first innings has, where they are limited, unless `[info]` has overs.
 fn put_overs_of(out: &mut Pretty, sheet: &NamedSheet<'_>, info: &Table) -> Result<(), AllocError>
     ensures { (given : List Field) → AreFieldsOf (others (table_view info.now)) given
         → PutsFields result out.old out.new (laws.overs_fields sheet.now given) }
@@ -138,7 +138,7 @@ fn put_players(out: &mut Pretty, sheet: &NamedSheet<'_>) -> Result<(), AllocErro
     end_object(out)
 }
 
-/// Puts by how many runs or wickets a match is won.
+/// Puts the margin of a win, in runs or wickets.
 fn put_margin(out: &mut Pretty, unit: &str, count: u32) -> Result<(), AllocError>
     ensures { PutsFields result out.old out.new (laws.margin_field unit.now count ∷ []) }
 {
@@ -147,7 +147,7 @@ fn put_margin(out: &mut Pretty, unit: &str, count: u32) -> Result<(), AllocError
     end_object(out)
 }
 
-/// Puts that a match is won by an innings and so many runs.
+/// Puts the margin of a win by an innings and this many runs.
 fn put_innings_margin(out: &mut Pretty, runs: u32) -> Result<(), AllocError>
     ensures { PutsFields result out.old out.new (laws.innings_margin runs ∷ []) }
 {
@@ -157,7 +157,7 @@ fn put_innings_margin(out: &mut Pretty, runs: u32) -> Result<(), AllocError>
     end_object(out)
 }
 
-/// Puts that a side has won by so many runs or wickets.
+/// Puts that a side has won by this many runs or wickets.
 fn put_win(
     out: &mut Pretty,
     sheet: &NamedSheet<'_>,
@@ -174,7 +174,7 @@ fn put_win(
     end_object(out)
 }
 
-/// Puts that a side has won by an innings and so many runs.
+/// Puts that a side has won by an innings and this many runs.
 fn put_innings_win(
     out: &mut Pretty,
     sheet: &NamedSheet<'_>,
@@ -190,7 +190,7 @@ fn put_innings_win(
     end_object(out)
 }
 
-/// Puts that a side has won by a method that is no play.
+/// Puts that a side has won by a method instead of by runs or wickets.
 fn put_method_win(
     out: &mut Pretty,
     sheet: &NamedSheet<'_>,
@@ -206,7 +206,7 @@ fn put_method_win(
     end_object(out)
 }
 
-/// Puts a result that no side has won.
+/// Puts a result without a winner.
 fn put_result(out: &mut Pretty, word: &str) -> Result<(), AllocError>
     ensures { PutsFields result out.old out.new (laws.result_field word.now ∷ []) }
 {
@@ -215,7 +215,7 @@ fn put_result(out: &mut Pretty, word: &str) -> Result<(), AllocError>
     end_object(out)
 }
 
-/// Whether a value of TOML is this text.
+/// Whether a TOML value is this text.
 fn is_text(value: Option<&Value>, word: &str) -> bool
     ensures { result ≡ laws.is_text word.now (option_map (λ value. view value.now) value.entry) }
 {
@@ -225,7 +225,7 @@ fn is_text(value: Option<&Value>, word: &str) -> bool
     }
 }
 
-/// What the outcome of the sheet's table `[info]` has at a key.
+/// Returns the value at a key of the outcome in the sheet's table `[info]`.
 pub fn outcome_at<'a>(info: &'a Table, key: &str) -> Option<&'a Value>
     ensures { option_map (λ value. view value.now) result ≡ laws.outcome_at key.now (table_view info.now) }
 {
@@ -235,14 +235,14 @@ pub fn outcome_at<'a>(info: &'a Table, key: &str) -> Option<&'a Value>
     }
 }
 
-/// Whether the outcome of the sheet's table `[info]` is that there is no result.
+/// Whether the outcome in the sheet's table `[info]` has the result "no result".
 fn has_no_result(info: &Table) -> bool
     ensures { result ≡ laws.has_no_result (table_view info.now) }
 {
     is_text(outcome_at(info, "result"), "no result")
 }
 
-/// The result of a match that was closed before it was decided.
+/// Returns the result of a match that was closed before it was decided: a draw, unless the sheet says "no result".
 fn closed_word(info: &Table) -> &'static str
     ensures { result.now ≡ laws.closed_word (table_view info.now) }
 {
@@ -273,7 +273,7 @@ fn put_outcome(
     }
 }
 
-/// Puts what is said of the match, with what the sheet's table `[info]` hands on.
+/// Puts the field `info`: facts about the match, and what is copied from the sheet's table `[info]`.
 pub fn put_info(
     alloc: Global,
     out: &mut Pretty,

@@ -1,4 +1,4 @@
-//! An innings, with its overs and how it ended.
+//! An innings: its overs, and how it ended.
 
 ghost use Rattle.std.specs.Prelude.{◌≡◌, ◌<◌, ◌≤◌, ◌∷◌, [], IfOk, codes, filter, nat_lt};
 ghost use Rattle.match_laws.specs.Stands.{ForEachHistory, begun_in};
@@ -34,21 +34,21 @@ fn is_forfeiture(item: &Plain) -> bool
     matches!(item, Plain::End(Cause::Forfeited))
 }
 
-/// Whether these items have the captain's declaration.
+/// Whether the captain's declaration is among these items.
 fn is_declared(items: &[Noted]) -> bool
     ensures { result ≡ laws.is_declared items.now }
 {
     items.iter().any(|noted| is_declaration(&noted.item))
 }
 
-/// Whether these items have the captain's forfeiture.
+/// Whether the captain's forfeiture is among these items.
 fn is_forfeited(items: &[Noted]) -> bool
     ensures { result ≡ laws.is_forfeited items.now }
 {
     items.iter().any(|noted| is_forfeiture(&noted.item))
 }
 
-/// The items of the innings before this one.
+/// Returns the items of all earlier innings.
 fn items_before(alloc: Global, innings: usize, notes: &[Noted]) -> Result<Vec<Noted>, AllocError>
     ensures { IfOk result (λ items. items.items ≡ filter (λ x. nat_lt x.innings innings) notes.now) }
 {
@@ -62,7 +62,7 @@ fn items_before(alloc: Global, innings: usize, notes: &[Noted]) -> Result<Vec<No
     Ok(items)
 }
 
-/// The items of the innings after this one.
+/// Returns the items of all later innings.
 fn items_after(alloc: Global, innings: usize, notes: &[Noted]) -> Result<Vec<Noted>, AllocError>
     ensures { IfOk result (λ items. items.items ≡ filter (λ x. nat_lt innings x.innings) notes.now) }
 {
@@ -76,8 +76,8 @@ fn items_after(alloc: Global, innings: usize, notes: &[Noted]) -> Result<Vec<Not
     Ok(items)
 }
 
-/// The penalty runs that count in an innings and were awarded before its first delivery. items are those of the innings,
-/// and notes those of all innings.
+/// Returns the penalty runs that count in an innings and were awarded before its first delivery. `items` are the items of
+/// the innings, and `notes` those of all innings.
 pub fn runs_before(
     alloc: Global,
     begun: &Begun,
@@ -94,7 +94,7 @@ pub fn runs_before(
     plus(penalties(begun, innings, earlier.as_slice())?, own)
 }
 
-/// The penalty runs that count in an innings and were awarded after a later one had begun.
+/// Returns the penalty runs that count in an innings and were awarded after a later innings had begun.
 pub fn runs_after(
     alloc: Global,
     begun: &Begun,
@@ -107,7 +107,7 @@ pub fn runs_after(
     penalties(begun, innings, later.as_slice())
 }
 
-/// Puts penalty runs that no delivery carries.
+/// Puts the penalty runs that no delivery carries.
 fn put_penalty(out: &mut Pretty, before: u64, after: u64) -> Result<(), AllocError>
     ensures { PutsFields result out.old out.new (laws.penalty_field before after ∷ []) }
 {
@@ -117,7 +117,7 @@ fn put_penalty(out: &mut Pretty, before: u64, after: u64) -> Result<(), AllocErr
     end_object(out)
 }
 
-/// Puts penalty runs that no delivery carries, where there are any.
+/// Puts the penalty runs that no delivery carries, where there are any.
 fn put_penalties(out: &mut Pretty, before: u64, after: u64) -> Result<(), AllocError>
     ensures { PutsFields result out.old out.new (laws.penalty_fields before after) }
 {
@@ -127,7 +127,7 @@ fn put_penalties(out: &mut Pretty, before: u64, after: u64) -> Result<(), AllocE
     put_penalty(out, before, after)
 }
 
-/// What the side that bats in the innings has to reach there.
+/// Returns the runs that the batting side needs in an innings to win.
 fn needed_in(score: &Match, innings: usize) -> u32
     requires { innings < begun_in score.now }
     ensures { ForEachHistory score.now (λ n h. result ≡ laws.needed_in h innings) }
@@ -137,7 +137,7 @@ fn needed_in(score: &Match, innings: usize) -> u32
     (score.side_total(opponent(side)) + 1).saturating_sub(before)
 }
 
-/// Puts what has to be reached, and in how many overs where these are limited.
+/// Puts the target: the runs needed, and in how many overs where they are limited.
 fn put_target_field(
     out: &mut Pretty,
     sheet: &NamedSheet<'_>,
@@ -154,7 +154,7 @@ fn put_target_field(
     end_object(out)
 }
 
-/// Puts the target, in the last innings of a match.
+/// Puts the target, where this is the last innings of the match.
 fn put_target(
     out: &mut Pretty,
     sheet: &NamedSheet<'_>,
@@ -173,7 +173,7 @@ fn put_target(
     put_target_field(out, sheet, score, innings)
 }
 
-/// The items of an innings, and those of all innings.
+/// An innings by its number from 0, its items, and the items of all innings.
 #[derive(Clone, Copy)]
 struct InningsItems<'m> {
     innings: usize,
@@ -181,7 +181,7 @@ struct InningsItems<'m> {
     notes: &'m [Noted],
 }
 
-/// Puts how an innings ended, and what it has beside its overs.
+/// Puts what an innings has besides its overs: penalty runs, how it ended, target, powerplays and miscounted overs.
 fn put_rest(
     alloc: Global,
     out: &mut Pretty,
@@ -210,7 +210,7 @@ fn put_rest(
     put_miscounts(out, items)
 }
 
-/// Puts the overs of an innings with these items.
+/// Puts the field of an innings' overs, by its items.
 fn put_overs_field(
     alloc: Global,
     out: &mut Pretty,
@@ -225,7 +225,7 @@ fn put_overs_field(
     end_array(out)
 }
 
-/// Puts an innings, with these items.
+/// Puts an innings: its team, its overs, and the rest.
 fn put_innings(
     alloc: Global,
     out: &mut Pretty,

@@ -1,4 +1,4 @@
-//! What an export tells of its match.
+//! What an export says about its match.
 //!
 //! These functions do nothing: each stands for the laws that it ensures.
 
@@ -19,10 +19,10 @@ ghost use Rattle.export.specs.Laws.{HasEachEntry, HasEachKey, LeavesOwn, TellsDa
 ghost use Rattle.archive_deliveries.specs.Names.{NamesTwoSides};
 ghost use Rattle.export.specs.WorkedDocuments.{WorkedDocuments};
 
-/// Looked up in the value of an innings, as it stands in an export: the totals of its deliveries and its penalty runs
-/// before and after add up to the innings' total. As many wickets stand among its deliveries as have fallen, not counting
-/// who is retired hurt, where it has a delivery. Each fall of the card stands with the over and the ball at which that player
-/// was out. Each entry of the book stands once, at its place.
+/// In the value of an innings in an export, the totals of the deliveries and the penalty runs before and after add up to the
+/// innings' total. Where the innings has a delivery, its deliveries have as many wickets as have fallen, not counting players
+/// retired hurt. Each fall of the card stands with the over and the ball at which that player was out. Each entry of the book
+/// stands once, at its place.
 pub fn exports_add_up()
     ensures totals { (s : Sheet) → (n : ℕ) → (book : List Entry) → IsLegalBook n book → TotalsAddUp s book }
     ensures wickets { (s : Sheet) → (n : ℕ) → (book : List Entry) → IsLegalBook n book → WicketsAddUp s book }
@@ -31,13 +31,13 @@ pub fn exports_add_up()
     ensures entries { (book : List Entry) → HasEachEntry book }
 {}
 
-/// The sides of an export have two names, whatever they are called on the sheet: so no key stands twice.
+/// The two sides of an export have different names, even where the sheet has one name for both: so no key stands twice.
 pub fn exports_name_two_sides()
     ensures { (s : Sheet) → NamesTwoSides s }
 {}
 
-/// Each key of the sheet's table `[info]` stands under `info` with its value, but for those that are the export's own: none
-/// of these is handed on, so that none stands twice. Of a document that isn't refused, the day and the revision in the table
+/// Each key of the sheet's table `[info]` stands under `info` with its value, except the keys that the export writes itself:
+/// these aren't copied, so that no key stands twice. For a document that isn't refused, the day and the revision in the table
 /// `[meta]` stand under `meta` with their values; the version of the format is the export's own.
 #[tactic(auto, using(crate::proofs::HandedLemmas::has_each_key, crate::proofs::HandedLemmas::leaves_own, crate::proofs::MetaLemmas::tells_of_file, crate::proofs::MetaLemmas::tells_day))]
 pub fn exports_hand_on()
@@ -49,15 +49,15 @@ pub fn exports_hand_on()
     ensures version { (document : Members) → in_meta (codes "data_version") document ≡ string (codes "1.1.0") }
 {}
 
-/// What stands in an export's text for a character that a terminal obeys, or that turns or breaks a line, is plain text, and a
-/// reader of JSON takes each string as it was before.
+/// An export writes each character that a terminal obeys, or that turns or breaks a line, as an escape in plain text, and a
+/// JSON reader reads each string as it was before escaping.
 #[tactic(auto, using(crate::proofs::EscapeLemmas::plain_text, crate::proofs::EscapedStrings::string_read))]
 pub fn escapes_read_back()
     ensures plain { (c : ℕ) → is_obeyed c ≡ true → IsPlain c }
     ensures strings { (s : List ℕ) → IsUtf8 s → IsReadBack s }
 {}
 
-/// Worked documents: the check computes from the definitions what is said of the file.
+/// Worked documents: the check computes from the definitions what `meta` says, and which documents are refused.
 fn worked_documents()
     ensures { WorkedDocuments }
 {}

@@ -1,4 +1,4 @@
-//! The book of a match as JSON, for archives and leagues: what happened ball by ball, with the results of the Laws,
+//! The book of a match as JSON, for archives and leagues: the match ball by ball, with its results by the Laws,
 //! and each entry as it was penned.
 #![tactic(auto, using(json_fields::proofs::Putting::json_parts), unfolding(json_fields::specs::Values::fields_tokens, json_fields::specs::Values::values_tokens))]
 

@@ -1,4 +1,4 @@
-//! What a sheet limits, as its table `[limits]` has it.
+//! The limits of a sheet, as in its table `[limits]`.
 
 ghost use Rattle.std.specs.Prelude.{◌≡◌, ◌++◌, ◌∷◌, [], codes, map};
 ghost use Rattle.json_fields.specs.Values.{PutsFields, PutsValues, array_of, number_field, number_value, object_of};
@@ -18,7 +18,7 @@ fn put_number_of(out: &mut Pretty, overs: u16) -> Result<(), AllocError>
     put_integer(out, u64::from(overs))
 }
 
-/// Puts each of some numbers of overs.
+/// Puts each number of overs.
 fn put_numbers(out: &mut Pretty, overs: &[u16]) -> Result<(), AllocError>
     ensures { PutsValues result out.old out.new (map number_value overs.now) }
 {
@@ -28,7 +28,7 @@ fn put_numbers(out: &mut Pretty, overs: &[u16]) -> Result<(), AllocError>
     Ok(())
 }
 
-/// Puts the field of some numbers of overs.
+/// Puts the field `overs`: each number of overs.
 fn put_listed(out: &mut Pretty, overs: &[u16]) -> Result<(), AllocError>
     ensures { PutsFields result out.old out.new
         ((codes "overs", array_of (map number_value overs.now)) ∷ []) }
@@ -38,7 +38,7 @@ fn put_listed(out: &mut Pretty, overs: &[u16]) -> Result<(), AllocError>
     end_array(out)
 }
 
-/// Puts the overs of the innings, where they are limited.
+/// Puts how many overs the innings have, where they are limited.
 fn put_overs(out: &mut Pretty, overs: &[u16]) -> Result<(), AllocError>
     ensures { PutsFields result out.old out.new (laws.listed_fields (codes "overs") number_value overs.now) }
 {
@@ -48,14 +48,14 @@ fn put_overs(out: &mut Pretty, overs: &[u16]) -> Result<(), AllocError>
     put_listed(out, overs)
 }
 
-/// Puts the overs of a bowler.
+/// Puts how many overs a bowler may bowl.
 fn put_most_of(out: &mut Pretty, overs: u16) -> Result<(), AllocError>
     ensures { PutsFields result out.old out.new (number_field (codes "overs_a_bowler") overs ∷ []) }
 {
     put_figure(out, "overs_a_bowler", u32::from(overs))
 }
 
-/// Puts the overs of a bowler, where they are limited.
+/// Puts how many overs a bowler may bowl, where they are limited.
 fn put_most(out: &mut Pretty, overs: Option<u16>) -> Result<(), AllocError>
     ensures { PutsFields result out.old out.new (laws.most_fields overs) }
 {
@@ -65,7 +65,7 @@ fn put_most(out: &mut Pretty, overs: Option<u16>) -> Result<(), AllocError>
     }
 }
 
-/// Puts both overs of a powerplay.
+/// Puts the first and the last over of a powerplay.
 fn put_both(out: &mut Pretty, powerplay: Powerplay) -> Result<(), AllocError>
     ensures { PutsValues result out.old out.new
         (number_value powerplay.first ∷ [] ++ number_value powerplay.last ∷ []) }
@@ -74,7 +74,7 @@ fn put_both(out: &mut Pretty, powerplay: Powerplay) -> Result<(), AllocError>
     put_number_of(out, powerplay.last)
 }
 
-/// Puts a powerplay.
+/// Puts a powerplay as an array of its first and last over.
 fn put_range(out: &mut Pretty, powerplay: Powerplay) -> Result<(), AllocError>
     ensures { PutsValues result out.old out.new (laws.range_value powerplay ∷ []) }
 {
@@ -83,7 +83,7 @@ fn put_range(out: &mut Pretty, powerplay: Powerplay) -> Result<(), AllocError>
     end_array(out)
 }
 
-/// Puts each of some powerplays.
+/// Puts each powerplay.
 fn put_ranges(out: &mut Pretty, powerplays: &[Powerplay]) -> Result<(), AllocError>
     ensures { PutsValues result out.old out.new (map laws.range_value powerplays.now) }
 {
@@ -93,7 +93,7 @@ fn put_ranges(out: &mut Pretty, powerplays: &[Powerplay]) -> Result<(), AllocErr
     Ok(())
 }
 
-/// Puts the field of some powerplays.
+/// Puts the field of the powerplays.
 fn put_ranges_listed(out: &mut Pretty, powerplays: &[Powerplay]) -> Result<(), AllocError>
     ensures { PutsFields result out.old out.new
         ((codes "powerplays", array_of (map laws.range_value powerplays.now)) ∷ []) }
@@ -114,7 +114,7 @@ fn put_powerplays(out: &mut Pretty, powerplays: &[Powerplay]) -> Result<(), Allo
     put_ranges_listed(out, powerplays)
 }
 
-/// Whether something is limited.
+/// Whether the sheet limits anything.
 fn is_limited(limits: &Limits) -> bool
     ensures { result ≡ laws.is_limited limits.now }
 {
@@ -124,7 +124,7 @@ fn is_limited(limits: &Limits) -> bool
         || !limits.powerplays().is_empty()
 }
 
-/// Puts the table of what is limited.
+/// Puts the field `limits`.
 fn put_table(out: &mut Pretty, limits: &Limits) -> Result<(), AllocError>
     ensures { PutsFields result out.old out.new
         ((codes "limits", object_of (laws.limits_fields limits.now)) ∷ []) }
@@ -137,7 +137,7 @@ fn put_table(out: &mut Pretty, limits: &Limits) -> Result<(), AllocError>
     end_object(out)
 }
 
-/// Puts what a sheet limits, where it limits something.
+/// Puts the limits of a sheet, where it has any.
 pub fn put_limits(out: &mut Pretty, limits: &Limits) -> Result<(), AllocError>
     ensures { PutsFields result out.old out.new (laws.limits_field limits.now) }
 {

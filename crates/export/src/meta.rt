@@ -1,4 +1,4 @@
-//! What is said of the file, with what the sheet's table `[meta]` tells of it.
+//! The export's `meta`: facts about the file, some of them from the sheet's table `[meta]`.
 
 ghost use Rattle.std.specs.Prelude.{◌≡◌, ◌∷◌, []};
 ghost use Rattle.toml.specs.View.{table_view};
@@ -12,7 +12,7 @@ use std::alloc::{AllocError, Global};
 use toml::Table;
 use toml::value::Date;
 
-/// The day on which the file was made, where the sheet tells it.
+/// Returns the day on which the file was made, where the sheet gives it.
 fn created_in(document: &Table) -> Option<Date>
     ensures { result ≡ laws.created_in (table_view document.now) }
 {
@@ -22,7 +22,7 @@ fn created_in(document: &Table) -> Option<Date>
     }
 }
 
-/// Which version of the file it is.
+/// Returns the revision of the file: 1, where the sheet gives none.
 fn revision_in(document: &Table) -> u64
     ensures { result ≡ laws.revision_in (table_view document.now) }
 {
@@ -32,7 +32,7 @@ fn revision_in(document: &Table) -> u64
     }
 }
 
-/// Puts the day on which the file was made, where it is told.
+/// Puts the day on which the file was made, where it is known.
 fn put_created(alloc: Global, out: &mut Pretty, created: Option<Date>) -> Result<(), AllocError>
     ensures { PutsFields result out.old out.new (laws.created_fields created) }
 {
@@ -43,7 +43,7 @@ fn put_created(alloc: Global, out: &mut Pretty, created: Option<Date>) -> Result
     put_text(out, "created", text.as_str())
 }
 
-/// Puts what is said of the file.
+/// Puts the field `meta`: the version of the format, the day, and the revision.
 pub fn put_meta(alloc: Global, out: &mut Pretty, document: &Table) -> Result<(), AllocError>
     ensures { PutsFields result out.old out.new (laws.meta_field (table_view document.now) ∷ []) }
 {

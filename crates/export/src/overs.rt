@@ -13,7 +13,7 @@ use json::Pretty;
 use json_fields::{begin_array, begin_object, end_array, end_object, put_figure};
 use std::alloc::{AllocError, Global};
 
-/// Puts a delivery with what it carries: the items from an index on, up to the next one.
+/// Puts a delivery and the items that it carries: those from index `next` up to the next delivery.
 fn put_carrier(
     alloc: Global,
     out: &mut Pretty,
@@ -35,7 +35,7 @@ fn put_carrier(
     put_listed(out, innings, carrier)
 }
 
-/// Puts the deliveries of an over, from an index on, up to the first one of another over.
+/// Puts the deliveries of an over, from an index up to the first delivery of another over.
 #[tactic(auto, using(corrections::proofs::ListLemmas::next, json_fields::proofs::Putting::json_parts), unfolding(json_fields::specs::Values::values_tokens))]
 fn put_deliveries(
     alloc: Global,
@@ -63,7 +63,7 @@ fn put_deliveries(
     Ok(())
 }
 
-/// Puts the field of the deliveries of an over, from an index on.
+/// Puts the field of an over's deliveries, from an index on.
 fn put_listing(
     alloc: Global,
     out: &mut Pretty,
@@ -81,7 +81,7 @@ fn put_listing(
     end_array(out)
 }
 
-/// Puts the over of the delivery at an index.
+/// Puts the over that begins with the delivery at an index.
 fn put_over(
     alloc: Global,
     out: &mut Pretty,
@@ -100,7 +100,7 @@ fn put_over(
     end_object(out)
 }
 
-/// Whether an over is this one.
+/// Whether the over before is this over.
 fn is_at(before: Option<u32>, over: u32) -> bool
     ensures { result ≡ is_at before over }
 {
@@ -110,7 +110,7 @@ fn is_at(before: Option<u32>, over: u32) -> bool
     }
 }
 
-/// Whether an over begins at an item, after this one: at a delivery of another over.
+/// Whether an item begins an over: it is a delivery, and not of the over before.
 fn begins_over(before: Option<u32>, noted: &Noted) -> bool
     ensures { result ≡ (notes.is_ball noted.now.item && not (is_at before noted.now.over)) }
 {
@@ -124,7 +124,7 @@ fn is_of(noted: &Noted, over: u32) -> bool
     over == noted.over
 }
 
-/// Puts the overs of an innings with these items, of which the first delivery carries those too.
+/// Puts the overs of an innings by its items. Its first delivery also carries the items in `first`.
 fn put_all(
     alloc: Global,
     out: &mut Pretty,
@@ -148,7 +148,7 @@ fn put_all(
     Ok(())
 }
 
-/// Puts the overs of an innings with these items.
+/// Puts the overs of an innings, by its items.
 pub fn put_overs(
     alloc: Global,
     out: &mut Pretty,

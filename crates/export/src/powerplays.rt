@@ -1,4 +1,4 @@
-//! Powerplays.
+//! The powerplays of an innings.
 
 ghost use Rattle.std.specs.Prelude.{◌≡◌, ◌++◌, ◌∷◌, [], IfOk, codes, decimal, map, string_bytes};
 ghost use Rattle.json_fields.specs.Values.{PutsFields, PutsValues, array_of};
@@ -10,7 +10,7 @@ use json_fields::{begin_array, begin_object, end_array, end_object, put_text};
 use limits::Powerplay;
 use std::alloc::{AllocError, Global};
 
-/// The number of a delivery.
+/// Returns the number of a delivery as text: its over, a point, and its ball in the over.
 pub fn ball_text(alloc: Global, over: u64, ball: u64) -> Result<String, AllocError>
     ensures { IfOk result (λ text. string_bytes text ≡ decimal over ++ codes "." ++ decimal ball) }
 {
@@ -21,7 +21,7 @@ pub fn ball_text(alloc: Global, over: u64, ball: u64) -> Result<String, AllocErr
     Ok(text)
 }
 
-/// Puts the number of a delivery.
+/// Puts a field with the number of a delivery.
 fn put_ball(
     alloc: Global,
     out: &mut Pretty,
@@ -36,7 +36,7 @@ fn put_ball(
     out.token(Token::Number(text.as_str()))
 }
 
-/// Puts a powerplay.
+/// Puts a powerplay: the first ball of its first over, the sixth ball of its last, and its type.
 fn put_powerplay(alloc: Global, out: &mut Pretty, powerplay: Powerplay) -> Result<(), AllocError>
     ensures { PutsValues result out.old out.new (laws.powerplay_value powerplay ∷ []) }
 {
@@ -47,7 +47,7 @@ fn put_powerplay(alloc: Global, out: &mut Pretty, powerplay: Powerplay) -> Resul
     end_object(out)
 }
 
-/// Puts each of some.
+/// Puts each powerplay.
 fn put_each(alloc: Global, out: &mut Pretty, powerplays: &[Powerplay]) -> Result<(), AllocError>
     ensures { PutsValues result out.old out.new (map laws.powerplay_value powerplays.now) }
 {
@@ -57,7 +57,7 @@ fn put_each(alloc: Global, out: &mut Pretty, powerplays: &[Powerplay]) -> Result
     Ok(())
 }
 
-/// Puts the field of some.
+/// Puts the field of the powerplays.
 fn put_listed(alloc: Global, out: &mut Pretty, powerplays: &[Powerplay]) -> Result<(), AllocError>
     ensures { PutsFields result out.old out.new
         ((codes "powerplays", array_of (map laws.powerplay_value powerplays.now)) ∷ []) }

@@ -14,7 +14,7 @@ use json::Pretty;
 use std::alloc::{AllocError, Global};
 use toml::Table;
 
-/// The value of a book by a sheet whose sides are told apart, as the library lays it out.
+/// Lays out a book as JSON, by its sheet with the sides told apart, before characters are escaped for terminals.
 fn laid_out<B: BookOf>(
     alloc: Global,
     sheet: &MatchSheet,
@@ -25,7 +25,7 @@ fn laid_out<B: BookOf>(
     ensures { IfOk result (λ text.
         IsLaidOut (told_apart sheet.now) (table_view document.now) (B.content book.now) (string_bytes text)) }
 {
-    // (what has a score is legal)
+    // (only a legal book has a score)
     let _ = book.score();
     let (notes, begun) = notes_of(alloc, sheet.innings(), book)?;
     let named = NamedSheet::new(alloc, sheet)?;
@@ -45,9 +45,9 @@ fn laid_out<B: BookOf>(
     }
 }
 
-/// The text of a book as one JSON value, without its newline: what happened ball by ball with the results of the Laws,
-/// each entry as it was penned, and what the tables `[info]` and `[meta]` of the sheet's document hand on. Sides of one name
-/// are told apart. What a terminal obeys in it stands as an escape.
+/// Returns a book as one JSON value, without a newline at the end: the match ball by ball with its results by the Laws, each
+/// entry as it was penned, and what the export copies from the sheet's tables `[info]` and `[meta]`. Two sides of one name
+/// are told apart. Characters that a terminal obeys, or that turn or break a line, are escaped.
 pub fn text_of<B: BookOf>(
     alloc: Global,
     sheet: &MatchSheet,

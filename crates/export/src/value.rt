@@ -28,14 +28,14 @@ use match_laws::Match;
 use std::alloc::{AllocError, Global};
 use toml::Table;
 
-/// Whether every reader of numbers has this one as it is.
+/// Whether every JSON reader reads this number exactly: it is at most 2^53.
 fn is_exact(number: u64) -> bool
     ensures { result ≡ laws.is_exact number }
 {
     number <= 9_007_199_254_740_992
 }
 
-/// Puts the match's number as a text.
+/// Puts the match's number as text.
 fn put_game_text(out: &mut Pretty, game: u64) -> Result<(), AllocError>
     ensures { PutsFields result out.old out.new (text_field (codes "match_number") (decimal game) ∷ []) }
 {
@@ -43,7 +43,7 @@ fn put_game_text(out: &mut Pretty, game: u64) -> Result<(), AllocError>
     put_text(out, "match_number", buffer.format(game))
 }
 
-/// Puts the match's number.
+/// Puts the match's number: as a number up to 2^53, and as text beyond.
 fn put_game(out: &mut Pretty, game: u64) -> Result<(), AllocError>
     ensures { PutsFields result out.old out.new (laws.game_field game ∷ []) }
 {
@@ -61,7 +61,7 @@ fn put_own_title(out: &mut Pretty, sheet: &NamedSheet<'_>) -> Result<(), AllocEr
     put_text(out, "title", sheet.title())
 }
 
-/// Puts the title, where `[info]` has an event.
+/// Puts the title, but only where `[info]` has an event, which replaces the title under `info`.
 fn put_title(out: &mut Pretty, sheet: &NamedSheet<'_>, info: &Table) -> Result<(), AllocError>
     ensures { (given : List Field) → AreFieldsOf (others (table_view info.now)) given
         → PutsFields result out.old out.new (title_fields sheet.now given) }
@@ -72,7 +72,7 @@ fn put_title(out: &mut Pretty, sheet: &NamedSheet<'_>, info: &Table) -> Result<(
     put_own_title(out, sheet)
 }
 
-/// Puts what else is on the sheet.
+/// Puts the rest of the sheet: title, match number, innings a side and limits.
 fn put_sheet(out: &mut Pretty, sheet: &NamedSheet<'_>, info: &Table) -> Result<(), AllocError>
     ensures { (given : List Field) → AreFieldsOf (others (table_view info.now)) given
         → PutsFields result out.old out.new (sheet_fields sheet.now given) }
@@ -83,7 +83,7 @@ fn put_sheet(out: &mut Pretty, sheet: &NamedSheet<'_>, info: &Table) -> Result<(
     put_limits(out, sheet.limits())
 }
 
-/// Puts what the format of archives can't hold.
+/// Puts the field `yermudosh`, for what the archive format can't hold.
 fn put_own<B: BookOf>(
     alloc: Global,
     out: &mut Pretty,
@@ -106,8 +106,8 @@ fn put_own<B: BookOf>(
     end_object(out)
 }
 
-/// Puts the book of a match as one JSON value, by what the sheet's document hands on, and the book's clean list with where
-/// each item stands.
+/// Puts the book of a match as one JSON value. `noted` is the book's clean list, each item with where it stands, and `begun`
+/// the innings that each side began first and last.
 pub fn put_export<B: BookOf>(
     alloc: Global,
     out: &mut Pretty,

@@ -1,4 +1,4 @@
--- What is put of a sheet's table [info] behind the tokens `old`.
+-- What the export appends from a sheet's table [info] to the tokens `old`.
 use Rattle.std.specs.Prelude.{◌≡◌, ℕ, ◌++◌, ◌∷◌, [], List, Float}
 use Rattle.ball_laws.specs.History.{History}
 use Rattle.cards.specs.Sheet.{Sheet}
@@ -18,29 +18,29 @@ PutsFloat x old new = (v : Json) × IsFloatOf x v × (new ≡ old ++ json_tokens
 abbrev pub PutsValue : Data → List Token → List Token → Type 0
 PutsValue d old new = (v : Json) × IsValueOf d v × (new ≡ old ++ json_tokens v)
 
--- with the closing bracket
+-- the items of an array, with the closing bracket
 abbrev pub PutsItems : Items → List Token → List Token → Type 0
 PutsItems ds old new = (vs : List Json) × AreValuesOf ds vs × (new ≡ old ++ items_tokens (items_of vs))
 
 abbrev pub PutsMembers : Members → List Token → List Token → Type 0
 PutsMembers ms old new = (fs : List Field) × AreFieldsOf ms fs × (new ≡ old ++ members_tokens (members_of fs))
 
--- what is handed on of these members
+-- the members that are copied: all but the export's own keys
 abbrev pub PutsGiven : Members → List Token → List Token → Type 0
 PutsGiven ms old new = (fs : List Field) × AreFieldsOf (others ms) fs × (new ≡ old ++ fields_tokens fs)
 
 abbrev pub PutsHanded : List ℕ → Data → List Token → List Token → Type 0
 PutsHanded key d old new = PutsGiven (member key d no_members) old new
 
--- what is said of the match, with what the table [info] of these members hands on
+-- the field `info`, with what is copied from the members of the table [info]
 abbrev pub PutsInfo : Sheet → History → Members → List Token → List Token → Type 0
 PutsInfo s h ms old new = (given : List Field) × AreFieldsOf (others ms) given × (new ≡ old ++ fields_tokens (info_field s h ms given ∷ []))
 
--- the outcome that the table [info] of these members tells, as it stands there
+-- the outcome among the members of the table [info], unchanged
 abbrev pub PutsRuled : Members → List Token → List Token → Type 0
 PutsRuled ms old new = (told : List Field) × AreFieldsOf (ruled ms) told × (new ≡ old ++ fields_tokens told)
 
--- what the format of archives can't hold
+-- the field `yermudosh`, for what the archive format can't hold
 abbrev pub PutsOwn : Sheet → List Field → Members → List Entry → List Token → List Token → Type 0
 PutsOwn s given ms book old new =
     (told : List Field) × AreFieldsOf (ruled ms) told × (new ≡ old ++ fields_tokens (own_field s given told book ∷ []))

@@ -4,6 +4,6 @@ use Rattle.json_fields.specs.Values.{values_tokens}
 use Rattle.export.specs.Entries.{fix_at}
 use Rattle.export.proofs.entries.put_fixes.Given as goal
 
--- what stands for the corrections so far is put
+-- the places of the corrections so far are put
 abbrev pub invariant-loop-at : goal.invariant-loop-at
 invariant-loop-at g l = l.out ≡ l.initial.out ++ values_tokens (flat_map (λ k. fix_at l.place k (slice_get (g.B.BookOf.content l.book) k)) (take l.at-index l.corrections))

@@ -21,13 +21,13 @@ IsDel bytes = Passes (is_byte 0x7f) bytes
 from_del : (bytes : List ℕ) (i : ℕ) → 0x7f ≤ slice_index bytes i → list_all is_below bytes ≡ false
 from_del bytes i high = grind (arith, nat_tests, cases_lt i (length bytes), list_all_at is_below bytes i 0, get_or_past bytes i 0)
 
--- where DEL is found, not each does
+-- where DEL is found, not every byte is below DEL
 found : (bytes : List ℕ) (i : ℕ) → NoneBefore (IsDel bytes) 0 (length bytes) i × IsDel bytes i → false ≡ list_all is_below bytes
 found bytes i del =
     let is = del.1 in
     sym (from_del bytes i (grind (arith, nat_tests, is)))
 
--- where it isn't, each does that has no byte behind it
+-- where DEL isn't found, every byte is below DEL just where the text is ASCII
 tested : (bytes : List ℕ) (r : Bool) → Nowhere (IsDel bytes) 0 (length bytes) → MatchBool r (IsAscii bytes) (IsNotAscii bytes)
     → r ≡ list_all is_below bytes
 tested bytes true none ascii =

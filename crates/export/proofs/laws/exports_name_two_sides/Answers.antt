@@ -3,7 +3,7 @@ use Rattle.std.proofs.lemmas.List.{append_cancel_left}
 use Rattle.std.proofs.lemmas.Slice.Eq.{bytes_eq-Decides}
 use Rattle.export.proofs.laws.exports_name_two_sides.Goals as goal
 
--- told apart by a mark where they are one, and two anyhow else
+-- equal names are told apart by a mark, and other names differ anyway
 pub returns : goal.returns
 returns c s e =
     grind (

@@ -5,7 +5,7 @@ use Rattle.json.proofs.Printed.Floats.{IsNumber-plain}
 use Rattle.json.specs.Print.{IsNumber}
 use Rattle.export.proofs.powerplays.put_ball.Goals as goal
 
--- a number begins with a zero where that is all of it
+-- a number that begins with a zero digit has no other digit
 zero_alone : (n : ℕ) → n < 2 ^ 64 → get_or (decimal n) 0 0 ≡ 48 → length (decimal n) ≡ 1
 zero_alone zero h first = rw (decimal_digit 0 (omega arith))
 zero_alone (suc n) h first = absurd (omega (arith, first_decimal (suc n) (omega arith) h))
