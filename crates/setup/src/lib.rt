@@ -28,8 +28,8 @@ pub use crate::pair_keys::{KeyDigits, board_key, key_digits, pair_text};
 pub use crate::sealing::{Sealing, StationLink, station_of};
 pub use crate::sheet::sheet_run;
 pub use crate::short_sheet::{
-    SheetFile, card_sheet_at, sheet_file_at, short_sheet_at, short_sheet_bytes, short_sheet_of,
-    stations_at, tell_station,
+    LONGEST_SHEET, SheetFile, card_sheet_at, sheet_file_at, short_sheet_at, short_sheet_bytes,
+    short_sheet_of, stations_at, tell_station,
 };
 pub use crate::twins::tell_twins;
 pub use crate::votes_file::{
