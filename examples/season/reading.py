@@ -1,6 +1,6 @@
-"""Reads a match: what the program tells of its sheet and of both desks' files, as rows of the season's tables.
+"""Reads matches: what the program tells of their sheets and of both desks' files, as rows of the season's tables.
 
-`read_match` answers a `Match`, or raises `LeftOut` with the reason why the match isn't to be taken.
+`read_matches` answers a `Match` of each folder, or the reason why the match isn't to be taken.
 """
 import hashlib
 import json
@@ -9,6 +9,8 @@ import subprocess
 import sys
 import tomllib
 from dataclasses import dataclass, field
+
+from frames import Printing
 
 sys.path.append(os.path.join(os.path.dirname(os.path.realpath(__file__)), ".."))
 from read_export import CREDITED, OUTCOME, Card, Wrong, balls_penned, boundary, compare, counts, deliveries_of, standing, wants
@@ -66,8 +68,11 @@ def told_by(program, *words):
     return ran.stdout
 
 
-def must_be_one_record(program, sheet, a, b):
-    """Leaves the match out where its files aren't one record to the last entry."""
+def must_be_one_record(program, folder, frame):
+    """Leaves the match out where its files aren't one record to the last entry: where one of them has a place that isn't agreed."""
+    if max(frame.a, frame.b) <= frame.agreed:
+        return
+    sheet, a, b = paths_of(folder)
     *places, told = told_by(program, "compare", "--sheet", sheet, "--a", a, "--b", b).splitlines()
     agreed = int(told.split(",")[0].removeprefix("agreed "))
     for line in places:
@@ -75,15 +80,31 @@ def must_be_one_record(program, sheet, a, b):
             raise LeftOut(f"the files differ from place {agreed} on: {line}")
 
 
-def read_match(program, folder):
+def read_matches(program, hashes):
+    """Each of these folders, in order, and its match or the reason why there is none. The hash of its files was made before. The
+    program runs twice for all of them."""
+    printings = [Printing(program, word, hashes) for word in ("card", "export")]
+    for folder, files in hashes.items():
+        try:
+            yield folder, match_in(program, folder, files, *printings)
+        except LeftOut as why:
+            yield folder, str(why)
+        except (ValueError, LookupError) as why:
+            yield folder, f"it can't be read: {why!r}"
+    for printing in printings:
+        printing.end()
+
+
+def match_in(program, folder, files, cards, exports):
     """The match of a folder, whose files are one record, with the deliveries adding up to the card."""
-    sheet, a, b = paths_of(folder)
-    files = hash_of(folder)
-    must_be_one_record(program, sheet, a, b)
-    of_both = ("--sheet", sheet, "--kind", "both", "--from", a, "--with", b)
-    exported = json.loads(told_by(program, "export", *of_both))
+    frames = [printing.frame_of(folder) for printing in (cards, exports)]
+    if frames[0]:
+        must_be_one_record(program, folder, frames[0])
+    for frame, printing in zip(frames, (cards, exports)):
+        if not frame:
+            raise LeftOut(printing.reason_of(folder))
+    exported, card = json.loads(frames[1].text), Card(frames[0].text)
     must_have_own_names(exported["info"]["players"])
-    card = Card(told_by(program, "card", *of_both))
     try:
         compare(exported, card)
         match = match_of(exported, folder, files)

@@ -12,13 +12,12 @@ folder, or after a change, it only writes the page: SEASON.html.
 import os
 import sqlite3
 import sys
-from collections import deque
-from concurrent.futures import ProcessPoolExecutor
 from itertools import islice
+from multiprocessing import Pipe, Process
 
 sys.dont_write_bytecode = True
 from page import page_of
-from reading import LeftOut, hash_of, key_in, read_match
+from reading import LeftOut, hash_of, key_in, read_matches
 
 HERE = os.path.dirname(os.path.realpath(__file__))
 VERSION = 2
@@ -44,29 +43,34 @@ def opened(path):
     return season
 
 
-def looked_at(program, folder):
-    """What came of a folder: its match, or the reason why there is none."""
+def read_some(program, hashes, results):
+    """Sends the match or the reason of each folder, or the fault of this machine that ends it."""
     try:
-        return folder, read_match(program, folder)
-    except LeftOut as why:
-        return folder, str(why)
-    except (ValueError, LookupError) as why:
-        return folder, f"it can't be read: {why!r}"
+        for found in read_matches(program, hashes):
+            results.send(found)
+    except OSError as why:
+        results.send(why)
 
 
-def read_each(program, folders):
-    """The match or the reason of each folder, in this order, as many at once as there are processors. So few wait to be taken that
-    memory stays as it is, however many there are."""
-    if not folders:
-        return
-    with ProcessPoolExecutor(os.cpu_count()) as processes:
-        begun = deque()
-        for folder in folders:
-            begun.append(processes.submit(looked_at, program, folder))
-            if len(begun) > 2 * os.cpu_count():
-                yield begun.popleft().result()
-        while begun:
-            yield begun.popleft().result()
+def begun(program, hashes):
+    """Where to take what a process of its own finds in folders: it goes on as that is taken."""
+    found, results = Pipe(duplex=False)
+    Process(target=read_some, args=(program, hashes, results), daemon=True).start()
+    results.close()
+    return found
+
+
+def read_each(program, hashes):
+    """The match or the reason of each folder, in this order, by as many processes as there are processors. None of them is further
+    than one match ahead, so memory stays as it is, however many there are."""
+    folders = list(hashes)
+    count = min(os.cpu_count(), len(folders))
+    processes = [begun(program, {folder: hashes[folder] for folder in folders[at::count]}) for at in range(count)]
+    for at, _ in enumerate(folders):
+        found = processes[at % count].recv()
+        if isinstance(found, OSError):
+            raise found
+        yield found
 
 
 class Reading:
@@ -84,7 +88,7 @@ class Reading:
         for folder in self.files:
             if not self.is_known(folder):
                 alike.setdefault(key_in(folder) or folder, []).append(folder)
-        found = read_each(program, [folder for listed in alike.values() for folder in listed])
+        found = read_each(program, {folder: self.files[folder] for listed in alike.values() for folder in listed})
         hashes = set(self.files.values())
         for listed in alike.values():
             self.take(islice(found, len(listed)), hashes)

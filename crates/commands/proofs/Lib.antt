@@ -1,1 +1,2 @@
+pub mod EachLemmas
 pub mod LinesAgain

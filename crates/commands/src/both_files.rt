@@ -143,7 +143,7 @@ pub struct PlacedBook {
 }
 
 /// The book of both files of these bytes, and how many places each has.
-fn placed_book(
+pub fn placed_book(
     alloc: Global,
     sheet: &MatchSheet,
     first: &[u8],

@@ -101,7 +101,9 @@ rows Card =
     codes "  --kind both|a|b|book  from both desks' votes files, from desk A's, from desk" ∷
     codes "                        B's, or from a file of full lines" ∷
     codes "  --from F              the file; for both, desk A's" ∷
-    codes "  --with G              desk B's file, for both alone" ∷ []
+    codes "  --with G              desk B's file, for both alone" ∷
+    codes "  --each                of many matches, in place of these: standard input names" ∷
+    codes "                        their folders, one a line; or left out" ∷ []
 rows Export =
     codes "export: prints a book as one JSON value, in the format of published archives of" ∷
     codes "matches, ball by ball." ∷
@@ -114,6 +116,8 @@ rows Export =
     codes "                        B's, or from a file of full lines" ∷
     codes "  --from F              the file; for both, desk A's" ∷
     codes "  --with G              desk B's file, for both alone" ∷
+    codes "  --each                of many matches, in place of these: standard input names" ∷
+    codes "                        their folders, one a line; or left out" ∷
     codes "  --rows                a table of the deliveries, as CSV; or left out" ∷
     codes "  --penalties           a table of what no delivery carries; or left out" ∷ []
 rows Page =
@@ -126,7 +130,9 @@ rows Page =
     codes "  --kind both|a|b|book  from both desks' votes files, from desk A's, from desk" ∷
     codes "                        B's, or from a file of full lines" ∷
     codes "  --from F              the file; for both, desk A's" ∷
-    codes "  --with G              desk B's file, for both alone" ∷ []
+    codes "  --with G              desk B's file, for both alone" ∷
+    codes "  --each                of many matches, in place of these: standard input names" ∷
+    codes "                        their folders, one a line; or left out" ∷ []
 rows Lines =
     codes "lines: prints a book as full lines, each entry as it was written, from which" ∷
     codes "match begins it anew, as where a laptop is lost." ∷
@@ -137,7 +143,9 @@ rows Lines =
     codes "  --kind both|a|b|book  from both desks' votes files, from desk A's, from desk" ∷
     codes "                        B's, or from a file of full lines" ∷
     codes "  --from F              the file; for both, desk A's" ∷
-    codes "  --with G              desk B's file, for both alone" ∷ []
+    codes "  --with G              desk B's file, for both alone" ∷
+    codes "  --each                of many matches, in place of these: standard input names" ∷
+    codes "                        their folders, one a line; or left out" ∷ []
 rows Compare =
     codes "compare: tells where the votes files of both desks differ, a line for each place" ∷
     codes "and round, and then how many entries they agree." ∷

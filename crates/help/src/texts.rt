@@ -103,6 +103,8 @@ stands, and each correction.
                         B's, or from a file of full lines
   --from F              the file; for both, desk A's
   --with G              desk B's file, for both alone
+  --each                of many matches, in place of these: standard input names
+                        their folders, one a line; or left out
 ";
 
 const EXPORT: &str = "\
@@ -117,6 +119,8 @@ matches, ball by ball.
                         B's, or from a file of full lines
   --from F              the file; for both, desk A's
   --with G              desk B's file, for both alone
+  --each                of many matches, in place of these: standard input names
+                        their folders, one a line; or left out
   --rows                a table of the deliveries, as CSV; or left out
   --penalties           a table of what no delivery carries; or left out
 ";
@@ -132,6 +136,8 @@ falls, partnerships, charts, and each ball. The page loads nothing else.
                         B's, or from a file of full lines
   --from F              the file; for both, desk A's
   --with G              desk B's file, for both alone
+  --each                of many matches, in place of these: standard input names
+                        their folders, one a line; or left out
 ";
 
 const LINES: &str = "\
@@ -145,6 +151,8 @@ match begins it anew, as where a laptop is lost.
                         B's, or from a file of full lines
   --from F              the file; for both, desk A's
   --with G              desk B's file, for both alone
+  --each                of many matches, in place of these: standard input names
+                        their folders, one a line; or left out
 ";
 
 const COMPARE: &str = "\

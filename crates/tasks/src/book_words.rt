@@ -3,6 +3,7 @@
 ghost use Rattle.std.specs.Prelude.{IfSome};
 ghost use Rattle.tasks.specs.Words.{IsTask};
 
+use crate::forms::ONE_BOOK_OPTIONS;
 use crate::task::{BookFiles, Printed, Task};
 use crate::words::desk_in;
 use books::Source;
@@ -30,8 +31,8 @@ fn book_files_in<'a>(words: &ArgMatches<'a>) -> Option<BookFiles<'a>> {
     }
 }
 
-/// The task of printing so much of a book.
-pub fn book_task<'a>(printed: Printed, words: &ArgMatches<'a>) -> Option<Task<'a>>
+/// The task of printing so much of one book.
+fn one_book_task<'a>(printed: Printed, words: &ArgMatches<'a>) -> Option<Task<'a>>
     ensures { IfSome result IsTask }
 {
     Some(Task::Book {
@@ -39,6 +40,24 @@ pub fn book_task<'a>(printed: Printed, words: &ArgMatches<'a>) -> Option<Task<'a
         sheet: words.get_str("sheet")?,
         files: book_files_in(words)?,
     })
+}
+
+/// Whether the words name an option of one book.
+fn names_one_book(words: &ArgMatches<'_>) -> bool {
+    ONE_BOOK_OPTIONS
+        .iter()
+        .any(|option| words.get_str(*option).is_some())
+}
+
+/// The task of printing so much of a book, or of each of many, for which no option of one book is named.
+pub fn book_task<'a>(printed: Printed, words: &ArgMatches<'a>) -> Option<Task<'a>>
+    ensures { IfSome result IsTask }
+{
+    match (words.get_flag("each"), names_one_book(words)) {
+        (true, true) => None,
+        (true, false) => Some(Task::Each { printed }),
+        (false, _) => one_book_task(printed, words),
+    }
 }
 
 /// The task of `export`: one table, or the JSON.

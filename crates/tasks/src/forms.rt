@@ -9,11 +9,19 @@ const DESK_OPTIONS: [&str; 5] = ["sheet", "desk", "file", "at", "other"];
 /// What a board has to be told, likewise.
 const BOARD_OPTIONS: [&str; 4] = ["sheet", "at", "desk-a", "desk-b"];
 
-/// Whether a station has to be told this unless the sheet's table stands for it.
-pub fn is_of_station(command: &str, name: &str) -> bool {
+/// What has to be told of one book.
+const BOOK_OPTIONS: [&str; 3] = ["sheet", "from", "kind"];
+
+/// All that may be told of one book, and isn't where many are printed.
+pub const ONE_BOOK_OPTIONS: [&str; 4] = ["sheet", "from", "kind", "with"];
+
+/// Whether a command has to be told this unless another word stands for it: a station, for which the sheet's table does, or that
+/// many books are printed.
+pub fn is_stood_for(command: &str, name: &str) -> bool {
     match command {
         "desk" => DESK_OPTIONS.iter().any(|option| *option == name),
         "board" => BOARD_OPTIONS.iter().any(|option| *option == name),
+        "card" | "export" | "page" | "lines" => BOOK_OPTIONS.iter().any(|option| *option == name),
         _ => false,
     }
 }
@@ -59,15 +67,16 @@ fn with_free<'a>(
     Ok(words)
 }
 
-/// A station's words and options that have to be given unless the sheet's table stands for them.
+/// A command's words and options that have to be given unless this word stands for them.
 fn with_options<'a>(
     alloc: Global,
     words: Command<'a>,
     options: &[&'a str],
+    stands: &'a str,
 ) -> Result<Command<'a>, AllocError> {
     let mut words = words;
     for option in options {
-        words = words.arg(free(alloc, option).required_unless_present("which")?)?;
+        words = words.arg(free(alloc, option).required_unless_present(stands)?)?;
     }
     Ok(words)
 }
@@ -91,7 +100,9 @@ fn replay_words<'a>(alloc: Global) -> Result<Command<'a>, AllocError> {
 
 /// The words of `card`, of `export`, of `page` and of `lines`.
 fn book_words<'a>(alloc: Global, name: &'a str) -> Result<Command<'a>, AllocError> {
-    command(alloc, name, &["sheet", "from", "kind"])?.arg(free(alloc, "with"))
+    with_options(alloc, Command::new(alloc, name), &BOOK_OPTIONS, "each")?
+        .arg(free(alloc, "with"))?
+        .arg(flag(alloc, "each"))
 }
 
 /// The words of `export`.
@@ -125,7 +136,7 @@ fn station<'a>(alloc: Global, name: &'a str) -> Result<Command<'a>, AllocError> 
 
 /// The words of `desk`. Columns are those of a scorer's rows.
 fn desk_words<'a>(alloc: Global) -> Result<Command<'a>, AllocError> {
-    let words = with_options(alloc, station(alloc, "desk")?, &DESK_OPTIONS)?;
+    let words = with_options(alloc, station(alloc, "desk")?, &DESK_OPTIONS, "which")?;
     with_free(alloc, words, &["copy", "serve", "key"])?
         .arg(free(alloc, "board").action(ArgAction::Append))?
         .arg(free(alloc, "columns").value_parser(value_parser!(u16).range(60..=200)))
@@ -133,7 +144,7 @@ fn desk_words<'a>(alloc: Global) -> Result<Command<'a>, AllocError> {
 
 /// The words of `board`.
 fn board_words<'a>(alloc: Global) -> Result<Command<'a>, AllocError> {
-    let words = with_options(alloc, station(alloc, "board")?, &BOARD_OPTIONS)?;
+    let words = with_options(alloc, station(alloc, "board")?, &BOARD_OPTIONS, "which")?;
     with_free(alloc, words, &["text", "json", "script", "serve", "key"])
 }
 

@@ -77,6 +77,10 @@ pub enum Task<'a> {
         sheet: &'a str,
         files: BookFiles<'a>,
     },
+    /// To print the books of many matches, whose folders standard input names.
+    Each {
+        printed: Printed,
+    },
     /// To tell where both desks' votes files, A's and B's, differ.
     Compare {
         sheet: &'a str,

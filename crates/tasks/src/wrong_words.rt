@@ -1,6 +1,6 @@
 //! Which of the program's own words isn't understood, or lacks.
 
-use crate::forms::is_of_station;
+use crate::forms::{ONE_BOOK_OPTIONS, is_stood_for};
 use crate::values::{form_of, station_form};
 use crate::words_fault::WordsFault;
 use clap::{Arg, ArgAction, Command};
@@ -184,7 +184,7 @@ fn names_station(line: Line<'_, '_>) -> bool {
 fn first_lacking<'a>(line: Line<'a, '_>) -> Option<&'a str> {
     for arg in line.command.get_arguments() {
         let name = arg.get_long().unwrap_or("");
-        let is_needed = arg.is_required_set() || is_of_station(line.name, name);
+        let is_needed = arg.is_required_set() || is_stood_for(line.name, name);
         if is_needed && count_of(line.words, name) == 0 {
             return Some(name);
         }
@@ -192,10 +192,11 @@ fn first_lacking<'a>(line: Line<'a, '_>) -> Option<&'a str> {
     None
 }
 
-/// Looks at what has to be given: with `desk` and `board` the station, or all that the sheet's table says of one.
+/// Looks at what has to be given: with `desk` and `board` the station, or all that the sheet's table says of one; of a book all
+/// options, unless many are printed.
 fn look_for_all<'a>(line: Line<'a, '_>) -> Result<(), WordsFault<'a>> {
     let station = station_form(line.name);
-    if station.is_some() && names_station(line) {
+    if station.is_some() && names_station(line) || has(line, "each") {
         return Ok(());
     }
     match (station, first_lacking(line)) {
@@ -229,6 +230,25 @@ fn value_of<'a>(words: &'a [String], name: &str) -> Option<&'a str> {
 /// Whether an option is there.
 fn has(line: Line<'_, '_>, name: &str) -> bool {
     count_of(line.words, name) > 0
+}
+
+/// The first option of one book that is there.
+fn first_of_one_book<'a>(line: Line<'_, '_>) -> Option<&'a str> {
+    ONE_BOOK_OPTIONS
+        .iter()
+        .copied()
+        .find(|option| has(line, option))
+}
+
+/// Looks at what stands beside `--each`: no option of one book.
+fn look_at_each<'a>(line: Line<'a, '_>) -> Result<(), WordsFault<'a>> {
+    match first_of_one_book(line) {
+        Some(option) if has(line, "each") => Err(WordsFault::Misplaced {
+            option,
+            wanted: "not with --each",
+        }),
+        _ => Ok(()),
+    }
 }
 
 /// Looks at options that only stand without others, or with them.
@@ -271,6 +291,7 @@ fn look<'a>(line: Line<'a, '_>) -> Result<(), WordsFault<'a>> {
     }
     look_at_words(line)?;
     look_for_all(line)?;
+    look_at_each(line)?;
     look_at_pairs(line)?;
     look_at_kinds(line)
 }
