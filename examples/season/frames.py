@@ -3,9 +3,13 @@
 A frame is a line, and then as many bytes as it tells: folder, places of A's file and of B's, agreed entries, bytes, with tabs between.
 """
 import os
+import re
 import subprocess
 import tempfile
 from dataclasses import dataclass
+
+# no folder whose name has one is in the list
+CONTROL = re.compile("[\x00-\x1f\x7f]")
 
 
 @dataclass
@@ -25,22 +29,20 @@ class Printing:
     def __init__(self, program, word, folders):
         self.errors, self.told = tempfile.TemporaryFile(), []
         with tempfile.TemporaryFile() as names:
-            names.write(b"".join(os.fsencode(folder) + b"\n" for folder in folders))
+            names.write(b"".join(os.fsencode(folder) + b"\n" for folder in folders if not CONTROL.search(folder)))
             names.seek(0)
             self.run = subprocess.Popen([program, word, "--each"], stdin=names, stdout=subprocess.PIPE, stderr=self.errors)
         self.ahead = self.taken()
 
     def taken(self):
-        """The next frame, or none where there are no more."""
+        """The next frame, or none where there are no more, or the program ended within one."""
         line = self.run.stdout.readline()
         if not line:
             return None
         folder, *numbers = line.rstrip(b"\n").split(b"\t")
         a, b, agreed, size = map(int, numbers)
         text = self.run.stdout.read(size)
-        if len(text) < size:
-            raise ValueError(f"a frame of {size} bytes has {len(text)}")
-        return Frame(os.fsdecode(folder), a, b, agreed, text.decode())
+        return Frame(os.fsdecode(folder), a, b, agreed, text.decode()) if len(text) == size else None
 
     def frame_of(self, folder):
         """The frame of a folder, or none. Folders are asked for in the order of the list."""
@@ -58,7 +60,7 @@ class Printing:
         self.told += self.errors.read().split(b"\n")[:-1]
         begin = os.fsencode(folder) + b": "
         told = [line.removeprefix(begin) for line in self.told if line.startswith(begin)] or self.told
-        return told[-1].decode(errors="replace") if told else f"status {self.run.returncode}"
+        return told[-1].decode(errors="replace") if told else f"the program ended before it, with status {self.run.returncode}"
 
     def end(self):
         self.run.stdout.close()

@@ -10,7 +10,7 @@ import sys
 import tomllib
 from dataclasses import dataclass, field
 
-from frames import Printing
+from frames import CONTROL, Printing
 
 sys.path.append(os.path.join(os.path.dirname(os.path.realpath(__file__)), ".."))
 from read_export import CREDITED, OUTCOME, Card, Wrong, balls_penned, boundary, compare, counts, deliveries_of, standing, wants
@@ -97,6 +97,8 @@ def read_matches(program, hashes):
 
 def match_in(program, folder, files, cards, exports):
     """The match of a folder, whose files are one record, with the deliveries adding up to the card."""
+    if CONTROL.search(folder):
+        raise LeftOut("a control character is in its name")
     frames = [printing.frame_of(folder) for printing in (cards, exports)]
     if frames[0]:
         must_be_one_record(program, folder, frames[0])
