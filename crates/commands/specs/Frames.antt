@@ -85,7 +85,7 @@ abbrev pub WhyNoSheet : List ℕ → MatchFault → Type 0
 WhyNoSheet bytes NoMemory = ⊤
 WhyNoSheet bytes (Read files.Sheet) = LONGEST_SHEET < length bytes
 WhyNoSheet bytes (Sheet why words) = IsReading bytes (Err why)
-WhyNoSheet bytes (HandedOn why) = IsDocument bytes (Err why)
+WhyNoSheet bytes (HandedOn why words) = IsDocument bytes (Err why)
 WhyNoSheet bytes fault = ⊥
 
 -- out of memory, or both files have no book
@@ -138,7 +138,7 @@ abbrev pub stop_of_match : MatchFault → StopFault
 stop_of_match NoMemory = StopFault.NoMemory
 stop_of_match (Read file) = StopFault.Read
 stop_of_match (Sheet why words) = StopFault.Sheet why
-stop_of_match (HandedOn why) = StopFault.Sheet why
+stop_of_match (HandedOn why words) = StopFault.Sheet why
 stop_of_match (Book why) = stop_of (both.Book why)
 
 -- the line of a refused sheet: its number and its name, and what is wrong in words
@@ -149,6 +149,7 @@ worded_line None called words = codes "no memory\n"
 -- what a single run tells of it, its file being at this path
 abbrev pub reason_line : List ℕ → MatchFault → List ℕ
 reason_line path (Sheet why words) = worded_line (number_of why) (name_of why) (string_bytes words)
+reason_line path (HandedOn why words) = worded_line (number_of why) (name_of why) (string_bytes words)
 reason_line path fault = fault_line path (stop_of_match fault)
 
 -- the same behind its folder

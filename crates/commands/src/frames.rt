@@ -5,6 +5,7 @@ ghost use Rattle.agree_core.specs.Books.{AllTaken};
 ghost use Rattle.cards.specs.Reading.{IsReading};
 ghost use Rattle.cards.specs.SheetFault.{name_of, number_of};
 ghost use Rattle.corrections.specs.Refusal.{book_refusal};
+ghost use Rattle.export.specs.Document.{IsDocument};
 ghost use Rattle.streams.specs.Watched.{Prints, TellsFailure};
 ghost use Rattle.toml.specs.View.{table_view};
 ghost use Rattle.setup.specs.SheetText.{IsSheetOf};
@@ -22,7 +23,7 @@ use cards::{MatchSheet, SheetFault, read_sheet};
 use corrections::{BookOf, CheckedBook};
 use export::document_of;
 use setup::{LONGEST_SHEET, StopFault, print_fault};
-use sheet_check::{first_line, report_of};
+use sheet_check::{first_line, handed_report_of, report_of};
 use std::alloc::{AllocError, Global};
 use streams::{InputFault, Sink, Watched, WriteFailed};
 use toml::Table;
@@ -36,8 +37,8 @@ pub enum MatchFault {
     Read(MatchFile),
     /// The sheet is refused: what is wrong with it first, in words.
     Sheet { why: SheetFault, words: String },
-    /// What the sheet hands on is refused.
-    HandedOn(SheetFault),
+    /// What the sheet hands on is refused: what is wrong with it first, in words.
+    HandedOn { why: SheetFault, words: String },
     /// Both files have no book.
     Book(BothFault),
 }
@@ -64,7 +65,9 @@ impl MatchFault {
         match self {
             MatchFault::NoMemory => StopFault::NoMemory,
             MatchFault::Read(_) => StopFault::Read,
-            MatchFault::Sheet { why, .. } | MatchFault::HandedOn(why) => StopFault::Sheet(*why),
+            MatchFault::Sheet { why, .. } | MatchFault::HandedOn { why, .. } => {
+                StopFault::Sheet(*why)
+            }
             MatchFault::Book(why) => StopFault::from(BothPrintFault::Book(*why)),
         }
     }
@@ -116,6 +119,16 @@ fn fault_in_words(alloc: Global, text: &[u8], why: SheetFault) -> Result<MatchFa
     Ok(MatchFault::Sheet { why, words })
 }
 
+/// Why what a sheet of this text hands on is refused, in words.
+fn handed_in_words(alloc: Global, text: &[u8], why: SheetFault) -> Result<MatchFault, AllocError>
+    requires { IsDocument text.now (Err why) }
+    ensures { IfOk result (WhyNoSheet text.now) }
+{
+    let report = handed_report_of(alloc, text)?;
+    let words = String::from_str(alloc, first_line(report.as_str()))?;
+    Ok(MatchFault::HandedOn { why, words })
+}
+
 /// The match sheet of a file's bytes.
 fn sheet_of(alloc: Global, text: &[u8]) -> Result<MatchSheet, MatchFault>
     ensures sheet { IfOk result (IsSheetOf text.now) }
@@ -142,7 +155,7 @@ fn document_for(alloc: Global, product: Product, text: &[u8]) -> Result<Table, M
     match document_of(alloc, text) {
         Ok(document) => Ok(document),
         Err(SheetFault::NoMemory) => Err(MatchFault::NoMemory),
-        Err(why) => Err(MatchFault::HandedOn(why)),
+        Err(why) => Err(handed_in_words(alloc, text, why)?),
     }
 }
 
@@ -258,7 +271,9 @@ fn print_reason<W: Sink>(
     ensures failed { TellsFailure result out.old out.new }
 {
     match fault {
-        MatchFault::Sheet { why, words } => print_in_words(out, *why, words.as_str()),
+        MatchFault::Sheet { why, words } | MatchFault::HandedOn { why, words } => {
+            print_in_words(out, *why, words.as_str())
+        }
         _ => print_fault(out, path, fault.stop()),
     }
 }
