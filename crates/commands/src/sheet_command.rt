@@ -1,6 +1,7 @@
 //! `ground sheet`: a match sheet as it was read, or all that is wrong with it.
 
-ghost use Rattle.std.specs.Prelude.{◌≡◌, [], true, IfErr, IfOk, OnOk};
+ghost use Rattle.std.specs.Prelude.{◌≡◌, ◌≢◌, [], true, false, IfErr, IfOk, OnOk};
+ghost use Rattle.cards.specs.declared.fault.SheetFault.{SheetFault};
 ghost use Rattle.sheet_check.specs.SheetRows.{shown_sheet};
 ghost use Rattle.streams.specs.Watched.{Prints};
 ghost use Rattle.commands.specs.Product.{IsOfPrinting};
@@ -42,9 +43,18 @@ fn print_sheet<W: Sink>(
 
 /// Whether a report tells nothing.
 fn is_nothing(report: &str) -> bool
-    ensures { result ≡ true → report.now ≡ [] }
+    ensures nothing { result ≡ true → report.now ≡ [] }
+    ensures something { result ≡ false → report.now ≢ [] }
 {
     report.is_empty()
+}
+
+/// Whether a sheet isn't read for want of memory.
+fn is_no_memory(why: SheetFault) -> bool
+    ensures memory { result ≡ true → why ≡ SheetFault.NoMemory }
+    ensures fault { result ≡ false → why ≢ SheetFault.NoMemory }
+{
+    matches!(why, SheetFault::NoMemory)
 }
 
 /// `ground sheet`: prints the sheet of a file's bytes as it was read, or, where something is wrong with it, with its table of
@@ -65,7 +75,7 @@ pub fn sheet_run<W: Sink>(
             print_sheet(alloc, &sheet, writer)?;
             Ok(false)
         }
-        Err(SheetFault::NoMemory) => Err(StopFault::NoMemory),
+        Err(why) if is_no_memory(why) => Err(StopFault::NoMemory),
         _ => {
             printed(told, writer)?;
             Ok(true)
