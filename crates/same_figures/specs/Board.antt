@@ -1,4 +1,4 @@
--- An innings with figures f in a board's JSON: s is the sheet, h the history and i the innings, for what is no figure.
+-- An innings in a board's JSON, made of its figures f. The sheet s, the history h and the number i of the innings give the rest.
 use Rattle.std.specs.Prelude.{ℕ, ◌==◌, List, [], ◌∷◌, ◌++◌, map, codes}
 use Rattle.ball_laws.specs.History.{History}
 use Rattle.match_laws.specs.History.{opponent}

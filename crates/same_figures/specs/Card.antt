@@ -1,4 +1,4 @@
--- The cards of an innings with figures f: s is the sheet, h the history and i the innings, for what is no figure.
+-- The cards of an innings, made of its figures f. The sheet s, the history h and the number i of the innings give the rest.
 use Rattle.std.specs.Prelude.{ℕ, List, ◌++◌, codes, decimal}
 use Rattle.ball_laws.specs.History.{History}
 use Rattle.match_laws.specs.History.{opponent}

@@ -1,4 +1,4 @@
--- What a reader adds up of an innings in an export, where it has figures f: s is the sheet.
+-- What the deliveries of an innings in an export add up to, where the innings has the figures f. s is the sheet.
 use Rattle.std.specs.Prelude.{◌≡◌, ◌≢◌, ℕ, List, [], codes}
 use Rattle.match_laws.specs.declared.{rows.BattingRow.BattingRow, rows.BowlingRow.BowlingRow}
 use Rattle.match_laws.specs.History.{opponent}

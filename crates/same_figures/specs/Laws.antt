@@ -1,5 +1,5 @@
--- That four texts of a book tell the same figures: what `card` prints, the match's page, a board's JSON and an export. s is the
--- sheet. Page and export tell its sides apart.
+-- Four texts of a book show the same figures: what `card` prints, the match's page, a board's JSON and an export. s is the sheet;
+-- page and export tell its sides apart.
 use Rattle.std.specs.Prelude.{◌≡◌, ℕ, List, [], ◌∷◌, codes}
 use Rattle.notation.specs.declared.entry.Entry.{Entry}
 use Rattle.match_laws.specs.History.{begun}
@@ -19,8 +19,8 @@ use Rattle.same_figures.specs.Card.{both_cards}
 use Rattle.same_figures.specs.Export.{TellsFigures, falls_of}
 use Rattle.same_figures.specs.Page.{innings_html}
 
--- Each innings has figures: the cards of all innings, which `card` prints, are the texts of these, and so are the page's part of all
--- innings and `innings` in a board's JSON. In an export `innings` add up to them, and `falls` are theirs.
+-- Each innings has one value of its figures. The cards that `card` prints, the page's part of all innings and `innings` in a
+-- board's JSON are made of these values. In an export the deliveries of each innings add up to them, and `falls` is made of them.
 pub record TellTheSame (s : Sheet) (book : List Entry) : Type 0 where
   pub figures : ℕ → Figures
   pub card : cards_of s (history_of book) (begun (history_of book))

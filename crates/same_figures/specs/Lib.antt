@@ -1,4 +1,4 @@
--- What the law claims: Figures, and Card, Page, Board and Export, which say what each text tells of them; Laws.
+-- What the law claims: Laws, by Figures and what each text makes of them (Card, Page, Board, Export).
 pub mod Figures
 pub mod Card
 pub mod Page

@@ -1,5 +1,5 @@
--- The page's part of an innings with figures f: s is the sheet, n the innings a side, h the history, i the innings and xs the
--- items of the match, for what is no figure.
+-- The page's part of an innings, made of its figures f. The sheet s, the innings n of each side, the history h, the items xs of
+-- the match and the number i of the innings give the rest.
 use Rattle.std.specs.Prelude.{ℕ, ◌+◌, ◌==◌, if◌then◌else◌, List, [], ◌++◌, Option, codes}
 use Rattle.notation.specs.declared.entry.Cause.{Cause}
 use Rattle.ball_laws.specs.History.{History}

@@ -1,4 +1,4 @@
-//! That a book's texts tell the same figures.
+//! States that the texts of a book show the same figures.
 //!
 //! This function does nothing: it stands for the law that it ensures.
 
@@ -9,8 +9,8 @@ ghost use Rattle.corrections.specs.Legal.{IsLegalBook};
 ghost use Rattle.cards.specs.Sheet.{Sheet};
 ghost use Rattle.same_figures.specs.Laws.{TellTheSame};
 
-/// Of each legal book there are figures of each innings that its texts have in common: the cards, the match's page and a board's
-/// JSON are the texts of these figures, and what stands of an innings in an export adds up to them.
+/// Ensures that each innings of a legal book has one value of its figures for all texts: the cards, the match's page and a board's
+/// JSON are made of that value, and the deliveries of an export add up to it.
 pub fn texts_tell_the_same()
     ensures { (s : Sheet) → (book : List Entry) → All IsEntry book → IsLegalBook s.innings book → TellTheSame s book }
 {}

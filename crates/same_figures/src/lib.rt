@@ -1,4 +1,4 @@
-//! That what the program prints of a book tells the same figures everywhere.
+//! Proves that the cards, the match's page, a board's JSON and an export of one book show the same figures.
 #![tactic(auto)]
 
 mod laws;
