@@ -1,2 +1,2 @@
--- What is claimed of words.
+-- What is claimed of the words on the command line.
 pub mod Words

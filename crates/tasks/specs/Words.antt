@@ -1,4 +1,4 @@
--- What the words on the command line ask for, and what is told where they ask for nothing.
+-- What the words on the command line ask for, and what standard error is told where they are refused.
 use Rattle.std.specs.Prelude.{ℕ, ◌≤◌, ◌++◌, ⊤, List, codes}
 use Rattle.clap.specs.declared.error.kind.ErrorKind as clap
 use Rattle.clap.specs.declared.error.kind.ErrorKind.{ErrorKind}
@@ -9,11 +9,11 @@ use Rattle.tasks.specs.declared.task.BoardTask.TheVariants.{OfSheet}
 use Rattle.tasks.specs.declared.task.Task.TheVariants.{Board, Check, Replay}
 use Rattle.tasks.specs.declared.words_fault.WordsFault.TheVariants.{NotUnderstood, NotText, Unknown, TooOften, NoValue, WrongValue, Misplaced, WrongStation, Lacks, LacksOption, NoMemory}
 
--- what no words ask for: `check` in a match of two innings a side
+-- the task without any words: `check` in a match of two innings a side
 abbrev pub plain_task : Task
 plain_task = Check 2
 
--- a board of a sheet's table is one of four
+-- a board of the sheet's table is one of four
 abbrev pub IsBoardTask : BoardTask → Type 0
 IsBoardTask (OfSheet sheet index named shows) = index ≤ 3
 IsBoardTask task = ⊤
@@ -25,18 +25,18 @@ IsTask (Replay sheet schedule boards is_old) = boards ≤ 4
 IsTask (Board task) = IsBoardTask task
 IsTask task = ⊤
 
--- why the words can't be had from the host: out of memory, or one isn't UTF-8
+-- why the host doesn't give the words: out of memory, one isn't UTF-8, or another fault
 abbrev pub of_host : host.ErrorKind → WordsFault
 of_host hosts.OutOfMemory = NoMemory
 of_host hosts.InvalidData = NotText
 of_host kind = NotUnderstood
 
--- why `clap` doesn't take them: out of memory, or they are none of the program's forms
+-- why `clap` refuses the words: out of memory, or they have none of the program's forms
 abbrev pub of_parse : clap.ErrorKind → WordsFault
 of_parse ErrorKind.OutOfMemory = NoMemory
 of_parse kind = NotUnderstood
 
--- what standard error is told
+-- what standard error is told of refused words
 abbrev pub words_text : WordsFault → List ℕ
 words_text NotUnderstood = codes "words not understood"
 words_text NotText = codes "words not understood: one isn't UTF-8"

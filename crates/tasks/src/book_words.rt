@@ -10,7 +10,7 @@ use books::Source;
 use clap::ArgMatches;
 use delivery_rows::Table;
 
-/// What a text says that a book is read from.
+/// Returns the source that a text names: pen lines, or a desk's votes.
 fn source_in(text: &str) -> Option<Source> {
     match text {
         "book" => Some(Source::Lines),
@@ -18,7 +18,7 @@ fn source_in(text: &str) -> Option<Source> {
     }
 }
 
-/// What the words say that a book is made of: of both files where a second one is named, which only the kind `both` has.
+/// Returns the files that a book is made of: both desks' where `--with` names the second, which only the kind `both` allows.
 fn book_files_in<'a>(words: &ArgMatches<'a>) -> Option<BookFiles<'a>> {
     let from = words.get_str("from")?;
     match (words.get_str("kind")?, words.get_str("with")) {
@@ -31,7 +31,7 @@ fn book_files_in<'a>(words: &ArgMatches<'a>) -> Option<BookFiles<'a>> {
     }
 }
 
-/// The task of printing so much of one book.
+/// Returns the task of printing one book.
 fn one_book_task<'a>(printed: Printed, words: &ArgMatches<'a>) -> Option<Task<'a>>
     ensures { IfSome result IsTask }
 {
@@ -42,14 +42,14 @@ fn one_book_task<'a>(printed: Printed, words: &ArgMatches<'a>) -> Option<Task<'a
     })
 }
 
-/// Whether the words name an option of one book.
+/// Whether the words have an option that says which book is printed.
 fn names_one_book(words: &ArgMatches<'_>) -> bool {
     ONE_BOOK_OPTIONS
         .iter()
         .any(|option| words.get_str(*option).is_some())
 }
 
-/// The task of printing so much of a book, or of each of many, for which no option of one book is named.
+/// Returns the task of printing one book, or with `--each` the books of many matches. Options of one book are refused there.
 pub fn book_task<'a>(printed: Printed, words: &ArgMatches<'a>) -> Option<Task<'a>>
     ensures { IfSome result IsTask }
 {
@@ -60,7 +60,7 @@ pub fn book_task<'a>(printed: Printed, words: &ArgMatches<'a>) -> Option<Task<'a
     }
 }
 
-/// The task of `export`: one table, or the JSON.
+/// Returns the task of `export`: one of the two tables, or the JSON.
 pub fn export_task<'a>(words: &ArgMatches<'a>) -> Option<Task<'a>>
     ensures { IfSome result IsTask }
 {

@@ -1,22 +1,21 @@
-//! The words that the program takes.
+//! The commands and options that the program takes.
 
 use clap::{Arg, ArgAction, Command, value_parser};
 use std::alloc::{AllocError, Global};
 
-/// What a desk has to be told that no sheet's table says.
+/// The options that a desk needs where the sheet's table doesn't give them.
 const DESK_OPTIONS: [&str; 5] = ["sheet", "desk", "file", "at", "other"];
 
-/// What a board has to be told, likewise.
+/// The options that a board needs where the sheet's table doesn't give them.
 const BOARD_OPTIONS: [&str; 4] = ["sheet", "at", "desk-a", "desk-b"];
 
-/// What has to be told of one book.
+/// The options that one book needs.
 const BOOK_OPTIONS: [&str; 3] = ["sheet", "from", "kind"];
 
-/// All that may be told of one book, and isn't where many are printed.
+/// All options of one book. None of them may stand where many books are printed.
 pub const ONE_BOOK_OPTIONS: [&str; 4] = ["sheet", "from", "kind", "with"];
 
-/// Whether a command has to be told this unless another word stands for it: a station, for which the sheet's table does, or that
-/// many books are printed.
+/// Whether a command needs this option unless another word replaces it: a station of the sheet's table, or `--each`.
 pub fn is_stood_for(command: &str, name: &str) -> bool {
     match command {
         "desk" => DESK_OPTIONS.iter().any(|option| *option == name),
@@ -26,22 +25,22 @@ pub fn is_stood_for(command: &str, name: &str) -> bool {
     }
 }
 
-/// An option that has to be given, with any value.
+/// Returns a required option with any value.
 fn wanted<'a>(alloc: Global, name: &'a str) -> Arg<'a> {
     Arg::new(alloc, name).long(name).required(true)
 }
 
-/// An option without a value.
+/// Returns an option without a value.
 fn flag<'a>(alloc: Global, name: &'a str) -> Arg<'a> {
     Arg::new(alloc, name).long(name).action(ArgAction::SetTrue)
 }
 
-/// An option that may be left out, with any value.
+/// Returns an optional option with any value.
 fn free<'a>(alloc: Global, name: &'a str) -> Arg<'a> {
     Arg::new(alloc, name).long(name)
 }
 
-/// A command with options that have to be given, of these names.
+/// Returns a command with required options of these names.
 fn command<'a>(
     alloc: Global,
     name: &'a str,
@@ -54,7 +53,7 @@ fn command<'a>(
     Ok(words)
 }
 
-/// A command's words and options that may be left out, of these names.
+/// Adds optional options of these names to a command.
 fn with_free<'a>(
     alloc: Global,
     words: Command<'a>,
@@ -67,7 +66,7 @@ fn with_free<'a>(
     Ok(words)
 }
 
-/// A command's words and options that have to be given unless this word stands for them.
+/// Adds options of these names to a command, which are required unless the word `stands` is present.
 fn with_options<'a>(
     alloc: Global,
     words: Command<'a>,
@@ -81,7 +80,7 @@ fn with_options<'a>(
     Ok(words)
 }
 
-/// The words of `check`.
+/// Returns `check` with its options.
 fn check_words<'a>(alloc: Global) -> Result<Command<'a>, AllocError> {
     Command::new(alloc, "check").arg(
         Arg::new(alloc, "innings")
@@ -91,28 +90,28 @@ fn check_words<'a>(alloc: Global) -> Result<Command<'a>, AllocError> {
     )
 }
 
-/// The words of `replay`.
+/// Returns `replay` with its options.
 fn replay_words<'a>(alloc: Global) -> Result<Command<'a>, AllocError> {
     command(alloc, "replay", &["sheet", "schedule"])?
         .arg(wanted(alloc, "boards").value_parser(value_parser!(u8).range(0..=4)))?
         .arg(flag(alloc, "old"))
 }
 
-/// The words of `card`, of `export`, of `page` and of `lines`.
+/// Returns `card`, `export`, `page` or `lines` with the options that they share.
 fn book_words<'a>(alloc: Global, name: &'a str) -> Result<Command<'a>, AllocError> {
     with_options(alloc, Command::new(alloc, name), &BOOK_OPTIONS, "each")?
         .arg(free(alloc, "with"))?
         .arg(flag(alloc, "each"))
 }
 
-/// The words of `export`.
+/// Returns `export` with its options.
 fn export_words<'a>(alloc: Global) -> Result<Command<'a>, AllocError> {
     book_words(alloc, "export")?
         .arg(flag(alloc, "rows"))?
         .arg(flag(alloc, "penalties"))
 }
 
-/// The words of `match`.
+/// Returns `match` with its options.
 fn match_words<'a>(alloc: Global) -> Result<Command<'a>, AllocError> {
     command(alloc, "match", &["sheet", "book", "dir"])?.arg(
         Arg::new(alloc, "drop")
@@ -122,19 +121,19 @@ fn match_words<'a>(alloc: Global) -> Result<Command<'a>, AllocError> {
     )
 }
 
-/// The words of `typing`.
+/// Returns `typing` with its options.
 fn typing_words<'a>(alloc: Global) -> Result<Command<'a>, AllocError> {
     command(alloc, "typing", &["lines", "told"])?.arg(wanted(alloc, "columns").value_parser(
         value_parser!(u16).range(20..=1000),
     ))
 }
 
-/// A station's words, by which station of the sheet's table it may be.
+/// Returns a station's command with its optional argument: which station of the sheet's table it is.
 fn station<'a>(alloc: Global, name: &'a str) -> Result<Command<'a>, AllocError> {
     Command::new(alloc, name).arg(Arg::new(alloc, "which").index(1))
 }
 
-/// The words of `desk`. Columns are those of a scorer's rows.
+/// Returns `desk` with its options. `--columns` is the width of a scorer's rows.
 fn desk_words<'a>(alloc: Global) -> Result<Command<'a>, AllocError> {
     let words = with_options(alloc, station(alloc, "desk")?, &DESK_OPTIONS, "which")?;
     with_free(alloc, words, &["copy", "serve", "key"])?
@@ -142,13 +141,13 @@ fn desk_words<'a>(alloc: Global) -> Result<Command<'a>, AllocError> {
         .arg(free(alloc, "columns").value_parser(value_parser!(u16).range(60..=200)))
 }
 
-/// The words of `board`.
+/// Returns `board` with its options.
 fn board_words<'a>(alloc: Global) -> Result<Command<'a>, AllocError> {
     let words = with_options(alloc, station(alloc, "board")?, &BOARD_OPTIONS, "which")?;
     with_free(alloc, words, &["text", "json", "script", "serve", "key"])
 }
 
-/// The program's words and one more command.
+/// Adds one command to the program's.
 fn with_command<'a>(
     program: Command<'a>,
     words: Result<Command<'a>, AllocError>,
@@ -156,7 +155,7 @@ fn with_command<'a>(
     program.subcommand(words?)
 }
 
-/// The commands of books and sheets.
+/// Adds the commands of books and sheets.
 fn book_commands<'a>(alloc: Global, program: Command<'a>) -> Result<Command<'a>, AllocError> {
     let program = with_command(program, book_words(alloc, "card"))?;
     let program = with_command(program, export_words(alloc))?;
@@ -166,7 +165,7 @@ fn book_commands<'a>(alloc: Global, program: Command<'a>) -> Result<Command<'a>,
     with_command(program, command(alloc, "sheet", &["sheet"]))
 }
 
-/// The commands of stations and their files.
+/// Adds the commands of stations and their files.
 fn station_commands<'a>(alloc: Global, program: Command<'a>) -> Result<Command<'a>, AllocError> {
     let migrate = command(alloc, "migrate", &["sheet", "desk", "from", "to"]);
     let program = with_command(program, migrate)?;
@@ -177,7 +176,7 @@ fn station_commands<'a>(alloc: Global, program: Command<'a>) -> Result<Command<'
     with_command(program, board_words(alloc))
 }
 
-/// All the program's words.
+/// Returns all commands and options of the program.
 pub fn program_words<'a>(alloc: Global) -> Result<Command<'a>, AllocError> {
     let program = with_command(Command::new(alloc, "ground"), check_words(alloc))?;
     let program = with_command(program, replay_words(alloc))?;

@@ -1,4 +1,4 @@
-//! What the program is asked to do, by the words on the command line.
+//! What the words on the command line ask the program to do.
 #![tactic(auto)]
 
 mod book_words;

@@ -13,10 +13,10 @@ use station_table::{
 };
 use std::net::SocketAddr;
 
-/// The sheet of a station whose words name none: that of the folder.
+/// The sheet of a station whose words name none: the one in the folder.
 const SHEET: &str = "sheet.toml";
 
-/// No boards, where none are named.
+/// The boards where none are named.
 const NO_BOARDS: BoardNames<'static> = BoardNames {
     first: None,
     second: None,
@@ -24,7 +24,7 @@ const NO_BOARDS: BoardNames<'static> = BoardNames {
     fourth: None,
 };
 
-/// The address of a page, if the text is one with a port of its own.
+/// Returns a page's address, if the text is an address whose port isn't 0.
 fn place_in(text: &str) -> Option<Address<'_>> {
     match text.parse::<SocketAddr>() {
         Ok(socket) if socket.port() != 0 => Some(Address { text, socket }),
@@ -32,7 +32,7 @@ fn place_in(text: &str) -> Option<Address<'_>> {
     }
 }
 
-/// Where the words say that a page is, if they do.
+/// Returns the address of `--serve`, if it's given. Refuses one that is no address or whose port is 0.
 fn served_in<'a>(words: &ArgMatches<'a>) -> Option<Option<Address<'a>>> {
     match words.get_str("serve") {
         Some(text) => Some(Some(place_in(text)?)),
@@ -40,7 +40,7 @@ fn served_in<'a>(words: &ArgMatches<'a>) -> Option<Option<Address<'a>>> {
     }
 }
 
-/// How wide the words say that a scorer's rows are, if they do.
+/// Returns the width of a scorer's rows, in columns, if `--columns` is given. Refuses a wrong one.
 fn columns_in(words: &ArgMatches<'_>) -> Option<Option<Columns>> {
     match words.get_str("columns") {
         Some(_) => Some(Some(Columns::new(usize::from(number_in::<u16>(words, "columns")?))?)),
@@ -48,7 +48,7 @@ fn columns_in(words: &ArgMatches<'_>) -> Option<Option<Columns>> {
     }
 }
 
-/// The task of a desk whose options are all named.
+/// Returns the task of a desk whose options are all given.
 fn full_desk_task<'a>(words: &ArgMatches<'a>) -> Option<DeskTask<'a>> {
     let at = words.get_str("at")?;
     let other = words.get_str("other")?;
@@ -69,7 +69,7 @@ fn full_desk_task<'a>(words: &ArgMatches<'a>) -> Option<DeskTask<'a>> {
     }))
 }
 
-/// Where the words say that a board shows its book.
+/// Returns where a board shows its book.
 fn showing_in<'a>(words: &ArgMatches<'a>) -> Option<Showing<'a>> {
     Some(Showing {
         text: words.get_str("text"),
@@ -79,7 +79,7 @@ fn showing_in<'a>(words: &ArgMatches<'a>) -> Option<Showing<'a>> {
     })
 }
 
-/// The task of a board whose options are all named.
+/// Returns the task of a board whose options are all given.
 fn full_board_task<'a>(words: &ArgMatches<'a>) -> Option<BoardTask<'a>>
     ensures { IfSome result IsBoardTask }
 {
@@ -94,7 +94,7 @@ fn full_board_task<'a>(words: &ArgMatches<'a>) -> Option<BoardTask<'a>>
     }))
 }
 
-/// Whether a text is an address, if there is one.
+/// Whether a text is an address, or there is no text.
 fn is_address(text: Option<&str>) -> bool {
     match text {
         Some(text) => text.parse::<SocketAddr>().is_ok(),
@@ -102,7 +102,7 @@ fn is_address(text: Option<&str>) -> bool {
     }
 }
 
-/// The boards that are named, if they are addresses and not too many.
+/// Returns the addresses of `--board`. Refuses one that is no address, and more than a desk may have.
 fn boards_in<'a>(words: &ArgMatches<'a>) -> Option<BoardNames<'a>> {
     let Some(texts) = words.get_strs("board") else {
         return Some(NO_BOARDS);
@@ -119,7 +119,7 @@ fn boards_in<'a>(words: &ArgMatches<'a>) -> Option<BoardNames<'a>> {
     })
 }
 
-/// The task of a desk of the sheet's table, by its letter.
+/// Returns the task of a desk of the sheet's table, by its letter.
 fn desk_of_sheet<'a>(letter: &str, words: &ArgMatches<'a>) -> Option<DeskTask<'a>> {
     let named = DeskOptions {
         file: words.get_str("file"),
@@ -141,7 +141,7 @@ fn desk_of_sheet<'a>(letter: &str, words: &ArgMatches<'a>) -> Option<DeskTask<'a
     })
 }
 
-/// A desk's task.
+/// Returns the task of `desk`.
 pub fn desk_task<'a>(words: &ArgMatches<'a>) -> Option<DeskTask<'a>> {
     match words.get_str("which") {
         Some(letter) => desk_of_sheet(letter, words),
@@ -149,7 +149,7 @@ pub fn desk_task<'a>(words: &ArgMatches<'a>) -> Option<DeskTask<'a>> {
     }
 }
 
-/// The index of the board of a number, from 1 to 4.
+/// Returns the index, from 0, of the board with a number from 1 to 4.
 fn index_in(number: &str) -> Option<u8>
     ensures { IfSome result (λ index. index ≤ 3) }
 {
@@ -162,7 +162,7 @@ fn index_in(number: &str) -> Option<u8>
     }
 }
 
-/// The task of a board of the sheet's table, by its number.
+/// Returns the task of a board of the sheet's table, by its number.
 fn board_of_sheet<'a>(number: &str, words: &ArgMatches<'a>) -> Option<BoardTask<'a>>
     ensures { IfSome result IsBoardTask }
 {
@@ -183,7 +183,7 @@ fn board_of_sheet<'a>(number: &str, words: &ArgMatches<'a>) -> Option<BoardTask<
     })
 }
 
-/// A board's task.
+/// Returns the task of `board`.
 pub fn board_task<'a>(words: &ArgMatches<'a>) -> Option<BoardTask<'a>>
     ensures { IfSome result IsBoardTask }
 {

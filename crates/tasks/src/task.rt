@@ -9,31 +9,31 @@ use station_table::{BoardOptions, BoardSetting, DeskOptions, DeskSetting, Showin
 /// What is printed of a book.
 #[derive(Clone, Copy)]
 pub enum Printed {
-    /// The cards and the page.
+    /// The cards, and then the page.
     Cards,
     /// The book as JSON.
     Json,
-    /// A table of its deliveries or penalties.
+    /// A table of the book's deliveries or penalties.
     Rows(Table),
     /// The HTML page.
     Page,
-    /// The full lines.
+    /// The full line of each entry.
     Lines,
 }
 
-/// What a book is made of: a file of one source, or both desks' votes files, A's and B's, whose agreed list it is.
+/// The files that a book is made of: one file of a source, or the votes files of desks A and B, whose agreed list is the book.
 #[derive(Clone, Copy)]
 pub enum BookFiles<'a> {
     One { from: &'a str, source: Source },
     Both { a: &'a str, b: &'a str },
 }
 
-/// A desk that is to be kept.
+/// A desk to be kept.
 #[derive(Clone, Copy)]
 pub enum DeskTask<'a> {
-    /// With what its words name.
+    /// A station whose settings are all given by the words.
     Named(DeskSetting<'a>),
-    /// With what its words name, and what they don't from the sheet's table of stations.
+    /// A desk of the sheet's table of stations, which gives the settings that the words don't.
     OfSheet {
         sheet: &'a str,
         desk: DeskId,
@@ -42,12 +42,12 @@ pub enum DeskTask<'a> {
     },
 }
 
-/// A board that is to be kept.
+/// A board to be kept.
 #[derive(Clone, Copy)]
 pub enum BoardTask<'a> {
-    /// With what its words name.
+    /// A station whose settings are all given by the words.
     Named(BoardSetting<'a>),
-    /// One of the sheet's table, counted from 0, with what its words name, and what they don't from there.
+    /// A board of the sheet's table, counted from 0. The table gives the settings that the words don't.
     OfSheet {
         sheet: &'a str,
         index: u8,
@@ -59,65 +59,65 @@ pub enum BoardTask<'a> {
 /// What the program is asked to do.
 #[derive(Clone, Copy)]
 pub enum Task<'a> {
-    /// To take pen lines from standard input, in a match of so many innings a side, 1 or 2.
+    /// `check`: takes pen lines from standard input. The innings a side are 1 or 2.
     Check {
         innings: u32,
     },
-    /// To run a schedule in a world with so many boards, 0 to 4. Where it is old, the desks begin with votes
-    /// files of version 1.
+    /// `replay`: runs a schedule in a world with 0 to 4 boards. Where `is_old`, the desks begin with votes files of version 1.
     Replay {
         sheet: &'a str,
         schedule: &'a str,
         boards: u8,
         is_old: bool,
     },
-    /// To print a book.
+    /// `card`, `export`, `page` or `lines`: prints one book.
     Book {
         printed: Printed,
         sheet: &'a str,
         files: BookFiles<'a>,
     },
-    /// To print the books of many matches, whose folders standard input names.
+    /// `--each`: prints the books of many matches, whose folders standard input names.
     Each {
         printed: Printed,
     },
-    /// To tell where both desks' votes files, A's and B's, differ.
+    /// `compare`: tells where the votes files of desks A and B differ.
     Compare {
         sheet: &'a str,
         a: &'a str,
         b: &'a str,
     },
-    /// To write the votes of a desk's old file to a new one.
+    /// `migrate`: writes the votes of a desk's old file to a new one.
     Migrate {
         sheet: &'a str,
         desk: DeskId,
         from: &'a str,
         to: &'a str,
     },
-    /// To have two desks and a board agree the lines of a book, with the votes files in a folder. The first
-    /// datagrams, so many, are dropped.
+    /// `match`: has two desks and a board agree the lines of a book, with the votes files in a folder. Drops the first
+    /// `drop` datagrams.
     Match {
         sheet: &'a str,
         book: &'a str,
         folder: &'a str,
         drop: u16,
     },
-    /// To print a sheet as it was read, or all that is wrong with it.
+    /// `sheet`: prints a sheet as it was read, or all that is wrong with it.
     Sheet {
         sheet: &'a str,
     },
-    /// To write a new key to a file.
+    /// `key`: writes a new key to a file.
     Key {
         to: &'a str,
     },
-    /// To keep a desk's terminal of so many columns: lines go to a file or a pipe, and what the desk tells comes from another.
+    /// `typing`: keeps a desk's terminal of `columns` columns. Lines go to the file or pipe `lines`, and what the desk tells
+    /// comes from `told`.
     Typing {
         lines: &'a str,
         told: &'a str,
         columns: u16,
     },
-    /// To keep a scorer's desk.
+    /// `desk`: keeps a scorer's desk.
     Desk(DeskTask<'a>),
-    /// To keep a board.
+    /// `board`: keeps a board.
     Board(BoardTask<'a>),
 }

@@ -1,31 +1,31 @@
-//! What a value of a word has to be.
+//! The forms that values on the command line must have.
 
 use crate::words::desk_in;
 use machine::addresses_in;
 use std::net::{IpAddr, SocketAddr};
 
-/// What a value of an option, or behind a command's name, has to be.
+/// The form that an option's value, or a command's argument, must have.
 #[derive(Clone, Copy)]
 pub enum Form {
     /// Any text.
     Text,
-    /// The address and the port of a station or of its page.
+    /// The address and port of a station or of its page.
     Address,
-    /// Those of another station: of one machine.
+    /// The address and port of another station, on one machine.
     Peer,
     /// A desk.
     Letter,
     /// A board of the sheet's table.
     Number,
-    /// What a book is read from.
+    /// The source of a book.
     Source,
-    /// How wide a scorer's rows are.
+    /// The width of a scorer's rows.
     RowColumns,
-    /// How wide a terminal is.
+    /// The width of a terminal.
     Columns,
 }
 
-/// Whether a text is a number from one to another, without a sign or a needless zero.
+/// Whether a text is a number from `least` to `most`, without a sign or leading zero.
 fn is_within(text: &str, least: u16, most: u16) -> bool {
     let is_plain = match text.as_bytes() {
         [first, ..] => b'1' <= *first && *first <= b'9',
@@ -37,7 +37,7 @@ fn is_within(text: &str, least: u16, most: u16) -> bool {
     }
 }
 
-/// Whether a text is an address, with a port of its own, and not everybody's.
+/// Whether a text is an address whose port isn't 0, and not the IPv4 broadcast address.
 fn is_address(text: &str) -> bool {
     let Ok(socket) = text.parse::<SocketAddr>() else {
         return false;
@@ -50,7 +50,7 @@ fn is_address(text: &str) -> bool {
 }
 
 impl Form {
-    /// Whether a value is so.
+    /// Whether a value has this form.
     pub fn is_of(self, value: &str) -> bool {
         match self {
             Form::Text => true,
@@ -64,7 +64,7 @@ impl Form {
         }
     }
 
-    /// What is told of it where a value isn't so.
+    /// Returns the words that tell a user which values have this form.
     pub fn text<'a>(self) -> &'a str {
         match self {
             Form::Text => "a text",
@@ -78,7 +78,7 @@ impl Form {
     }
 }
 
-/// What the value of a command's option has to be.
+/// Returns the form of an option's value.
 pub fn form_of(command: &str, option: &str) -> Form {
     match option {
         "at" | "serve" => Form::Address,
@@ -91,7 +91,7 @@ pub fn form_of(command: &str, option: &str) -> Form {
     }
 }
 
-/// What stands behind a command's name where no option does, if anything may: a station, or what `help` is of.
+/// Returns the form of a command's argument, if it takes one: a station, or the subject of `help`.
 pub fn station_form(command: &str) -> Option<Form> {
     match command {
         "desk" => Some(Form::Letter),

@@ -15,7 +15,7 @@ use help::own_word;
 use std::alloc::Global;
 use std::str::FromStr;
 
-/// The number of an option, without a sign or a needless zero.
+/// Returns an option's number. Refuses a sign and a leading zero.
 pub fn number_in<T: FromStr>(words: &ArgMatches<'_>, name: &str) -> Option<T>
 where
     T::Err: Drop,
@@ -27,8 +27,7 @@ where
     words.get_one(name)
 }
 
-/// The innings a side. That `clap` has seen to the range is no clause of a command's words within the program's, so
-/// it is looked at again.
+/// Returns the innings a side. The range is checked again, as no clause says that `clap` checks it for a subcommand.
 fn innings_in(words: &ArgMatches<'_>) -> Option<u32>
     ensures { IfSome result (λ innings. (1 ≤ innings) × (innings ≤ 2)) }
 {
@@ -36,7 +35,7 @@ fn innings_in(words: &ArgMatches<'_>) -> Option<u32>
     (1..=2).contains(&innings).then_some(innings)
 }
 
-/// The boards of a world, likewise.
+/// Returns the number of boards of a world, whose range is checked again too.
 fn boards_in(words: &ArgMatches<'_>) -> Option<u8>
     ensures { IfSome result (λ boards. boards ≤ 4) }
 {
@@ -44,7 +43,7 @@ fn boards_in(words: &ArgMatches<'_>) -> Option<u8>
     (0..=4).contains(&boards).then_some(boards)
 }
 
-/// The desk that a text names.
+/// Returns the desk that a text names.
 pub fn desk_in(text: &str) -> Option<DeskId> {
     match text {
         "a" => Some(DeskId::A),
@@ -53,7 +52,7 @@ pub fn desk_in(text: &str) -> Option<DeskId> {
     }
 }
 
-/// The task of `check`.
+/// Returns the task of `check`.
 fn check_task<'a>(words: &ArgMatches<'a>) -> Option<Task<'a>>
     ensures { IfSome result IsTask }
 {
@@ -62,7 +61,7 @@ fn check_task<'a>(words: &ArgMatches<'a>) -> Option<Task<'a>>
     })
 }
 
-/// The task of `replay`.
+/// Returns the task of `replay`.
 fn replay_task<'a>(words: &ArgMatches<'a>) -> Option<Task<'a>>
     ensures { IfSome result IsTask }
 {
@@ -74,7 +73,7 @@ fn replay_task<'a>(words: &ArgMatches<'a>) -> Option<Task<'a>>
     })
 }
 
-/// The task of `compare`.
+/// Returns the task of `compare`.
 fn compare_task<'a>(words: &ArgMatches<'a>) -> Option<Task<'a>>
     ensures { IfSome result IsTask }
 {
@@ -85,7 +84,7 @@ fn compare_task<'a>(words: &ArgMatches<'a>) -> Option<Task<'a>>
     })
 }
 
-/// The task of `migrate`.
+/// Returns the task of `migrate`.
 fn migrate_task<'a>(words: &ArgMatches<'a>) -> Option<Task<'a>>
     ensures { IfSome result IsTask }
 {
@@ -97,7 +96,7 @@ fn migrate_task<'a>(words: &ArgMatches<'a>) -> Option<Task<'a>>
     })
 }
 
-/// The task of `match`.
+/// Returns the task of `match`.
 fn match_task<'a>(words: &ArgMatches<'a>) -> Option<Task<'a>>
     ensures { IfSome result IsTask }
 {
@@ -109,7 +108,7 @@ fn match_task<'a>(words: &ArgMatches<'a>) -> Option<Task<'a>>
     })
 }
 
-/// The task of `typing`.
+/// Returns the task of `typing`.
 fn typing_task<'a>(words: &ArgMatches<'a>) -> Option<Task<'a>>
     ensures { IfSome result IsTask }
 {
@@ -120,7 +119,7 @@ fn typing_task<'a>(words: &ArgMatches<'a>) -> Option<Task<'a>>
     })
 }
 
-/// The task of a command's words.
+/// Returns the task of a command with these words.
 fn task_of<'a>(command: &str, words: &ArgMatches<'a>) -> Option<Task<'a>>
     ensures { IfSome result IsTask }
 {
@@ -150,7 +149,7 @@ fn task_of<'a>(command: &str, words: &ArgMatches<'a>) -> Option<Task<'a>>
     }
 }
 
-/// What the matches of the program's words ask for.
+/// Returns the task that the parsed words ask for.
 fn understood<'a>(matches: &ArgMatches<'a>) -> Option<Task<'a>>
     ensures { IfSome result IsTask }
 {
@@ -158,7 +157,7 @@ fn understood<'a>(matches: &ArgMatches<'a>) -> Option<Task<'a>>
     task_of(command, words)
 }
 
-/// Why words aren't understood: which of them and what would be is told of the program's own words alone.
+/// Returns why words aren't understood. Names the wrong word, and what is wanted, only behind one of the program's own words.
 fn fault_of<'a>(program: &Command<'a>, words: &'a [String]) -> WordsFault<'a> {
     let [_, first, more @ ..] = words else {
         return WordsFault::NotUnderstood;
@@ -172,11 +171,10 @@ fn fault_of<'a>(program: &Command<'a>, words: &'a [String]) -> WordsFault<'a> {
     }
 }
 
-/// What the words on the command line ask to be done, the program's name first. With no word behind it that is `check` with
-/// two innings a side. Words that are none of the forms aren't understood: of the program's own
-/// words it is told which, and what would be. Such are also `--help`, `--version`, an option
-/// given twice, a number with a sign or a needless zero, and `help`, which `main` answers where it is `help::asked`. `clap`
-/// tells where memory was refused it.
+/// Returns the task that the words on the command line ask for, the program's name first: without any other word `check` with
+/// two innings a side. Refuses words that have none of the program's forms, and names the wrong one, and what is wanted, behind
+/// one of the program's own words. Refuses also `--help`, `--version`, an option given twice, a number with a sign or a leading
+/// zero, and `help`, which `main` answers where it is `help::asked`. Memory that was refused to `clap` is told as such.
 pub fn task_in<'a>(alloc: Global, words: &'a [String]) -> Result<Task<'a>, WordsFault<'a>>
     ensures no_words { length words.now ≤ 1 → result ≡ Ok plain_task }
     ensures in_range { IfOk result IsTask }

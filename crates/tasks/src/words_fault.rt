@@ -1,4 +1,4 @@
-//! Why the words on the command line ask for nothing.
+//! Why the words on the command line are refused.
 
 ghost use Rattle.std.specs.Prelude.{◌≡◌, Some, OnOk};
 ghost use Rattle.streams.specs.Watched.{Prints, TellsFailure};
@@ -9,31 +9,31 @@ use std::{fmt, io};
 use streams::{Sink, Watched, WriteFailed};
 use thiserror::Error;
 
-/// Why the words on the command line ask for nothing.
+/// Why the words on the command line are refused.
 #[derive(Clone, Copy, Debug, Error)]
 pub enum WordsFault<'a> {
-    /// They are none of the program's forms.
+    /// The words have none of the program's forms.
     NotUnderstood,
-    /// One of them isn't UTF-8.
+    /// One of the words isn't UTF-8.
     NotText,
-    /// This is no option of theirs, and nothing that may stand there.
+    /// This word is no option of the command, and may not stand there otherwise.
     Unknown(&'a str),
-    /// This option is there more often than it may be.
+    /// This option is given too often.
     TooOften(&'a str),
     /// This option has no value.
     NoValue(&'a str),
-    /// The value of this option isn't what is wanted.
+    /// The value of this option doesn't have the wanted form.
     WrongValue {
         option: &'a str,
         value: &'a str,
         wanted: &'a str,
     },
-    /// This option doesn't go with the others.
+    /// This option doesn't go with the other ones.
     Misplaced {
         option: &'a str,
         wanted: &'a str,
     },
-    /// The station of this command isn't what is wanted.
+    /// The station of this command doesn't have the wanted form.
     WrongStation {
         command: &'a str,
         word: &'a str,
@@ -58,7 +58,7 @@ impl fmt::Display for WordsFault<'_> {
 
     ghost output = { λ fault. Some (words_text fault) };
 
-    /// Writes what standard error is told of it.
+    /// Writes the words that standard error is told.
     fn fmt<W: fmt::Write>(&self, f: &mut fmt::Formatter<W>) -> fmt::Result {
         match self {
             WordsFault::NotUnderstood => f.write_str("words not understood"),
@@ -110,7 +110,7 @@ impl From<io::Error> for WordsFault<'_> {
 
     ghost from_gives = { λ why fault. fault ≡ of_host (error_kind why) };
 
-    /// Why the host doesn't give the words.
+    /// Returns why the host doesn't give the words.
     fn from(why: io::Error) -> Self {
         match why.kind() {
             io::ErrorKind::OutOfMemory => WordsFault::NoMemory,
@@ -126,7 +126,7 @@ impl From<clap::Error> for WordsFault<'_> {
 
     ghost from_gives = { λ why fault. fault ≡ of_parse (kind_of why) };
 
-    /// Why `clap` doesn't take the words: every kind but out of memory is of words that are none of the forms.
+    /// Returns why `clap` refuses the words: every kind but out of memory means that they have none of the forms.
     fn from(why: clap::Error) -> Self {
         match why.kind() {
             clap::error::ErrorKind::OutOfMemory => WordsFault::NoMemory,
@@ -135,7 +135,7 @@ impl From<clap::Error> for WordsFault<'_> {
     }
 }
 
-/// Prints the line that standard error has of a fault of the words.
+/// Prints the line that tells standard error why the words are refused.
 pub fn print_words_fault<W: Sink>(
     out: &mut Watched<W>,
     fault: WordsFault<'_>,

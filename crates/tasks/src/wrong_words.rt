@@ -1,4 +1,4 @@
-//! Which of the program's own words isn't understood, or lacks.
+//! Which word of a command isn't understood, or is missing.
 
 use crate::forms::{ONE_BOOK_OPTIONS, is_stood_for};
 use crate::values::{form_of, station_form};
@@ -9,7 +9,7 @@ use machine::addresses_in;
 /// The most boards of a desk.
 const MOST_BOARDS: usize = 4;
 
-/// A command, and the words behind its name.
+/// A command, and the words after its name.
 #[derive(Clone, Copy)]
 struct Line<'a, 'c> {
     name: &'a str,
@@ -17,7 +17,7 @@ struct Line<'a, 'c> {
     words: &'a [String],
 }
 
-/// The name of the option that a word is, and the value that stands within it, behind a `=`.
+/// Returns the name of the option that a word is, and its value, if the word has one after a `=`.
 fn option_in(word: &str) -> Option<(&str, Option<&str>)> {
     let option = word.strip_prefix("--")?;
     match option.split_once('=') {
@@ -34,7 +34,7 @@ fn is_option(word: &str, name: &str) -> bool {
     }
 }
 
-/// How often an option is among these words.
+/// Returns how often an option is among these words.
 fn count_of(words: &[String], name: &str) -> usize {
     words
         .iter()
@@ -42,7 +42,7 @@ fn count_of(words: &[String], name: &str) -> usize {
         .count()
 }
 
-/// A command's option of this name.
+/// Returns a command's option of this name.
 fn find_option<'a, 'c>(command: &'c Command<'a>, name: &str) -> Option<&'c Arg<'a>> {
     command
         .get_arguments()
@@ -50,7 +50,7 @@ fn find_option<'a, 'c>(command: &'c Command<'a>, name: &str) -> Option<&'c Arg<'
         .find(|arg| arg.get_long() == Some(name))
 }
 
-/// Whether a word stands where an option does, and is none of the command's: one that begins with `-`.
+/// Whether a word looks like an option, as it begins with `-`, but is none of the command's.
 fn is_wrong_option(command: &Command<'_>, word: &str) -> bool {
     match option_in(word) {
         Some((name, _)) => find_option(command, name).is_none(),
@@ -58,7 +58,7 @@ fn is_wrong_option(command: &Command<'_>, word: &str) -> bool {
     }
 }
 
-/// The first of a command's words that is no option of it.
+/// Returns the first word that looks like an option but is none of the command's.
 fn wrong_option<'a>(line: Line<'a, '_>) -> Option<&'a str> {
     for word in line.words {
         if is_wrong_option(line.command, word.as_str()) {
@@ -68,7 +68,7 @@ fn wrong_option<'a>(line: Line<'a, '_>) -> Option<&'a str> {
     None
 }
 
-/// Looks at the value of an option.
+/// Checks the value of an option.
 fn look_at_value<'a>(
     line: Line<'a, '_>,
     option: &'a str,
@@ -85,7 +85,7 @@ fn look_at_value<'a>(
     })
 }
 
-/// Looks at how often an option is there: once, and a board's at most as often as a desk may have boards.
+/// Checks how often an option is given: at most once, but `--board` of a desk at most four times.
 fn look_at_count<'a>(
     line: Line<'a, '_>,
     arg: &Arg<'a>,
@@ -101,7 +101,7 @@ fn look_at_count<'a>(
     Ok(())
 }
 
-/// Looks at a word that is an option. Returns its name, where its value is the next word.
+/// Checks a word that is an option. Returns its name where its value is the next word.
 fn look_at_option<'a>(
     line: Line<'a, '_>,
     name: &'a str,
@@ -120,7 +120,7 @@ fn look_at_option<'a>(
     }
 }
 
-/// Looks at a word that is neither an option nor the value of one: the station, of `desk` and of `board`.
+/// Checks a word that is neither an option nor an option's value: the station of `desk` or `board`.
 fn look_at_station<'a>(line: Line<'a, '_>, word: &'a str) -> Result<(), WordsFault<'a>> {
     let Some(form) = station_form(line.name) else {
         return Err(WordsFault::Unknown(word));
@@ -135,7 +135,7 @@ fn look_at_station<'a>(line: Line<'a, '_>, word: &'a str) -> Result<(), WordsFau
     })
 }
 
-/// Looks at a word, behind an option that waits for its value or behind none. Returns the option that then waits.
+/// Checks a word, where the option `waits`, if any, still needs its value. Returns the option that needs its value next.
 fn look_at_word<'a>(
     line: Line<'a, '_>,
     waits: Option<&'a str>,
@@ -155,7 +155,7 @@ fn look_at_word<'a>(
     }
 }
 
-/// Looks at each word in turn.
+/// Checks each word in turn, and that the last option has its value.
 fn look_at_words<'a>(line: Line<'a, '_>) -> Result<(), WordsFault<'a>> {
     let mut waits = None;
     for word in line.words {
@@ -167,7 +167,7 @@ fn look_at_words<'a>(line: Line<'a, '_>) -> Result<(), WordsFault<'a>> {
     }
 }
 
-/// Whether a station is named behind the command: a word that is neither an option nor the value of one.
+/// Whether the words name a station: a word that is neither an option nor an option's value.
 fn names_station(line: Line<'_, '_>) -> bool {
     let mut is_value = false;
     for word in line.words {
@@ -180,7 +180,7 @@ fn names_station(line: Line<'_, '_>) -> bool {
     false
 }
 
-/// The first of the options that have to be given, and isn't.
+/// Returns the first required option that is missing.
 fn first_lacking<'a>(line: Line<'a, '_>) -> Option<&'a str> {
     for arg in line.command.get_arguments() {
         let name = arg.get_long().unwrap_or("");
@@ -192,8 +192,8 @@ fn first_lacking<'a>(line: Line<'a, '_>) -> Option<&'a str> {
     None
 }
 
-/// Looks at what has to be given: with `desk` and `board` the station, or all that the sheet's table says of one; of a book all
-/// options, unless many are printed.
+/// Checks that nothing required is missing: `desk` and `board` need the station, or all that the sheet's table would give;
+/// a book needs all its options, unless `--each` is given.
 fn look_for_all<'a>(line: Line<'a, '_>) -> Result<(), WordsFault<'a>> {
     let station = station_form(line.name);
     if station.is_some() && names_station(line) || has(line, "each") {
@@ -212,7 +212,7 @@ fn look_for_all<'a>(line: Line<'a, '_>) -> Result<(), WordsFault<'a>> {
     }
 }
 
-/// The value of an option, where it is there with one.
+/// Returns the value of an option, if it's given with one.
 fn value_of<'a>(words: &'a [String], name: &str) -> Option<&'a str> {
     let mut is_next = false;
     for word in words {
@@ -227,12 +227,12 @@ fn value_of<'a>(words: &'a [String], name: &str) -> Option<&'a str> {
     None
 }
 
-/// Whether an option is there.
+/// Whether an option is given.
 fn has(line: Line<'_, '_>, name: &str) -> bool {
     count_of(line.words, name) > 0
 }
 
-/// The first option of one book that is there.
+/// Returns the first option of one book that is given.
 fn first_of_one_book<'a>(line: Line<'_, '_>) -> Option<&'a str> {
     ONE_BOOK_OPTIONS
         .iter()
@@ -240,7 +240,7 @@ fn first_of_one_book<'a>(line: Line<'_, '_>) -> Option<&'a str> {
         .find(|option| has(line, option))
 }
 
-/// Looks at what stands beside `--each`: no option of one book.
+/// Checks that no option of one book stands beside `--each`.
 fn look_at_each<'a>(line: Line<'a, '_>) -> Result<(), WordsFault<'a>> {
     match first_of_one_book(line) {
         Some(option) if has(line, "each") => Err(WordsFault::Misplaced {
@@ -251,7 +251,7 @@ fn look_at_each<'a>(line: Line<'a, '_>) -> Result<(), WordsFault<'a>> {
     }
 }
 
-/// Looks at options that only stand without others, or with them.
+/// Checks options that exclude or need another one.
 fn look_at_pairs<'a>(line: Line<'a, '_>) -> Result<(), WordsFault<'a>> {
     let is_both = value_of(line.words, "kind") == Some("both");
     let (option, wanted) = match line.name {
@@ -264,7 +264,7 @@ fn look_at_pairs<'a>(line: Line<'a, '_>) -> Result<(), WordsFault<'a>> {
     Err(WordsFault::Misplaced { option, wanted })
 }
 
-/// Looks at a station's addresses: they are of one kind.
+/// Checks that a station's addresses are all of one kind.
 fn look_at_kinds<'a>(line: Line<'a, '_>) -> Result<(), WordsFault<'a>> {
     let Some(at) = value_of(line.words, "at") else {
         return Ok(());
@@ -284,7 +284,7 @@ fn look_at_kinds<'a>(line: Line<'a, '_>) -> Result<(), WordsFault<'a>> {
     Ok(())
 }
 
-/// What is first wrong with the words.
+/// Returns the first thing that is wrong with the words.
 fn look<'a>(line: Line<'a, '_>) -> Result<(), WordsFault<'a>> {
     if let Some(word) = wrong_option(line) {
         return Err(WordsFault::Unknown(word));
@@ -296,7 +296,7 @@ fn look<'a>(line: Line<'a, '_>) -> Result<(), WordsFault<'a>> {
     look_at_kinds(line)
 }
 
-/// Why the words behind one of the program's own aren't understood.
+/// Returns why the words after a command's name aren't understood.
 pub fn wrong_words<'a>(
     name: &'a str,
     command: &Command<'a>,
