@@ -24,7 +24,7 @@ use Rattle.books.specs.declared.source.Source.{Source}
 use Rattle.books.specs.declared.source.Source.TheVariants.{Lines}
 use Rattle.commands.specs.Lines.{AreReadAgain, full_line, lines_text}
 
--- one entry more of a book
+-- if the first k entries of a book can be written and the next one too, the first k + 1 can
 pub one_more : (book : List Entry) (k : ℕ) (e : Entry) → All IsEntry (take k book) → slice_get book k ≡ Some e → IsEntry e → All IsEntry (take (k + 1) book)
 one_more book k e h is in_range = All-more IsEntry book k e (slice_get_within book k e is) h (rw (get_or_from_slice_get book k e e is) in_range)
 
@@ -32,12 +32,12 @@ one_more book k e h is in_range = All-more IsEntry book k e (slice_get_within bo
 abbrev pub is_one_line : List ℕ → Bool
 is_one_line bs = list_all (λ b. not (b == 10)) bs
 
--- a line up to its newline
+-- the first line of a text ends at its newline
 cut : (line rest : List ℕ) → is_one_line line ≡ true → lines_of (line ++ (10 ∷ rest)) ≡ line ∷ lines_of rest
 cut [] rest h = refl
 cut (b ∷ bs) rest h = grind (arith, cut bs rest)
 
--- the pieces between spaces of a spaced line are visible
+-- a line whose pieces between spaces are visible has no newline
 visible_line : (bs : List ℕ) → list_all (list_all is_visible) (tokens bs) ≡ true → is_one_line bs ≡ true
 visible_line [] h = refl
 visible_line (b ∷ bs) h = grind (arith, visible_line bs)
@@ -46,7 +46,7 @@ spaced : (pieces : List (List ℕ)) → list_all is_token pieces ≡ true → li
 spaced [] h = refl
 spaced (w ∷ ws) h = grind (arith, spaced ws)
 
--- what is read as an entry is spaced
+-- a line that is read as an entry is spaced
 read_is_spaced : (line : List ℕ) (e : Entry) → line_answer line ≡ Ok e → is_spaced line ≡ true
 unfolding line_answer
 read_is_spaced line e h = grind arith
@@ -54,7 +54,7 @@ read_is_spaced line e h = grind arith
 text_is_one_line : (e : Entry) → IsEntry e → is_one_line (text_of e) ≡ true
 text_is_one_line e h = visible_line (text_of e) (spaced (tokens (text_of e)) (read_is_spaced (text_of e) e (line_again e h)))
 
--- the lines of the lines of these entries are their texts
+-- splitting the printed lines of these entries gives their texts
 lines_of-lines_from : (n : ℕ) (book : List Entry) → All IsEntry book → lines_of (lines_from full_line n book) ≡ map text_of book
 lines_of-lines_from n [] h = refl
 lines_of-lines_from n (e ∷ es) h =
@@ -68,20 +68,20 @@ texts_again : (book : List Entry) → All IsEntry book → map line_answer (map 
 texts_again [] h = refl
 texts_again (e ∷ es) h = rw (line_again e (All-head IsEntry e es h), texts_again es (All-tail IsEntry e es h)) refl
 
--- all entries of a book, so many
+-- a book of n entries, at most PLACES, is read again if all its entries can be written
 pub all_read : (book : List Entry) (k n : ℕ) → n ≤ k → n ≡ length book → n ≤ PLACES → All IsEntry (take k book) → AreReadAgain book
 all_read book k n end long few h =
     let all = rw (take_all k book (omega (arith, end, long))) at h in
     record { said = rw (lines_of-lines_from 0 book all) (texts_again book all); places = omega (arith, long, few) }
 
--- ---- as a book
+-- ---- the lines as a book
 
 module _ (innings : ℕ) where
-  -- a line that says an entry which may come next is taken
+  -- a line is taken if its entry may come next
   taken_next : (book : List Entry) (line : List ℕ) (e : Entry) → line_answer line ≡ Ok e → length book < PLACES → book_refusal innings book e ≡ None → answer_to innings book line ≡ Ok e
   taken_next book line e says few may = grind (arith, says, few, may)
 
-  -- lines that say entries of which each may come next are taken, all of them
+  -- lines are all taken if each one's entry may come next
   all_taken : (n : ℕ) (book : List Entry) (lines : List (List ℕ)) (es : List Entry) → map line_answer lines ≡ map Ok es →
       AllTaken (book_refusal innings) book es → length book + length es ≤ PLACES →
       (first_rejected innings n book lines ≡ None) × (book_after innings book lines ≡ book ++ es)
@@ -95,11 +95,11 @@ module _ (innings : ℕ) where
       let later = all_taken (n + 1) (book ++ e ∷ []) lines es rest may.1 (omega (arith, few, length-append book (e ∷ []))) in
       (rw (first_rejected, next) later.0, rw next (rw (append_assoc book (e ∷ [])) at later.1))
 
-  -- the lines of a legal book are that book again
+  -- the lines of a legal book, read again, make that book
   pub again : (book : List Entry) → AreReadAgain book → AllTaken (book_refusal innings) [] book → IsBookOfLines innings (lines_text book) book
   again book m may = let all = all_taken 1 [] (lines_of (lines_text book)) book m.said may (omega (arith, m.places)) in record { taken = all.0; entries = sym all.1 }
 
-  -- what was taken of lines may come next, entry by entry
+  -- an entry that was taken from a line was one that may come next
   was_allowed : (book : List Entry) (line : List ℕ) (e : Entry) → answer_to innings book line ≡ Ok e → book_refusal innings book e ≡ None
   was_allowed book line e taken = grind (arith, taken)
 
@@ -125,7 +125,7 @@ file_allowed : (innings : ℕ) (shown : Result (List Ballot) Refusal) (book : Li
 file_allowed innings (Ok votes) book made = rw (made.entries) (votes_allowed innings votes made.taken)
 file_allowed innings (Err why) book made = absurd made
 
--- the entries of an input's book may come next, one by one
+-- each entry of an input's book may come next after those before it
 pub input_allowed : (source : Source) (s : Sheet) (input : List ℕ) (book : List Entry) → IsBookFrom source s input book → AllTaken (book_refusal s.innings) [] book
 input_allowed Lines s input book made = rw (made.entries) (lines_allowed s.innings [] (lines_of input) tt)
 input_allowed (Source.Votes desk) s input book made = file_allowed s.innings (votes_in_file desk s.game input) book made

@@ -1,4 +1,4 @@
--- What `check` writes of pen lines: a line for each that isn't taken, and then the board of those that are.
+-- What `check` writes for pen lines: a line for each one that isn't taken, and then the board of the lines that are.
 use Rattle.std.specs.Prelude.{ℕ, ◌+◌, List, [], ◌∷◌, ◌++◌, Bool, true, false, ◌||◌, Result, Ok, Err}
 use Rattle.notation.specs.declared.entry.Entry.{Entry}
 use Rattle.corrections.specs.CleanList.{history_of}
@@ -32,7 +32,7 @@ has_rejected innings book (line ∷ lines) =
     is_rejected (answer_to innings book line)
     || has_rejected innings (with_taken (answer_to innings book line) book) lines
 
--- the sheet of a match that has none: the plain sheet, with match number 0
+-- the sheet of a match without one: the plain sheet, with match number 0
 abbrev pub sheet : ℕ → Sheet
 sheet innings = plain_sheet 0 innings
 
@@ -40,7 +40,7 @@ sheet innings = plain_sheet 0 innings
 abbrev pub board_of_book : ℕ → List Entry → List ℕ
 board_of_book innings book = board (sheet innings) innings (history_of book)
 
--- all that is written for an input, in a match of so many innings a side
+-- all that is written for an input, in a match with these innings a side
 abbrev pub output_of : ℕ → List ℕ → List ℕ
 output_of innings input =
     rejections innings 1 [] (lines_of input) ++ board_of_book innings (book_after innings [] (lines_of input))

@@ -1,5 +1,5 @@
--- What the public calls claim: Product with Lines, and of both files BothFiles and Ends; of many matches Each with Frames and
--- MatchFiles; Check; Migrate; SheetWord.
+-- What the public calls claim: of one book Product and Lines, of both files BothFiles and Ends, of many matches Each, Frames
+-- and MatchFiles; and Check, Migrate and SheetWord.
 pub mod BothFiles
 pub mod Check
 pub mod Each

@@ -14,7 +14,7 @@ full_line place e = text_of e ++ codes "\n"
 abbrev pub lines_text : List Entry → List ℕ
 lines_text book = lines_from full_line 0 book
 
--- the lines of these entries are so many lines, each of which says its entry; a book has places for all of them
+-- reading the lines of these entries gives the same entries, one for each line; a book has places for all of them
 pub record AreReadAgain (book : List Entry) : Type 0 where
   pub said : map line_answer (lines_of (lines_text book)) ≡ map Ok book
   pub places : length book ≤ PLACES

@@ -1,4 +1,4 @@
--- What a migration prints, and why one isn't made.
+-- What a migration prints, and why it fails.
 use Rattle.std.specs.Prelude.{◌≡◌, ◌<◌, ◌⊎◌, ℕ, List, ◌++◌, codes, decimal, length, Result, Ok, Err, IsOk}
 use Rattle.entry_log.specs.Disk.{Images}
 use Rattle.entry_log.specs.Format.{contents}
@@ -17,7 +17,7 @@ abbrev pub migrated_line : ℕ → List ℕ
 migrated_line votes = codes "migrated " ++ decimal votes ++ codes "\n"
 
 -- The fault of a migration, by the desk's number, the match and the bytes of both disks: the first fault of the
--- old file, or that the old file is sound and the new disk isn't empty. It can be out of memory only for a sound file.
+-- old file, or that the old file is sound and the new disk isn't empty. Out of memory comes only with a sound old file.
 abbrev pub WhyNotMigrated : ℕ → ℕ → List ℕ → List ℕ → MigrateFault → Type 0
 WhyNotMigrated desk game old new (Votes why) =
     (file_votes (contents version_1) desk game old ≡ Err why)
@@ -26,8 +26,8 @@ WhyNotMigrated desk game old new NoMemory = IsOk (file_votes (contents version_1
 WhyNotMigrated desk game old new Device = Unit {0}
 WhyNotMigrated desk game old new Write = Unit {0}
 
--- What a migration that ended so leaves of the new disk: after a failed write the whole new file, after a refusal what
--- was there. A disk that failed may have a part of it.
+-- What a migration with this fault leaves on the new disk: after a failed write the whole new file, after a refusal what
+-- was there. After a disk's failure nothing is said: the new file may be there in part.
 abbrev pub Leaves : {E : Type 0} → ℕ → ℕ → List ℕ → (E → List ℕ) → (E → Images) → E → MigrateFault → E → Type 0
 Leaves desk game old seen images new Device left = Unit {0}
 Leaves desk game old seen images new Write left = (votes : ℕ) × IsMigrated desk game old (images left) votes
@@ -38,13 +38,13 @@ abbrev pub old_left : {D E : Type 0} → Result (Migrated D E) (MigrateFault × 
 old_left (Ok migrated) = migrated.old
 old_left (Err ended) = ended.1
 
--- the fault of a votes file that is refused: being out of memory and a failing disk are their own
+-- the fault of a refused votes file: out of memory and a failed disk are faults of their own
 abbrev pub of_votes : Refusal → MigrateFault
 of_votes Refusal.NoMemory = NoMemory
 of_votes (Refusal.File files.Device) = Device
 of_votes why = Votes why
 
--- what standard error is told, and the status, go by
+-- the fault that standard error is told, and that decides the status
 abbrev pub stop_of : MigrateFault → StopFault
 stop_of NoMemory = StopFault.NoMemory
 stop_of Write = StopFault.Write

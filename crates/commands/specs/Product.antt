@@ -1,4 +1,4 @@
--- What is printed of a book, and why it isn't: s is the sheet, and document the table that its text is.
+-- What is printed of a book, and why nothing is: s is the sheet, and document is the table of its text.
 use Rattle.std.specs.Prelude.{◌≡◌, ℕ, ⊤, List, [], ◌++◌, Option, codes}
 use Rattle.notation.specs.declared.entry.Entry.{Entry}
 use Rattle.cards.specs.Sheet.{Sheet}
@@ -21,7 +21,7 @@ use Rattle.commands.specs.Lines.{lines_text}
 use Rattle.commands.specs.declared.product.Product.{Product}
 use Rattle.commands.specs.declared.product.Product.TheVariants.{Cards, Lines, Json, Page, Rows}
 
--- the text of a product of a book. The lines are pen lines of that same book; in what leaves the program the sides are told apart
+-- the text of a product of a book; Lines, read as pen lines, make that book again; JSON, page and tables tell the sides apart
 abbrev pub IsTextOf : Product → Sheet → Members → List Entry → List ℕ → Type 0
 IsTextOf Cards s document book text = text ≡ card_text s book
 IsTextOf Lines s document book text = (text ≡ lines_text book) × IsBookFrom sources.Lines s text book
@@ -29,7 +29,7 @@ IsTextOf Json s document book text = (value : List ℕ) × (IsExport (told_apart
 IsTextOf Page s document book text = text ≡ page_text (told_apart s) document book
 IsTextOf (Rows table) s document book text = text ≡ table_text table (told_apart s) document book
 
--- what standard error is told beside it: of a product that has an outcome, where the sheet's has another winner than the Laws
+-- what standard error is told: for a product with an outcome, that the sheet's outcome has another winner than the Laws
 abbrev pub beside : Product → Sheet → Members → List Entry → List ℕ
 beside Cards s document book = []
 beside Lines s document book = []
@@ -39,14 +39,14 @@ module _
     {S : Type 0} (contents : S → Option (List ℕ)) (old new : Watched S) (product : Product) (s : Sheet) (document : Members)
     (told : List ℕ)
   where
-    -- the product of this book is written, and this is told beside it
+    -- the product of this book is written, and told is what standard error is to be told
     pub record PrintsProduct (book : List Entry) : Type 0 where
       pub text : List ℕ
       pub made : IsTextOf product s document book text
       pub written : Prints contents old new text
       pub is_told : told ≡ beside product s document book
 
-    -- that of a book of which this is so
+    -- the product of a book with this property is written
     pub record PrintsBook (IsBook : List Entry → Type 0) : Type 0 where
       pub book : List Entry
       pub made : IsBook book
@@ -65,7 +65,7 @@ IsOfBook (BadVotes place) = ⊤
 IsOfBook (Line number why) = ⊤
 IsOfBook fault = IsOfStreams fault
 
--- the same, and the input has none for this reason
+-- out of memory, a read or a write failed, or the input has no book for this reason
 abbrev pub WhyNotPrinted : Source → Sheet → List ℕ → StopFault → Type 0
 WhyNotPrinted from s input (Votes why) = WhyNoBook from s input (BookFault.Votes why)
 WhyNotPrinted from s input (BadVotes place) = WhyNoBook from s input (BookFault.BadVotes place)

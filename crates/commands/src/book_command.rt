@@ -1,4 +1,4 @@
-//! `ground card`, `lines`, `export` and `page`: what is printed of a book, which is made of pen lines or of a desk's votes file.
+//! `ground card`, `lines`, `export` and `page` print a product of a book, which is made of pen lines or a desk's votes file.
 
 ghost use Rattle.std.specs.Prelude.{string_bytes, IfErr, IfOk, IfSome};
 ghost use Rattle.books.specs.CardBook.{IsBookFrom};
@@ -20,8 +20,8 @@ use std::alloc::Global;
 use streams::{Feed, Sink, Watched, read_all};
 use toml::Table;
 
-/// Reads pen lines or a votes file to the end, and prints a product of their book, with the sheet and its document. Where a line
-/// isn't taken, or the file or its votes are refused, nothing is written. It answers what standard error is to be told.
+/// Reads pen lines or a votes file to the end, and prints a product of the book, with the sheet and its document. Writes
+/// nothing where a line isn't taken, or the file or its votes are refused. Returns what to tell standard error.
 pub fn book_run<R: Feed, W: Sink>(
     alloc: Global,
     product: Product,
@@ -45,7 +45,7 @@ pub fn book_run<R: Feed, W: Sink>(
     print_product(alloc, product, sheet, document, &book, writer)
 }
 
-/// The match sheet in a file, and its document.
+/// Reads the match sheet in a file, and its document.
 fn sheet_and_document<'a>(
     rt: &HostRuntime,
     path: &'a str,
@@ -58,7 +58,7 @@ fn sheet_and_document<'a>(
     }
 }
 
-/// The match sheet in a file, and what a product takes of its document: cards and lines nothing.
+/// Reads the match sheet in a file, and its document, which is empty for cards and lines: they take nothing of it.
 pub fn sheet_for<'a>(
     rt: &HostRuntime,
     product: Product,
@@ -72,7 +72,7 @@ pub fn sheet_for<'a>(
     }
 }
 
-/// The same for the book of one file: for its cards the sheet may be longer.
+/// Reads the match sheet and its document for the book of one file. For cards the sheet may be longer.
 fn sheet_of_one<'a>(
     rt: &HostRuntime,
     product: Product,

@@ -1,4 +1,4 @@
-//! The record of a match from both desks' votes files: what is printed of their agreed list.
+//! What is printed of the agreed list of both desks' votes files.
 
 ghost use Rattle.std.specs.Prelude.{◌≡◌, ◌≢◌, [], string_bytes, IfErr, IfOk, IfSome};
 ghost use Rattle.agree_core.specs.Books.{AllTaken};
@@ -25,7 +25,7 @@ use std::alloc::Global;
 use streams::{Feed, InputFault, Sink, Watched, read_all};
 use toml::Table;
 
-/// Why a command on both desks' votes files ends before its end.
+/// Why a command on both desks' votes files stops early.
 #[derive(Clone, Copy)]
 pub enum BothPrintFault {
     /// Memory was refused.
@@ -41,7 +41,7 @@ pub enum BothPrintFault {
 impl BothPrintFault {
     ghost use Rattle.commands.specs.BothFiles.{of_input, of_printing, is_of_second};
 
-    /// The fault of a desk's file that isn't read to its end.
+    /// Returns the fault of a desk's file that isn't read to its end.
     pub fn of_input(desk: DeskId, why: InputFault) -> BothPrintFault
         ensures { result ≡ of_input desk why }
     {
@@ -51,7 +51,7 @@ impl BothPrintFault {
         }
     }
 
-    /// The fault of a product that isn't printed: memory is refused, or else a write failed.
+    /// Returns the fault of a product that isn't printed: memory was refused, or else a write failed.
     pub fn of_printing(why: StopFault) -> BothPrintFault
         ensures { result ≡ of_printing why }
     {
@@ -112,7 +112,7 @@ impl From<BothPrintFault> for StopFault {
     }
 }
 
-/// All bytes of both files, A's first.
+/// Reads all bytes of both files, desk A's first.
 pub fn read_both<R: Feed>(
     alloc: Global,
     a: &mut Watched<R>,
@@ -135,14 +135,14 @@ pub fn read_both<R: Feed>(
     Ok((first, second))
 }
 
-/// The book of both files, and how many places each of them has, A's first.
+/// The book of both files, and how many places each file has, desk A's first.
 #[derive(Drop)]
 pub struct PlacedBook {
     pub book: CheckedBook,
     pub places: (u32, u32),
 }
 
-/// The book of both files of these bytes, and how many places each has.
+/// Makes the book of both files with these bytes, and counts the places of each file.
 pub fn placed_book(
     alloc: Global,
     sheet: &MatchSheet,
@@ -166,7 +166,7 @@ pub fn placed_book(
     })
 }
 
-/// The book of both files, each read to its end, A's first. Each file's votes are read once.
+/// Reads both files to the end, desk A's first, and makes their book. Reads each file's votes once.
 pub fn book_of_readers<R: Feed>(
     alloc: Global,
     sheet: &MatchSheet,
@@ -191,9 +191,9 @@ pub fn book_of_readers<R: Feed>(
     placed_book(alloc, sheet, first.as_slice(), second.as_slice())
 }
 
-/// Reads both desks' votes files to the end, and prints a product of the agreed list of their votes, the last entry too. Where a
-/// file is refused, the votes aren't of one history, or the agreed list is no legal book, nothing is written. It answers what
-/// standard error is to be told, and how many places each file has.
+/// Reads both desks' votes files to the end, and prints a product of the agreed list of their votes, with its last entry.
+/// Writes nothing where a file is refused, the votes aren't of one history, or the agreed list is no legal book. Returns what
+/// to tell standard error, and how many places each file has.
 pub fn book_both_run<R: Feed, W: Sink>(
     alloc: Global,
     product: Product,
@@ -222,7 +222,7 @@ pub fn book_both_run<R: Feed, W: Sink>(
     }
 }
 
-/// Why a command on both files ended, and which of them was at work.
+/// Returns the fault of a command on both files, with the path of the file at fault: desk B's, or else desk A's.
 pub fn stopped_at<'a>(fault: BothPrintFault, a: &'a str, b: &'a str) -> Stopped<'a> {
     let path = if fault.is_of_second() { b } else { a };
     Stopped::at(path, StopFault::from(fault))

@@ -1,4 +1,4 @@
-//! `ground check`: pen lines in, what isn't taken and the board out.
+//! `ground check` reads pen lines, and prints the lines that aren't taken and the board.
 
 ghost use Rattle.std.specs.Prelude.{◌≡◌, ◌≤◌, [], length, not, true};
 ghost use Rattle.std.specs.Prelude.{IfErr, IfOk, IfSome, OnOk};
@@ -19,7 +19,7 @@ use setup::{StopFault, Stopped, output};
 use std::alloc::Global;
 use streams::{Feed, LONGEST_INPUT, Sink, Watched, WriteFailed, read_all};
 
-/// Takes one line, or prints why it isn't taken. The answer is whether it was taken.
+/// Takes one line, or prints why it isn't taken. Returns whether it was taken.
 fn take_line<W: Sink>(
     table: &mut Table,
     out: &mut Watched<W>,
@@ -46,8 +46,7 @@ fn take_line<W: Sink>(
     }
 }
 
-/// Takes the lines of an input, and prints what isn't taken and the board. The answer is whether a line
-/// wasn't taken.
+/// Takes the lines of an input, and prints why a line isn't taken, and then the board. Returns whether a line wasn't taken.
 fn check_lines<W: Sink>(
     table: &mut Table,
     sheet: &MatchSheet,
@@ -77,9 +76,9 @@ fn check_lines<W: Sink>(
     Ok(rejected)
 }
 
-/// `ground check`: reads pen lines to the end, has two seats agree each that the book takes, in a match of so
-/// many innings a side, and writes a line for each that isn't taken and then the six board lines of the book.
-/// The answer is whether a line wasn't taken.
+/// `ground check`: reads pen lines to the end, has two seats agree each line that the book takes, in a match of one or two
+/// innings a side, and writes a line for each one that isn't taken, and then the six board lines of the book. Returns whether
+/// a line wasn't taken.
 pub fn check_run<R: Feed, W: Sink>(
     alloc: Global,
     innings: u32,

@@ -1,4 +1,4 @@
-//! `ground compare`: what both desks' votes files have in common, and where they differ.
+//! `ground compare` tells what both desks' votes files have in common, and where they differ.
 
 ghost use Rattle.std.specs.Prelude.{IfErr, IfOk, IfSome};
 ghost use Rattle.agree_core.specs.declared.messages.DeskId.TheVariants.{A, B};
@@ -13,10 +13,9 @@ use setup::{Stopped, open_input, output, short_sheet_at};
 use std::alloc::Global;
 use streams::{Feed, Sink, Watched};
 
-/// `ground compare`: reads both desks' votes files to the end, and prints a line for each place and round at which the
-/// desks differ, and then how many entries are agreed, and how many such lines there are: of both desks, of A alone, of B
-/// alone; and where they aren't of one history, from which place on. It answers whether that is so. Where a file is refused,
-/// nothing is written.
+/// `ground compare`: reads both desks' votes files to the end, and prints a line for each position at which the desks differ,
+/// and then how many entries are agreed, and how many of these lines are of both desks, of A alone and of B alone; and, where
+/// the files aren't of one history, from which place on. Returns whether they aren't. Writes nothing where a file is refused.
 pub fn compare_run<R: Feed, W: Sink>(
     alloc: Global,
     sheet: &MatchSheet,
@@ -41,7 +40,7 @@ pub fn compare_run<R: Feed, W: Sink>(
     }
 }
 
-/// Runs `compare` over both desks' votes files.
+/// Runs `compare` on both desks' votes files.
 #[inline(never)]
 pub fn start_compare<'a>(
     rt: &HostRuntime,

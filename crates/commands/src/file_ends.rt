@@ -1,4 +1,4 @@
-//! What is told where one of both desks' votes files ends before the other.
+//! What standard error is told where one desk's votes file ends before the other's.
 
 ghost use Rattle.std.specs.Prelude.{◌≡◌, OnOk};
 ghost use Rattle.streams.specs.Watched.{Prints, TellsFailure};
@@ -9,7 +9,7 @@ use books::DeskVotes;
 use setup::printable;
 use streams::{Sink, Watched, WriteFailed};
 
-/// How many places a desk's file has, up to that of its last vote.
+/// Returns how many places a desk's file has, up to the place of its last vote.
 pub fn places_of(votes: &DeskVotes) -> u32
     ensures { result ≡ ends.places_of (read_votes votes.now) }
 {
@@ -20,7 +20,7 @@ pub fn places_of(votes: &DeskVotes) -> u32
     votes.nth(count - 1).place + 1
 }
 
-/// Prints that one file ends so many places before the other.
+/// Prints that the file `short` ends this many places before the file `long`.
 fn print_line<W: Sink>(
     out: &mut Watched<W>,
     short: &str,
@@ -33,7 +33,7 @@ fn print_line<W: Sink>(
     writeln!(out, "{short} ends {places} places before {long}: compare")
 }
 
-/// Prints which of two files with so many places ends before the other, where that is by two places or more.
+/// Prints which of two files, with these numbers of places, ends before the other, if by two places or more.
 fn print_ends<W: Sink>(
     out: &mut Watched<W>,
     a: &str,
@@ -55,8 +55,8 @@ fn print_ends<W: Sink>(
     }
 }
 
-/// Tells standard error where one of two files with so many places ends before the other: half a match from an older copy
-/// looks like a whole one.
+/// Tells standard error which of two files, with these numbers of places, ends two or more before the other: half a match from
+/// an older copy looks like a whole one.
 pub fn tell_ends(rt: &HostRuntime, a: &str, b: &str, places: (u32, u32)) {
     let mut errors = Watched::new(rt.stderr());
     let (a_places, b_places) = places;

@@ -1,5 +1,5 @@
-//! The commands of the program that read books or a sheet, a module each: what a command does, over any reader, writer or disk,
-//! and how it is started on this machine.
+//! The program's commands that read books or a sheet, a module each: what a command does, over any reader, writer or disk,
+//! and how this machine starts it.
 #![tactic(auto)]
 
 mod book_command;

@@ -1,4 +1,4 @@
-//! The full lines of a book, from which the match can be begun anew.
+//! The full lines of a book, from which the match can be started again.
 
 ghost use Rattle.std.specs.Prelude.{ℕ, OnOk};
 ghost use Rattle.notation.specs.Written.{IsEntry};
@@ -33,7 +33,8 @@ fn print_each<W: Sink, B: BookOf>(book: &B, out: &mut Watched<W>) -> Result<(), 
     Ok(())
 }
 
-/// The same, and hands it on. It fails only where a write fails; how much was written then isn't said.
+/// Prints the full line of each entry of a book, in order, and flushes. Fails only where a write fails, and doesn't say how
+/// much was written by then.
 pub fn print_lines<W: Sink, B: BookOf>(book: &B, out: &mut Watched<W>) -> Result<(), WriteFailed>
     ensures text { OnOk result (Prints W.contents out.old out.new (texts.lines_text (B.content book.now))) }
     ensures again { OnOk result (AreReadAgain (B.content book.now)) }

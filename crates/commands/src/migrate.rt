@@ -1,4 +1,4 @@
-//! `ground migrate`: a new file with the votes of an old one.
+//! `ground migrate` writes the votes of an old file to a new one.
 
 ghost use Rattle.std.specs.Prelude.{◌≡◌, ◌≢◌, ◌≤◌, ◌⊎◌, length, Err, IfOk, IfErr, OnOk};
 ghost use Rattle.streams.specs.Watched.{IsHandedOn, Prints, TellsFailure};
@@ -20,7 +20,7 @@ use std::fs::File;
 use streams::{Sink, Watched, WriteFailed};
 use vote_store::{Migrated, Refusal, migrate};
 
-/// Why `migrate` ends before its end.
+/// Why `migrate` stops early.
 #[derive(Clone, Copy)]
 pub enum MigrateFault {
     /// Memory was refused.
@@ -71,10 +71,10 @@ fn print_migrated<W: Sink>(out: &mut Watched<W>, votes: u32) -> Result<(), Write
     out.flush()
 }
 
-/// `ground migrate`: writes the votes of a desk's old file, of version 1, to a new file of version 2 on another
-/// disk that has none, and prints how many. It is refused as opening the old file is, and then where the new disk has a
-/// file. Both disks come back with either answer: the old one reads as it did, and a refused new one is as it was. After
-/// `Device` the new file isn't to be used; after `Write` it is whole, and only the line about it is missing.
+/// `ground migrate`: writes the votes of a desk's old file, of version 1, to a new file of version 2 on an empty disk, and
+/// prints how many. Refuses whatever opening the old file refuses, and then a new disk that has a file. Returns both disks
+/// with either answer: the old one reads as before, and after a refusal the new one is unchanged. After `Device` don't use
+/// the new file; after `Write` it is whole, and only the line about it is missing.
 pub fn migrate_run<D: Disk + Drop, E: Disk + Drop, W: Sink>(
     alloc: Global,
     desk: DeskId,
@@ -94,7 +94,7 @@ pub fn migrate_run<D: Disk + Drop, E: Disk + Drop, W: Sink>(
     ensures left { IfErr result (λ ended. Leaves (desk_number desk) game (D.seen old) E.seen E.images new
         ended.0 ended.2) }
     ensures why { IfErr (answer_of result) (WhyNotMigrated (desk_number desk) game (D.seen old) (E.seen new)) }
-    // Where no fault is due at either disk, and the new one has room, none is met.
+    // Where neither disk has a fault due, and the new one has room, no disk fails.
     ensures calm { (D.faults old).due ≡ Never → (E.faults new).due ≡ Never
         → room version_2 MAX_SLOTS ≤ E.cap new → answer_of result ≢ Err MigrateFault.Device }
     ensures writes { EndsWriting W.calls MigrateFault.Write (answer_of result) out.old out.new }

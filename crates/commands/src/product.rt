@@ -1,4 +1,4 @@
-//! What is printed of a book: its cards, its lines, or what archives, tables and browsers take.
+//! What is printed of a book: its cards, its lines, or a product for archives, tables or browsers.
 
 ghost use Rattle.std.specs.Prelude.{◌≡◌, [], ◌++◌, codes, string_bytes, IfErr, IfOk, OnOk};
 ghost use Rattle.agree_core.specs.Books.{AllTaken};
@@ -25,18 +25,18 @@ use toml::Table as Document;
 pub enum Product {
     /// Both cards of each innings, and then the page.
     Cards,
-    /// The full line of each entry, in order. As pen lines they are that same book.
+    /// The full line of each entry, in order. Read as pen lines, they make that book again.
     Lines,
-    /// One JSON value: what happened ball by ball with the results of the Laws, each entry as it was penned, and what the
+    /// One JSON value: what happened ball by ball, with the results by the Laws, each entry as it was penned, and what the
     /// sheet's document hands on.
     Json,
-    /// One HTML page, to be looked at or printed: its cards, falls and overs, and its corrections.
+    /// One HTML page, to view or print: the book's cards, falls and overs, and its corrections.
     Page,
-    /// A table of its deliveries or penalties, as CSV.
+    /// A table of the book's deliveries or penalties, as CSV.
     Rows(Table),
 }
 
-/// Prints a text, and hands it on. It fails only where a write fails; how much was written then isn't said.
+/// Prints a text, and flushes. Fails only where a write fails, and doesn't say how much was written by then.
 pub fn print_whole<W: Sink>(text: &str, out: &mut Watched<W>) -> Result<(), WriteFailed>
     ensures text { OnOk result (Prints W.contents out.old out.new text.now) }
     ensures failed { TellsFailure result out.old out.new }
@@ -46,7 +46,7 @@ pub fn print_whole<W: Sink>(text: &str, out: &mut Watched<W>) -> Result<(), Writ
     out.flush()
 }
 
-/// The same, and a newline.
+/// Prints a text and a newline, and flushes.
 fn print_line<W: Sink>(text: &str, out: &mut Watched<W>) -> Result<(), WriteFailed>
     ensures text { OnOk result (Prints W.contents out.old out.new (text.now ++ codes "\n")) }
     ensures failed { TellsFailure result out.old out.new }
@@ -56,8 +56,8 @@ fn print_line<W: Sink>(text: &str, out: &mut Watched<W>) -> Result<(), WriteFail
     out.flush()
 }
 
-/// Prints a product of a legal book, with the sheet and its document. Where memory is refused, nothing is written. It answers what
-/// standard error is to be told: of a product that has an outcome, where the sheet's has another winner than the Laws.
+/// Prints a product of a legal book, with the sheet and its document. Writes nothing where memory is refused. Returns what to
+/// tell standard error: for a product with an outcome, that the sheet's outcome has another winner than the Laws.
 pub fn print_product<W: Sink>(
     alloc: Global,
     product: Product,

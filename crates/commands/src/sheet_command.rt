@@ -1,4 +1,4 @@
-//! `ground sheet`: a match sheet as it was read, or all that is wrong with it.
+//! `ground sheet` prints a match sheet as it was read, or all that is wrong with it.
 
 ghost use Rattle.std.specs.Prelude.{◌≡◌, ◌≢◌, [], true, false, IfErr, IfOk, OnOk};
 ghost use Rattle.cards.specs.declared.fault.SheetFault.{SheetFault};
@@ -15,7 +15,7 @@ use sheet_check::{report_of, shown_sheet};
 use std::alloc::Global;
 use streams::{Sink, Watched};
 
-/// Prints a text, or answers that it can't be printed.
+/// Prints a text, or returns the fault of a failed write.
 fn printed<W: Sink>(text: &str, writer: &mut Watched<W>) -> Result<(), StopFault>
     ensures text { OnOk result (Prints W.contents writer.old writer.new text.now) }
     ensures only { IfErr result IsOfPrinting }
@@ -41,7 +41,7 @@ fn print_sheet<W: Sink>(
     printed(text.as_str(), writer)
 }
 
-/// Whether a report tells nothing.
+/// Whether a report is empty.
 fn is_nothing(report: &str) -> bool
     ensures nothing { result ≡ true → report.now ≡ [] }
     ensures something { result ≡ false → report.now ≢ [] }
@@ -49,7 +49,7 @@ fn is_nothing(report: &str) -> bool
     report.is_empty()
 }
 
-/// Whether a sheet isn't read for want of memory.
+/// Whether a sheet isn't read because memory was refused.
 fn is_no_memory(why: SheetFault) -> bool
     ensures memory { result ≡ true → why ≡ SheetFault.NoMemory }
     ensures fault { result ≡ false → why ≢ SheetFault.NoMemory }
@@ -57,8 +57,8 @@ fn is_no_memory(why: SheetFault) -> bool
     matches!(why, SheetFault::NoMemory)
 }
 
-/// `ground sheet`: prints the sheet of a file's bytes as it was read, or, where something is wrong with it, with its table of
-/// stations or with what it limits, all that is. It answers whether something is.
+/// `ground sheet`: prints the sheet in a file's bytes as it was read; or, where something is wrong with the sheet, its table of
+/// stations, what it limits or what it hands on, all that is wrong. Returns whether something is.
 pub fn sheet_run<W: Sink>(
     alloc: Global,
     text: &[u8],
@@ -83,7 +83,8 @@ pub fn sheet_run<W: Sink>(
     }
 }
 
-/// Runs `sheet` over a file. Standard error is told of each name that two bear, where the sheet can be read.
+/// Runs `sheet` on a file. Where the sheet can be read, tells standard error each name that two teams share, or two players
+/// of a team.
 #[inline(never)]
 pub fn start_sheet<'a>(rt: &HostRuntime, sheet: &'a str) -> Result<bool, Stopped<'a>> {
     let text = short_sheet_bytes(rt, sheet)?;

@@ -1,8 +1,8 @@
-//! What standard error is told beside a product.
+//! What standard error is told when a product is printed.
 
 use std::io::Write;
 
-/// Tells standard error these words. That they can't be told is no fault.
+/// Writes these words to standard error. A write that fails is no fault.
 pub fn tell(rt: &HostRuntime, words: &str) {
     let _ = write!(rt.stderr(), "{words}");
 }

@@ -16,7 +16,7 @@ module _
     {innings n : ℕ} {input : List ℕ} {lines : List (List ℕ)} {rejected : Bool} {old : Table} {o p : Option (List ℕ)}
     (m : Midway innings input lines n rejected old o p)
   where
-    -- one line more: what the table has then is given by an equation
+    -- the step by one line: an equation gives what the table has after it
     step : (line : List ℕ) (rest : List (List ℕ)) (taken : Bool) (new : Table) (q : Option (List ℕ)) → lines ≡ line ∷ rest → IsInStep new → innings_in new ≡ innings_in old →
         let answer = answer_to (innings_in old) (agreed_in old) line in
         agreed_in new ≡ with_taken answer (agreed_in old) → Appends p q (printed (n + 1) answer) → taken ≡ not (is_rejected answer) →

@@ -8,7 +8,7 @@ use Rattle.books.specs.Taking.{book_after}
 use Rattle.commands.specs.Check.{rejections, has_rejected}
 use Rattle.commands.proofs.check.check_lines.Given as goal
 
--- what was taken and written so far, with what the lines that are left will make of it, is what the whole
+-- what was taken and written so far, together with what the remaining lines will add, is what the whole
 -- input makes
 pub record Midway (innings : ℕ) (input : List ℕ) (lines : List (List ℕ)) (number : ℕ) (rejected : Bool) (table : Table) (before after : Option (List ℕ)) : Type 0 where
   pub numbered : number + length lines ≡ length (lines_of input)

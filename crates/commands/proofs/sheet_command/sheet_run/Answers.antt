@@ -15,7 +15,7 @@ abbrev fault_or : {A : Type 0} → SheetFault → Result A SheetFault → SheetF
 fault_or fault (Ok value) = fault
 fault_or fault (Err why) = why
 
--- two faults that aren't one
+-- two faults that differ are errors that differ
 apart : {A : Type 0} {why met : SheetFault} → why ≢ met → ◌≢◌ {A = Result A SheetFault} (Err why) (Err met)
 apart {met = met} differ e = differ (ap (fault_or met) e)
 
@@ -29,7 +29,7 @@ returns-clause-written g c =
               inr (w.in-Err.why, w.in-Err.ensures (apart (w.is_no_memory.ensures.fault w.if-is_no_memory.false)))
         ], c.in_ok-printed-in_default.ensures.text)))
 
--- a fault that is handed on ends it as it ended what met it
+-- a fault that is passed on ends the caller as it ended the callee
 failed : {S T U E : Type 0} (calls : S → Option (List Call)) (fault : E) (result : Result T E) (why : E) (old new : Watched S)
     → IsErrAnd result (λ e. e ≡ why) → EndsWriting {T = U} calls fault (Err why) old new → EndsWriting calls fault result old new
 failed calls fault (Ok value) why old new e was = absurd e
