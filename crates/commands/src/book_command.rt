@@ -20,8 +20,8 @@ use std::alloc::Global;
 use streams::{Feed, Sink, Watched, read_all};
 use toml::Table;
 
-/// Reads pen lines or a votes file to the end, and prints a product of its book, with the sheet and its document. Writes nothing
-/// where a line isn't taken, or the file or its votes are refused. Returns what to tell standard error.
+/// Reads pen lines or a votes file to the end, and prints a product of the book, with the sheet and its document. Writes
+/// nothing where a line isn't taken, or the file or its votes are refused. Returns what to tell standard error.
 pub fn book_run<R: Feed, W: Sink>(
     alloc: Global,
     product: Product,

@@ -1,4 +1,4 @@
-//! What is printed of a book: its cards, its lines, or a product for archives, spreadsheets or browsers.
+//! What is printed of a book: its cards, its lines, or a product for archives, tables or browsers.
 
 ghost use Rattle.std.specs.Prelude.{◌≡◌, [], ◌++◌, codes, string_bytes, IfErr, IfOk, OnOk};
 ghost use Rattle.agree_core.specs.Books.{AllTaken};
