@@ -21,13 +21,20 @@ apart {met = met} differ e = differ (ap (fault_or met) e)
 
 -- something is wrong where the sheet is refused, or its report isn't empty
 pub returns-clause-written : goal.returns-clause-written
-returns-clause-written g c =
-    (c.as_str-told.result.now, (rw (sym c.as_str-told.ensures.value) at c.in_ok-report.ensures, (
-        elim c.in_default.branch [
-            in_default-via-in-Ok+else-is_nothing w ↦ inl (w.is_nothing.ensures.something w.if-is_nothing.false)
-          | in_default-via-in-Err+else-is_no_memory w ↦
-              inr (w.in-Err.why, w.in-Err.ensures (apart (w.is_no_memory.ensures.fault w.if-is_no_memory.false)))
-        ], c.in_ok-printed-in_default.ensures.text)))
+returns-clause-written g c = (
+  c.as_str-told.result.now,
+  (
+    rw (sym c.as_str-told.ensures.value) at c.in_ok-report.ensures,
+    (
+      elim c.in_default.branch [
+        | in_default-via-in-Ok+else-is_nothing w ↦ inl (w.is_nothing.ensures.something w.if-is_nothing.false)
+        | in_default-via-in-Err+else-is_no_memory w ↦
+            inr (w.in-Err.why, w.in-Err.ensures (apart (w.is_no_memory.ensures.fault w.if-is_no_memory.false)))
+      ],
+      c.in_ok-printed-in_default.ensures.text,
+    ),
+  ),
+)
 
 -- a fault that is passed on ends the caller as it ended the callee
 failed : {S T U E : Type 0} (calls : S → Option (List Call)) (fault : E) (result : Result T E) (why : E) (old new : Watched S)
