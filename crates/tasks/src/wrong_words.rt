@@ -233,11 +233,13 @@ fn has(line: Line<'_, '_>, name: &str) -> bool {
 }
 
 /// Returns the first option of one book that is given.
-fn first_of_one_book<'a>(line: Line<'_, '_>) -> Option<&'a str> {
-    ONE_BOOK_OPTIONS
-        .iter()
-        .copied()
-        .find(|option| has(line, option))
+fn first_of_one_book(line: Line<'_, '_>) -> Option<&'static str> {
+    for option in ONE_BOOK_OPTIONS {
+        if has(line, option) {
+            return Some(option);
+        }
+    }
+    None
 }
 
 /// Checks that no option of one book stands beside `--each`.
