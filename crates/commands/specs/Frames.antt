@@ -1,5 +1,5 @@
 -- The frame of a match in a folder: a line about it, and then a product's text. Why a match has none, and how that is told.
-use Rattle.std.specs.Prelude.{◌≡◌, ◌<◌, ◌⊎◌, ℕ, ⊤, Bool, List, ◌++◌, length, Option, Some, None, Ok, Err, String, codes, decimal, string_bytes, if◌then◌else◌}
+use Rattle.std.specs.Prelude.{◌≡◌, ◌<◌, ◌⊎◌, ℕ, ⊤, List, ◌++◌, length, Option, Some, None, Ok, Err, String, codes, decimal, string_bytes, if◌then◌else◌}
 use Rattle.std.specs.BTreeMap.{BTreeMap}
 use Rattle.std.specs.declared.alloc.Global.{Global}
 use Rattle.notation.specs.declared.entry.Entry.{Entry}
@@ -9,9 +9,7 @@ use Rattle.toml.specs.declared.value.Value.{Value}
 use Rattle.cards.specs.Reading.{IsReading}
 use Rattle.cards.specs.Sheet as sheets
 use Rattle.cards.specs.SheetFault.{number_of, name_of}
-use Rattle.cards.specs.declared.fault.SheetFault.{SheetFault}
 use Rattle.books.specs.BothFiles.{IsBookOfBoth, WhyNoBookOfBoth}
-use Rattle.books.specs.declared.fault.BothFault.{BothFault}
 use Rattle.export.specs.Document.{IsDocument}
 use Rattle.setup.specs.Fault.{fault_line}
 use Rattle.setup.specs.SheetText.{IsSheetOf}
