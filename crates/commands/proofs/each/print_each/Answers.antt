@@ -1,14 +1,25 @@
-use Rattle.std.proofs.Common.{◌≡◌, ◌+◌, ℕ, List, [], ◌∷◌, ◌++◌, arith, refl, ap, ◌∙◌, length, Option, Bool, not, ◌||◌, flat_map, append-nil, append_assoc}
+use Rattle.std.proofs.Common.{◌≡◌, ◌+◌, ℕ, List, [], ◌∷◌, ◌++◌, arith, refl, ap, sym, ◌∙◌, length, Option, Bool, true, false, not, ◌||◌, flat_map, append-nil, append_assoc}
+use Rattle.std.specs.List.{list_any}
 use Rattle.streams.specs.Watched.{Prints, stream_of}
 use Rattle.streams.specs.declared.watched.Watched.{Watched}
 use Rattle.streams.proofs.Appending.{appends_none, appends_both, appends_kept}
 use Rattle.notation.proofs.Cuts.{length-lines_of}
-use Rattle.commands.specs.Each.{DoesEach, DoesLine, printed_of, told_of}
+use Rattle.commands.specs.Each.{DoesEach, DoesLine, is_told, printed_of, told_of}
 use Rattle.commands.specs.MatchFiles.{Known}
 use Rattle.commands.specs.declared.product.Product.{Product}
 use Rattle.commands.proofs.EachLemmas.{tells_none, tells_both}
 use Rattle.commands.proofs.each.print_each.Invariants.{Midway}
 use Rattle.commands.proofs.each.print_each.Goals as goal
+
+or_false : (b : Bool) → (b || false) ≡ b
+or_false true = refl
+or_false false = refl
+
+-- one more that was told, just where it wasn't printed
+or_more : (before told after printed : Bool) → printed ≡ not told → (before || (told || after)) ≡ ((before || not printed) || after)
+or_more true told after printed e = refl
+or_more false true after printed e = rw e refl
+or_more false false after printed e = rw e refl
 
 module _
     {S T : Type 0} {known : Known} {product : Product} {contents : S → Option (List ℕ)} {old new : Watched S}
@@ -32,7 +43,7 @@ module _
           says = m.says ++ told_of done.outcome;
           told = tells_both errors before after then m.says (told_of done.outcome) m.told done.told;
           refusals = λ more. rw (append_assoc m.outcomes one more, append_assoc m.says (told_of done.outcome) (flat_map told_of more)) (m.refusals (done.outcome ∷ more));
-          answer = λ more. rw (append_assoc m.outcomes one more) (grind (m.answer (done.outcome ∷ more), done.answer));
+          answer = λ more. rw (append_assoc m.outcomes one more) (m.answer (done.outcome ∷ more) ∙ or_more any_told (is_told done.outcome) (list_any is_told more) printed done.answer);
         }
 
     finish : lines ≡ [] → DoesEach known product contents old new errors before after list any_told
@@ -41,7 +52,7 @@ module _
       are = m.are [] (rw none tt);
       printed = rw (m.frames [], append-nil m.text) m.printed;
       told = rw (m.refusals [], append-nil m.says) m.told;
-      answer = grind (m.answer []);
+      answer = sym (m.answer [] ∙ or_false any_told);
     }
 
 pub loop-line-init : goal.loop-line-init
@@ -74,4 +85,10 @@ pub returns-clause-does : goal.returns-clause-does
 returns-clause-does g c =
     let m = c.loop-line.invariant.0 in
     let all = finish m c.in_default.ensures.0 in
-    record all { printed = appends_kept _ _ _ _ all.printed c.flush.ensures.bytes }
+    record {
+      outcomes = all.outcomes;
+      are = all.are;
+      printed = appends_kept _ _ _ _ all.printed c.flush.ensures.bytes;
+      told = all.told;
+      answer = all.answer;
+    }
