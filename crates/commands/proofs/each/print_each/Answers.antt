@@ -1,6 +1,6 @@
 use Rattle.std.proofs.Common.{◌≡◌, ◌+◌, ℕ, List, [], ◌∷◌, ◌++◌, arith, refl, ap, sym, ◌∙◌, length, Option, Bool, true, false, not, ◌||◌, flat_map, append-nil, append_assoc}
 use Rattle.std.specs.List.{list_any}
-use Rattle.streams.specs.Watched.{Prints, stream_of}
+use Rattle.streams.specs.Watched.{stream_of}
 use Rattle.streams.specs.declared.watched.Watched.{Watched}
 use Rattle.streams.proofs.Appending.{appends_none, appends_both, appends_kept}
 use Rattle.notation.proofs.Cuts.{length-lines_of}

@@ -1,7 +1,7 @@
 use Rattle.std.proofs.Common.{◌≡◌, ◌+◌, ℕ, List, ◌++◌, length, Bool, ◌||◌, Option, flat_map}
 use Rattle.std.specs.List.{list_any}
 use Rattle.notation.specs.Lines.{lines_of}
-use Rattle.streams.specs.Watched.{Prints, stream_of, failures}
+use Rattle.streams.specs.Watched.{Prints, failures}
 use Rattle.streams.specs.declared.watched.Watched.{Watched}
 use Rattle.commands.specs.Each.{AreOutcomes, Outcome, Tells, is_told, printed_of, told_of}
 use Rattle.commands.specs.MatchFiles.{Known}
