@@ -20,12 +20,16 @@ const PLAYERS = 11;
 /** @type {("home" | "away")[]} */
 const SIDES = ["home", "away"];
 
+// What lists have before a name, a number, and behind it: that he is the captain or keeps the wicket.
+const NUMBER = /^\d{1,2}[.)]?\s+|^\d{1,2}[.)]/;
+const MARKS = /( *(\((c|vc|wk?|c ?[&/] ?wk?|wk? ?[&/] ?c)\)|[*†]))+$/i;
+
 /**
- * The names of a list: one a line, or with commas between; numbers before them are left out.
+ * The names of a list: one a line, or with commas between; numbers before them and marks behind them are left out.
  * @param {string} text
  */
 export function players(text) {
-  return text.split(/[,;\t\r\n]/).map(it => it.trim().replace(/^\d{1,2}[.)]?\s+|^\d{1,2}[.)]/, "").trim()).filter(it => it);
+  return text.split(/[,;\t\r\n]/).map(it => it.trim().replace(NUMBER, "").trim().replace(MARKS, "").trim()).filter(it => it);
 }
 
 /**
