@@ -195,6 +195,16 @@ def ends_of_words(plan, good, reads):
     return [good, CANNOT_WRITE] if plan.call == "statx" or plan.label == "null" else [CANNOT_WRITE]
 
 
+def ends_of_folder(plan, good, folder, names):
+    """The same of a run over the match of a folder, with files of these names: one that can't be read is told with its folder, and the run goes on."""
+    if plan.label not in names:
+        return ends_of_words(plan, good, {"stdin": "-"})
+    told = 1, f"{folder}: cannot read {folder}/{plan.label}\n"
+    if plan.call == "read" and plan.how == EINTR:
+        return [good, told]
+    return [good] if goes_on(plan) else [told]
+
+
 def ends_of_key(plan, file):
     """The same of a new key. That a signal interrupts what asks for randomness is told as any fault: it is asked once. Where it isn't told
     whether the path is a folder, a file is made."""

@@ -1,9 +1,9 @@
 """What is tried: lives in which a call fails, each followed by another, and programs whose calls are wrong."""
 import errno, os, re, shutil, signal, tempfile
 from lives import BOARD, BOOK, SHEET, TOOLS, Eager, OtherDesk, board, desk, has_book, vote
-from plans import EIO, FULL, Plan, ends_of_board, ends_of_desk, ends_of_key, ends_of_words, only
+from plans import EIO, FULL, Plan, ends_of_board, ends_of_desk, ends_of_folder, ends_of_key, ends_of_words, only
 from record import TOP, Call, Judge, Wrong, bytes_at, calls_in, stored_before_sent, votes_in
-from words import READING
+from words import A_MATCH, READING
 
 AGREED = {(place, 0): line for place, line in enumerate(BOOK)}
 DIFFERED = {**AGREED, (2, 1): BOOK[2]}
@@ -327,7 +327,9 @@ def fail_reading(word, plan):
         end = ground.run(words, plan, given=given)
         met = plan.met(ground.calls()) is not None
         reads = {"stdin": "-", **{os.path.basename(it): it for it in words if it.startswith("/")}}
-        expect((end[0], end[2]), ends_of_words(plan, (good[0], good[2]), reads) if met else [(good[0], good[2])])
+        told = good[0], good[2]
+        ends = ends_of_folder(plan, told, given.decode().rstrip("\n"), os.listdir(A_MATCH)) if "--each" in words else ends_of_words(plan, told, reads)
+        expect((end[0], end[2]), ends if met else [told])
         if end[0] == good[0] and end[1] != good[1]:
             raise Wrong(f"it wrote {end[1]!r}, and not {good[1]!r}")
         return met

@@ -9,6 +9,7 @@ SHEET = ["--sheet", f"{EXAMPLES}/sheet.toml"]
 BOOK = [*SHEET, "--from", f"{EXAMPLES}/innings.txt", "--kind", "book"]
 BOTH_SHEET, BOTH_A, BOTH_B = ["--sheet", f"{FILES}/two-innings.toml"], f"{FILES}/four-of-a.votes", f"{FILES}/four-of-b.votes"
 BOTH = [*BOTH_SHEET, "--kind", "both", "--from", BOTH_A, "--with", BOTH_B]
+A_MATCH = f"{FILES}/a-match"
 
 # Those that only read: the words, and standard input.
 READING = {
@@ -25,6 +26,7 @@ READING = {
     "export of both files": (["export", *BOTH], b""),
     "penalties of both files": (["export", "--penalties", *BOTH], b""),
     "page of both files": (["page", *BOTH], b""),
+    "cards of each folder": (["card", "--each"], f"{A_MATCH}\n".encode()),
     "replay": (["replay", *SHEET, "--schedule", f"{EXAMPLES}/schedule.txt", "--boards", "4"], b""),
 }
 
