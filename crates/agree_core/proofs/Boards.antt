@@ -1,4 +1,4 @@
--- What every call of a board keeps.
+-- What every call of a board preserves.
 use Rattle.std.proofs.Common.{◌≡◌, ℕ, Option, List, arith, length-append}
 use Rattle.notation.specs.declared.entry.Entry.{Entry}
 use Rattle.agree_core.specs.declared.{messages.DeskId.DeskId, messages.Message.Message, messages.Vote.Vote, position.Position.Position, seat.Heard.Heard}
@@ -37,7 +37,7 @@ both_voted : (v : AllVotes) (d : DeskId) (place round : ℕ) (e : Entry) → In 
     → In (ballot_at place round e) (votes_by v (other d)) → EqualVotes v place round e
 both_voted v d place round e i j = grind arith
 
--- the board after a vote, its book being so
+-- a board still agrees with the votes after it hears one and its book changes accordingly
 listens_keep : (v : AllVotes) (k l : BoardState) (x : Vote) (h : Heard) → BoardFine v k → In (ballot_of x) (votes_by v x.desk)
     → Listens k.reader x h l.reader → l.book ≡ book_heard h k.book x.entry → BoardFine v l
 listens_keep v k l x h f i c e = grind (arith, listens_wait, both_push, both_voted, length-append, f.noted)
@@ -49,6 +49,6 @@ pub board_receives_keeps : {Why : Type 0} (rules : Rules Why) (v : AllVotes) (k 
     → BoardFine v k → MessageFine v m → BoardReceives rules k m told l → BoardFine v l
 board_receives_keeps rules v k l m told f i p = grind (arith, listens_keep)
 
--- what a board hands out are asks
+-- a board hands out only asks
 pub board_asks : (v : AllVotes) (k : BoardState) (out : List Message) → BoardTicks k out → Each (MessageFine v) out
 board_asks v k out h = grind arith

@@ -30,7 +30,7 @@ pub both_settled : (v : AllVotes) → AllJustified v → (place : ℕ) (es : Lis
 both_settled v j place [] s = tt
 both_settled v j place (e ∷ es) s = ((s.0.0, equal_votes_settle v j place s.0.0 e s.0.1), both_settled v j (place + 1) es s.1)
 
--- the votes for one of its entries
+-- both desks' votes for an entry of the book
 pub both_at : (own theirs : List Ballot) (place : ℕ) (es : List Entry) (n : ℕ) (e : Entry) → AllBoth own theirs place es → slice_get es n ≡ Some e
     → (round : ℕ) × EqualVotes (record { a = own; b = theirs }) (place + n) round e
 both_at own theirs place (x ∷ es) (suc n) e h k = grind (arith, (both_at own theirs (place + 1) es n e h.1 k))

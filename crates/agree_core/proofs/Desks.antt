@@ -1,4 +1,4 @@
--- What every call of a desk keeps, over any disk.
+-- What every call of a desk preserves, on any disk.
 use Rattle.std.proofs.lemmas.Grind.{common_steps}
 use Rattle.std.proofs.Common.{◌≡◌, ◌≢◌, true≢false, Option, Some, None, List, [], ◌∷◌, ◌++◌, refl, sym, ◌∙◌, subst, inl, arith, length-append}
 use Rattle.notation.specs.declared.entry.Entry.{Entry}
@@ -17,13 +17,13 @@ use Rattle.agree_core.proofs.Boards.{noted_grows}
 use Rattle.agree_core.proofs.Both.{both_grow, both_push, more, same}
 
 module _ (d : DeskId) (theirs : List Ballot) where
-  -- a desk casts its vote, and the other's isn't there
+  -- a desk casts its vote, and the other desk's isn't there
   casts : (own : List Ballot) (s : SeatState) (book : List Entry) (e : Entry) → SeatFine d own theirs s book
       → s.mine ≡ None → InRange s.position
       → SeatFine d (record { at = s.position; entry = e } ∷ own) theirs (casting s e) book
   casts own s book e f n r = grind (arith, both_grow, more, same)
 
-  -- where both votes of a round are there, the desk waits at the next position
+  -- once both votes of a round are there and equal, the desk waits at the next place
   agrees : (own : List Ballot) (s : SeatState) (book : List Entry) (e : Entry) → SeatFine d own theirs s book
       → s.mine ≡ Some e → In (record { at = s.position; entry = e }) theirs
       → SeatFine d own theirs (waiting s.desk (next_place s.position)) (book ++ e ∷ [])
@@ -47,13 +47,13 @@ module _ (d : DeskId) (theirs : List Ballot) where
       rw c.1 (agrees _ (casting s e) book e (casts own s book e f n r) refl i)
   cast_keeps own s t book e Settled.Differ f n r c = grind (arith, differs, casts)
 
-  -- a desk is given a vote
+  -- a desk hears a vote
   hear_keeps : (own : List Ballot) (s t : SeatState) (book : List Entry) (v : Vote) (h : Heard)
       → SeatFine d own theirs s book → (v.desk ≢ d → In (ballot_of v) theirs) → Hears s v h t
       → SeatFine d own theirs t (book_heard h book v.entry)
   hear_keeps own s t book v h f m c = grind (arith, common_steps, agrees, differs)
 
--- a desk that opens its file is where the votes leave it
+-- a desk that opens its file stands where its votes leave it
 opened_fine : (d : DeskId) (theirs votes : List Ballot) → Justified theirs votes → {Disk : Type 0} → (disk : Disk)
     → SeatFine d votes theirs (opened d disk votes).seat (book_of votes)
 opened_fine d theirs [] j disk = grind arith
@@ -120,12 +120,12 @@ module _ {Disk : Type 0} (view : FileView Disk) (d : DeskId) (theirs : List Ball
       → DiskFine view d theirs votes new
   may_sync_fine votes old new h f = grind (arith, stays_fine, synced_fine)
 
-  -- the same desk on a disk that shows the same
+  -- a desk stays fine on another disk that shows the same
   on_disk : (k : DeskState Disk) (disk : Disk) → Stays view k.disk disk → DeskFine view d theirs k
       → DeskFine view d theirs (record k { disk = disk })
   on_disk k disk s f = grind (arith, stays_fine, stays_held)
 
-  -- a desk that may have another seat, book or disk, and hands out nothing
+  -- a desk whose seat, book or disk may change, and that hands out nothing
   silent : (k l m : DeskState Disk) → DeskFine view d theirs m → m.votes ≡ k.votes → l ≡ m → DeskKept view d theirs k l []
   silent k l m f q e = rw e (record { fine = f; grows = rw q (same k.votes); told = tt })
 
@@ -168,7 +168,7 @@ module _ {Disk : Type 0} (view : FileView Disk) (d : DeskId) (theirs : List Ball
       → DeskKept view d theirs k k out
   ticks_keep k out f h = grind (arith, votes_own, each_append, asks_own, same)
 
-  -- a desk that is opened from what is read there
+  -- a desk that was opened is fine if its votes are justified and its disk has them
   opens_fine : (k : DeskState Disk) → Justified theirs k.votes → Holds view k.disk k.votes → k ≡ opened d k.disk k.votes
       → DeskFine view d theirs k
   opens_fine k j h e = subst (DeskFine view d theirs) (sym e)
@@ -177,7 +177,7 @@ module _ {Disk : Type 0} (view : FileView Disk) (d : DeskId) (theirs : List Ball
   pub creates_fine : (k : DeskState Disk) → Creates view d k → DeskFine view d theirs k
   creates_fine k c = grind (arith, opened_fine, held)
 
-  -- what is read has the votes that the desk had, and the opened desk has what is read
+  -- a read has the votes that the desk had, and the opened desk has what is read
   pub opened_keeps : {Why : Type 0} (rules : Rules Why) (votes : List Ballot) (disk : Disk) (k : DeskState Disk)
       → Justified theirs votes → ShowsMore theirs votes (view.reads disk) → Opens view rules d disk (Opening.Opened k)
       → DeskFine view d theirs k × Within votes k.votes
@@ -190,7 +190,7 @@ module _ {Disk : Type 0} (view : FileView Disk) (d : DeskId) (theirs : List Ball
       → DiskFine view d theirs votes left
   not_opened_keeps rules votes disk left why f o = grind (arith, synced_fine, may_sync_fine)
 
--- it stays so as the other desk votes on
+-- a desk stays fine as the other desk casts more votes
 pub desk_grows : {Disk : Type 0} (view : FileView Disk) (d : DeskId) (theirs more : List Ballot) (k : DeskState Disk)
     → Within theirs more → DeskFine view d theirs k → DeskFine view d more k
 desk_grows view d theirs more k g f = grind (arith, seat_grows d k.votes theirs more k.seat k.book g f.seat, shows_grows)

@@ -21,7 +21,7 @@ pub book_closed : (b c : Ballot) (rest : List Ballot) (book : List Entry) → b.
     → book_of (c ∷ rest) ≡ book → book_of (b ∷ c ∷ rest) ≡ book ++ c.entry ∷ []
 book_closed b c rest book e h = grind (arith, nat_tests)
 
--- votes that are cast later only add to it
+-- votes that are cast later only add to the book
 pub book_begins : (later votes : List Ballot) → BeginsWith (book_of (later ++ votes)) (book_of votes)
 book_begins [] votes = ([], simp append-nil)
 book_begins (b ∷ later) votes = one_more b (later ++ votes) (book_of votes) (book_begins later votes)
@@ -34,7 +34,7 @@ book_begins (b ∷ later) votes = one_more b (later ++ votes) (book_of votes) (b
     one_more b [] front h = h
     one_more b (c ∷ rest) front h = added (nat_eq b.at.place c.at.place) (book_of (c ∷ rest)) front c.entry h
 
--- it is as long as the place of the last vote
+-- the book is as long as the place of the last vote
 pub book_long : (b : Ballot) (bs : List Ballot) → IsSequence (b ∷ bs) → length (book_of (b ∷ bs)) ≡ b.at.place
 book_long b [] s = grind arith
 book_long b (c ∷ rest) s = grind (arith, nat_tests, book_long c rest s.2, length-append (book_of (c ∷ rest)) (c.entry ∷ []))
@@ -55,12 +55,12 @@ book_both theirs (b ∷ bs) j = book_agreed theirs b bs j
 pub files_settled : (v : AllVotes) → AllJustified v → FilesSettled v
 files_settled v j h = grind (arith, both_settled, book_both, both_turned)
 
--- no vote is for a place past the last one
+-- no vote is for a place after that of the last vote
 none_ahead : (theirs : List Ballot) (b : Ballot) (bs : List Ballot) → Justified theirs (b ∷ bs) → (r : ℕ) (e : Entry)
     → In (ballot_at (b.at.place + 1) r e) (b ∷ bs) → ⊥
 none_ahead theirs b bs j r e i = grind (arith, earlier theirs b bs j (ballot_at (b.at.place + 1) r e))
 
--- the last place is settled only where the other desk has the last vote
+-- the place of the last vote is settled only if the other desk has that vote too
 last_settled : (theirs : List Ballot) (b : Ballot) (bs : List Ballot) → Justified theirs (b ∷ bs) → Justified (b ∷ bs) theirs
     → (r : ℕ) (e : Entry) → Both (b ∷ bs) theirs b.at.place r e → In b theirs
 last_settled theirs b bs j jt r e h = grind (arith, earlier theirs b bs j (ballot_at b.at.place r e), none_later (b ∷ bs) theirs j jt b.at.place r b.at.round e b.entry)
@@ -74,6 +74,6 @@ both_by_files (b ∷ bs) theirs j jt xs h =
     let both = both_push (b ∷ bs) theirs 0 book b.entry b.at.place b.at.round in
     grind (arith, l, length-append book (b.entry ∷ []), both, book_agreed theirs b bs j, none_ahead theirs b bs j, last_settled theirs b bs j jt)
 
--- so the agreed list is read from the two files
+-- so the two files show the agreed list
 pub agreed_by_files : (v : AllVotes) → AllJustified v → (xs : List Entry) → IsAgreedByFiles v.a v.b xs → IsAgreedList v xs
 agreed_by_files v j xs h = grind (arith, both_by_files v.a v.b j.0 j.1 xs h, both_settled v j 0 xs)

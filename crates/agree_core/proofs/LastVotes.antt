@@ -9,7 +9,7 @@ use Rattle.agree_core.specs.Books.{book_of, voted_list}
 use Rattle.agree_core.specs.Laws.{IsLastOfPlace, ListsLastVotes}
 use Rattle.agree_core.proofs.FileBooks.{book_closed, book_kept, book_long}
 
--- no vote is for a later position than the last one
+-- no vote is for a later position than the last vote
 not_past : (b : Ballot) (bs : List Ballot) → IsSequence (b ∷ bs) → (c : Ballot) → In c (b ∷ bs)
     → (c.at.place < b.at.place) ⊎ ((c.at.place ≡ b.at.place) × (c.at.round ≤ b.at.round))
 not_past b bs s c (inl e) = grind arith
@@ -19,7 +19,7 @@ not_past b (a ∷ rest) s c (inr i) = grind (arith, not_past a rest s.2 c i)
 voted_long : (b : Ballot) (bs : List Ballot) → IsSequence (b ∷ bs) → length (voted_list (b ∷ bs)) ≡ b.at.place + 1
 voted_long b bs s = omega (arith, book_long b bs s, length-append (book_of (b ∷ bs)) (b.entry ∷ []))
 
--- the place of an earlier vote lies in the book
+-- the place of an earlier vote is in the book
 in_book : (b : Ballot) (bs : List Ballot) → IsSequence (b ∷ bs) → (place : ℕ) (d : Entry) → place < b.at.place
     → get_or (voted_list (b ∷ bs)) place d ≡ get_or (book_of (b ∷ bs)) place d
 in_book b bs s place d h = get_or-append (book_of (b ∷ bs)) (b.entry ∷ []) d place (omega (arith, book_long b bs s))

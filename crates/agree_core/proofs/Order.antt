@@ -1,4 +1,4 @@
--- Positions fall along a desk's votes, and a later round tells that both desks differed before.
+-- Positions go up along a desk's votes, and a later round shows that the desks differed before.
 use Rattle.std.proofs.Common.{◌≡◌, ◌≢◌, ◌⊎◌, ℕ, ◌+◌, ◌<◌, List, [], ◌∷◌, refl, inl, inr, arith}
 use Rattle.notation.specs.declared.entry.Entry.{Entry}
 use Rattle.agree_core.specs.declared.position.Position.{Position}
@@ -35,12 +35,12 @@ BothDiffered own theirs place round = (e : Entry) × (f : Entry) × In (ballot_a
 one_more : (own theirs : List Ballot) (x : Ballot) (place round : ℕ) → BothDiffered own theirs place round → BothDiffered (x ∷ own) theirs place round
 one_more own theirs x place round h = (h.0, h.1, inr h.2, h.3, h.4)
 
--- the round of this vote, where both differed
+-- both desks differed in the round of this vote
 here_differed : (theirs : List Ballot) (y : Ballot) (ys : List Ballot) (place round : ℕ) → place ≡ y.at.place
     → round ≡ y.at.round → Differed theirs y → BothDiffered (y ∷ ys) theirs place round
 here_differed theirs y ys place round p r d = (y.entry, d.0, inl (rw (p, r) refl), rw (p, r) d.1, d.2)
 
--- a vote of a later round tells that both desks differed in each round before
+-- a vote of a later round shows that the desks differed in each round before
 pub differed : (theirs bs : List Ballot) → Justified theirs bs → (b : Ballot) → In b bs
     → (place round : ℕ) → place ≡ b.at.place → round < b.at.round → BothDiffered bs theirs place round
 differed theirs [] j b i place round e h = absurd i
@@ -54,7 +54,7 @@ differed theirs (x ∷ y ∷ ys) (r, inl n, j) b (inl p) place round e h =
     ])
 differed theirs (x ∷ y ∷ ys) (r, inr n, j) b (inl p) place round e h = absurd (grind arith)
 
--- a vote of a later place tells that the other desk has the last vote before
+-- a vote of the next place shows that both desks have an equal vote at the place before
 pub place_closed : (theirs bs : List Ballot) → Justified theirs bs → (place : ℕ) (g : Entry)
     → In (ballot_at (place + 1) 0 g) bs
     → (round : ℕ) × (e : Entry) × In (ballot_at place round e) bs × In (ballot_at place round e) theirs
@@ -71,7 +71,7 @@ pub in_sequence : (theirs bs : List Ballot) → Justified theirs bs → IsSequen
 in_sequence theirs (c ∷ b ∷ bs) j = grind (arith, in_sequence theirs (b ∷ bs) j.2)
 in_sequence theirs bs j = grind arith
 
--- they still follow one another once the other desk has voted more
+-- votes still follow one another once the other desk has cast more
 pub follows_grows : (theirs theirs' : List Ballot) → Within theirs theirs' → (c : Ballot) (bs : List Ballot)
     → Follows theirs c bs → Follows theirs' c bs
 follows_grows theirs theirs' g c bs n = grind arith

@@ -1,4 +1,4 @@
--- An entry may be penned, or one cause stands against it.
+-- An entry may be penned, or is refused for one cause.
 use Rattle.std.proofs.Common.{◌≡◌, ◌⊎◌, nat_le, Option, Some, None, length, if◌then◌else◌, refl, inl, inr, arith, MatchOption}
 use Rattle.std.specs.Option.{is_some}
 use Rattle.std.proofs.lemmas.Bool.Decides.{nat_tests}
@@ -12,7 +12,7 @@ module _ {Disk Why : Type 0} (rules : Rules Why) (k : DeskState Disk) (e : Entry
   by_rules None = None
   by_rules (Some why) = Some (PenRefusal.Illegal why)
 
-  -- the first cause that stands against it, if one does
+  -- the first cause for which the entry is refused, if there is one
   abbrev first_cause : Option (PenRefusal Why)
   first_cause =
       if k.failed then Some PenRefusal.Failed

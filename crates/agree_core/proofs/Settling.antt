@@ -1,4 +1,4 @@
--- A place is settled once, so settled entries make one list.
+-- A place is settled once, so settled entries form one list.
 use Rattle.std.proofs.Common.{◌≡◌, ◌⊎◌, ℕ, ◌+◌, ◌<◌, List, [], ◌∷◌, length, refl, sym, ap, ◌∙◌, arith, append-nil, length-append}
 use Rattle.notation.specs.declared.entry.Entry.{Entry}
 use Rattle.agree_core.specs.declared.messages.DeskId.TheVariants.{A, B}
@@ -7,7 +7,7 @@ use Rattle.agree_core.specs.Ballots.{Ballot, AllVotes, AllJustified, Justified, 
 use Rattle.agree_core.specs.Laws.{SettledOnce, EqualVotesSettle, OneBook, OneVoteEach, RoundsDiffer, PlacesSettled}
 use Rattle.agree_core.proofs.Order.{differed, one_vote, place_closed}
 
--- both have this ballot
+-- both desks have this vote
 abbrev pub Both : List Ballot → List Ballot → ℕ → ℕ → Entry → Type 0
 Both own theirs place round e = In (ballot_at place round e) own × In (ballot_at place round e) theirs
 
@@ -28,7 +28,7 @@ both_once own theirs jo jt place r s e f h k = grind (arith, none_later, one_vot
 pub settled_once : (v : AllVotes) → AllJustified v → SettledOnce v
 settled_once v j place r s e f h k = both_once v.a v.b j.0 j.1 place r s e f h k
 
--- so the round is the least
+-- so the round of equal votes is the least one
 pub equal_votes_settle : (v : AllVotes) → AllJustified v → EqualVotesSettle v
 equal_votes_settle v j place round e h = (h, λ r f less k. let same = settled_once v j place r round f e k h in omega arith)
 
@@ -47,7 +47,7 @@ places_settled v j B place g i =
     let h = place_closed v.a v.b j.1 place g i in
     (h.1, (h.0, equal_votes_settle v j place h.0 h.1 (h.3, h.2)))
 
--- a place that is settled by some of the votes is settled by all, at the same entry
+-- a place that some of the votes settle is settled by all of them, at the same entry
 pub settled_grows : (v w : AllVotes) → VotesGrow v w → AllJustified w → (place : ℕ) (e : Entry) → SettledAt v place e → SettledAt w place e
 settled_grows v w g j place e s = (s.0, equal_votes_settle w j place s.0 e (g.0 _ s.1.0.0, g.1 _ s.1.0.1))
 
@@ -72,7 +72,7 @@ begins_from w j place next (x ∷ xs) [] s t n u = let same : next ≡ place = o
 begins_from w j place next (x ∷ xs) (y ∷ ys) s t n u =
     grind (arith, one_entry w j place x y s.0 t.0, begins_from w j (place + 1) next xs ys s.1 t.1)
 
--- the agreed list begins with any list of entries that some of the votes settle
+-- the agreed list begins with any list that some of the votes settle
 pub agreed_begins : (v w : AllVotes) → VotesGrow v w → AllJustified w → (xs ys : List Entry) → AllSettled v 0 xs → IsAgreedList w ys → BeginsWith ys xs
 agreed_begins v w g j xs ys s a = begins_from w j 0 (length ys) xs ys (all_settled_grow v w g j 0 xs s) a.0 (omega arith) a.1
 

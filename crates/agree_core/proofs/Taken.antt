@@ -1,4 +1,4 @@
--- A list of entries is taken whole, or has one first place at which it is refused.
+-- A list of entries is taken whole, or is refused first at one place.
 use Rattle.std.proofs.Common.{arith, ◌≡◌, ◌≢◌, ◌⊎◌, ℕ, Option, None, List, [], ◌∷◌, ◌++◌, length, refl, ap, inl, inr, append-nil, append_assoc}
 use Rattle.notation.specs.declared.entry.Entry.{Entry}
 use Rattle.agree_core.specs.Books.{Rules, AllTaken, FirstRefused}
@@ -22,13 +22,13 @@ pub refused_once : {Why : Type 0} (rules : Rules Why) (book xs : List Entry) (p 
 refused_once rules book [] p q r s = absurd r
 refused_once rules book (e ∷ es) p q r s = grind (arith, refused_once rules (book ++ e ∷ []) es p q)
 
--- one entry more that may come next
+-- a list that is taken is still taken with one more entry that may come next
 pub taken_push : {Why : Type 0} (rules : Rules Why) (book xs : List Entry) (e : Entry) → AllTaken rules book xs
     → rules (book ++ xs) e ≡ None → AllTaken rules book (xs ++ e ∷ [])
 taken_push rules book [] e t n = (rw append-nil at n, tt)
 taken_push rules book (x ∷ xs) e t n = (t.0, taken_push rules (book ++ x ∷ []) xs e t.1 (rw append_assoc n))
 
--- an entry that may not come next, whatever stands behind it
+-- an entry that may not come next is refused, whatever stands after it
 pub refused_next : {Why : Type 0} (rules : Rules Why) (book xs : List Entry) (e : Entry) (rest : List Entry)
     → AllTaken rules book xs → rules (book ++ xs) e ≢ None → FirstRefused rules book (xs ++ e ∷ rest) (length (book ++ xs))
 refused_next rules book [] e rest t n = inl (rw append-nil at n, ap length (append-nil book))

@@ -19,8 +19,8 @@ pub data BoardAnswer : Type 0 where
   Asked : BoardAnswer
   BadVotes : ℕ → BoardAnswer
 
--- a board is given this message, answers and goes on as the second board; equal votes of both desks for
--- an entry that the book's rules refuse aren't taken, and an ask isn't for it
+-- a board receives this message, answers, and becomes the second board; it doesn't take equal votes of both desks for an
+-- entry that the book's rules refuse, and it ignores an ask
 abbrev pub BoardReceives :
     {Why : Type 0} → Rules Why → BoardState → Message → BoardAnswer → BoardState → Type 0
 BoardReceives rules k (Message.Vote v) (Told h) l =
@@ -34,7 +34,7 @@ BoardReceives rules k (Message.Ask q) Asked l = l ≡ k
 BoardReceives rules k (Message.Ask q) (Told h) l = ⊥
 BoardReceives rules k (Message.Ask q) (BadVotes place) l = ⊥
 
--- at a tick a board asks for the votes of its position, and for none at a full one
+-- at a tick a board asks for the votes of its position, unless that is full
 abbrev pub BoardTicks : BoardState → List Message → Type 0
 BoardTicks k out =
     (InRange k.reader.position × (out ≡ ask_for Asker.Board k.reader.position ∷ []))

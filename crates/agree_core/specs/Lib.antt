@@ -1,5 +1,5 @@
--- All of these hold what is claimed: positions, votes and what they settle, the calls of seats, readers, desks and
--- boards, what they keep (Keeping), and worked rows of them (Rows, WorkedSteps). None serves private functions only.
+-- What the public laws and calls claim: positions, votes and what they settle, the calls of seats, readers, desks and boards,
+-- what those calls preserve (Keeping), and worked rows (Rows, WorkedSteps). No module serves private functions only.
 pub mod Positions
 pub mod Seats
 pub mod Readers

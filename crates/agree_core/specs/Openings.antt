@@ -6,7 +6,7 @@ use Rattle.agree_core.specs.Books.{Rules, AllTaken, FirstRefused, book_of, seat_
 use Rattle.agree_core.specs.Desks.{DeskState}
 use Rattle.agree_core.specs.FileView.{FileView, Holds, MaySync, Synced}
 
--- the desk whose file has these votes: at the position of the last one, with that one cast
+-- the desk whose file has these votes: at the position of the last vote, with that vote cast
 abbrev pub opened : {Disk : Type 0} → DeskId → Disk → List Ballot → DeskState Disk
 opened d disk votes =
     record { seat = seat_of d votes; book = book_of votes; failed = false; votes = votes; disk = disk }
@@ -22,13 +22,13 @@ pub data OpenRefusal : Type 0 where
   NoMemory : OpenRefusal
   DeviceFailed : OpenRefusal
 
--- what comes of opening a file: a desk, or a refusal that leaves the disk
+-- the outcome of opening a file: a desk, or a refusal and the disk that it leaves
 pub data Opening (Disk : Type 0) : Type 0 where
   Opened : DeskState Disk → Opening Disk
   NotOpened : OpenRefusal → Disk → Opening Disk
 
--- a file is synced and opened: the votes that are found are the desk's, and the list of each place's
--- last vote has to be one that the book's rules take
+-- a file is synced and opened: the desk has the votes that are read, and the book's rules must take the list of each
+-- place's last vote
 abbrev pub Opens : {Disk Why : Type 0} → FileView Disk → Rules Why → DeskId → Disk → Opening Disk → Type 0
 Opens view rules d disk (Opened k) =
     (view.reads disk ≡ Some k.votes) × AllTaken rules [] (voted_list k.votes)

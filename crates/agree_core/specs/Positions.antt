@@ -7,7 +7,7 @@ use Rattle.notation.specs.declared.entry.TheConstants.{PLACES}
 abbrev pub InRange : Position → Type 0
 InRange p = (p.place < PLACES) × (p.round < ROUNDS)
 
--- all places are used up, or all rounds of this place
+-- all places, or all rounds of this place, are used up
 abbrev pub IsFull : Position → Type 0
 IsFull p = (PLACES ≤ p.place) ⊎ (ROUNDS ≤ p.round)
 
@@ -24,7 +24,7 @@ next_place p = record { place = p.place + 1; round = 0 }
 abbrev pub next_round : Position → Position
 next_round p = record { place = p.place; round = p.round + 1 }
 
--- the position that opens once both desks have voted, by whether they voted alike
+-- the position that opens once both desks have voted, by whether their votes are equal
 abbrev pub next_position : Bool → Position → Position
 next_position true p = next_place p
 next_position false p = next_round p

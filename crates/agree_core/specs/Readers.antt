@@ -1,4 +1,4 @@
--- A board's view of the current round, and what a vote makes of it.
+-- A board's view of the current round, and how a vote changes it.
 use Rattle.std.specs.Prelude.{◌≡◌, ◌≢◌, ◌⊎◌, Option, Some, None}
 use Rattle.notation.specs.declared.entry.Entry.{Entry}
 use Rattle.agree_core.specs.declared.{messages.DeskId.DeskId, messages.Vote.Vote, position.Position.Position, seat.Heard.Heard}
@@ -11,11 +11,11 @@ pub record ReaderState : Type 0 where
   pub a : Option Entry
   pub b : Option Entry
 
--- it has heard no vote at this position
+-- a board that has heard no vote at this position
 abbrev pub reading : Position → ReaderState
 reading p = record { position = p; a = None; b = None }
 
--- this desk's vote of the position
+-- this desk's vote at the position, if it is noted
 abbrev pub noted_of : ReaderState → DeskId → Option Entry
 noted_of r A = r.a
 noted_of r B = r.b
@@ -24,12 +24,12 @@ abbrev pub other : DeskId → DeskId
 other A = B
 other B = A
 
--- the reader with this desk's vote
+-- the reader with this desk's vote noted
 abbrev pub noting : ReaderState → DeskId → Entry → ReaderState
 noting r A e = record { position = r.position; a = Some e; b = r.b }
 noting r B e = record { position = r.position; a = r.a; b = Some e }
 
--- the board is given this vote, answers and goes on as the second reader
+-- the board hears this vote, answers, and becomes the second reader
 abbrev pub Listens : ReaderState → Vote → Heard → ReaderState → Type 0
 Listens r v Heard.Mine t = ⊥
 Listens r v Heard.Old t = Before (position_of v) r.position × (t ≡ r)
@@ -50,6 +50,6 @@ Listens r v Heard.Differ t =
     × ((e : Entry) × (noted_of r (other v.desk) ≡ Some e) × (v.entry ≢ e))
     × (t ≡ reading (next_round r.position))
 
--- it hasn't both votes of its position
+-- the reader lacks a vote of its position
 abbrev pub ReaderWaits : ReaderState → Type 0
 ReaderWaits r = (r.a ≡ None) ⊎ (r.b ≡ None)

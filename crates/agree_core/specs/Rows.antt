@@ -1,4 +1,4 @@
--- Votes of two worked matches, the entries left open, and what they settle.
+-- Votes of two worked matches, with the entries left open, and what the votes settle.
 use Rattle.std.specs.Prelude.{◌≡◌, ◌≢◌, Some, None, List, [], ◌∷◌}
 use Rattle.notation.specs.declared.entry.Entry.{Entry}
 use Rattle.agree_core.specs.declared.messages.DeskId.TheVariants.{A}
@@ -15,7 +15,7 @@ abbrev pub differing : Entry → Entry → Entry → Entry → Entry → AllVote
 differing p q r four six =
     record { a = ballot_at 3 0 four ∷ three p q r; b = ballot_at 3 0 six ∷ three p q r }
 
--- and in the next round both for the six
+-- and in the next round both vote for the six
 abbrev pub agreeing : Entry → Entry → Entry → Entry → Entry → AllVotes
 agreeing p q r four six =
     record {
@@ -30,7 +30,7 @@ SecondRound p q r four six =
     × IsAgreedList (differing p q r four six) (p ∷ q ∷ r ∷ [])
     × IsAgreedList (agreeing p q r four six) (p ∷ q ∷ r ∷ six ∷ [])
 
--- A's file then shows the first three, and its vote of the second round as its own
+-- A's file then shows the first three entries, and its vote of the second round as its own
 abbrev pub FileOfSecondRound : Entry → Entry → Entry → Entry → Entry → Type 0
 FileOfSecondRound p q r four six =
     (book_of (agreeing p q r four six).a ≡ p ∷ q ∷ r ∷ [])
@@ -38,7 +38,7 @@ FileOfSecondRound p q r four six =
     × (seat_of A (agreeing p q r four six).a
     ≡ record { desk = A; position = record { place = 3; round = 1 }; mine = Some six; theirs = None })
 
--- of votes that no desks cast in turn: equal votes in two rounds settle the place in the first
+-- votes that no desks cast in turn: equal votes in two rounds settle the place in the first
 abbrev pub twice : Entry → Entry → AllVotes
 twice e f =
     record { a = ballot_at 0 1 f ∷ ballot_at 0 0 e ∷ []; b = ballot_at 0 1 f ∷ ballot_at 0 0 e ∷ [] }
@@ -46,7 +46,7 @@ twice e f =
 abbrev pub LeastRound : Entry → Entry → Type 0
 LeastRound e f = SettledIn (twice e f) 0 0 e × (SettledIn (twice e f) 0 1 f → ⊥)
 
--- an entry that may not come first is refused at place 0, and one that may not come after it at place 1
+-- an entry that may not come first is refused at place 0, and an entry that may not follow it at place 1
 abbrev pub RefusedInTurn : {Why : Type 0} → Rules Why → Entry → Entry → Type 0
 RefusedInTurn rules e f =
     (rules [] e ≢ None → FirstRefused rules [] (e ∷ f ∷ []) 0)

@@ -1,4 +1,4 @@
--- A desk's part in the current round, and what a vote makes of it.
+-- A desk's part in the current round, and how a vote changes it.
 use Rattle.std.specs.Prelude.{◌≡◌, ◌≢◌, ◌⊎◌, Option, Some, None}
 use Rattle.notation.specs.declared.entry.Entry.{Entry}
 use Rattle.agree_core.specs.declared.{messages.DeskId.DeskId, messages.Vote.Vote, position.Position.Position, seat.Settled.Settled, seat.Heard.Heard}
@@ -11,23 +11,23 @@ pub record SeatState : Type 0 where
   pub mine : Option Entry
   pub theirs : Option Entry
 
--- it has neither cast nor heard a vote at this position
+-- a desk that has neither cast nor heard a vote at this position
 abbrev pub waiting : DeskId → Position → SeatState
 waiting d p = record { desk = d; position = p; mine = None; theirs = None }
 
--- it is at the position of its own vote, and has heard none there
+-- a desk at the position of its own vote, which has heard no vote there
 abbrev pub resumed : Vote → SeatState
 resumed v = record { desk = v.desk; position = position_of v; mine = Some v.entry; theirs = None }
 
--- its own vote is cast, and the other's isn't there
+-- the desk's own vote is cast, and the other desk's isn't there
 abbrev pub casting : SeatState → Entry → SeatState
 casting s e = record { desk = s.desk; position = s.position; mine = Some e; theirs = None }
 
--- the other's vote is there, and its own isn't cast
+-- the other desk's vote is there, and the desk's own isn't cast
 abbrev pub noting : SeatState → Entry → SeatState
 noting s e = record { desk = s.desk; position = s.position; mine = None; theirs = Some e }
 
--- the seat casts this vote, answers and goes on as the second seat
+-- the seat casts this vote, answers, and becomes the second seat
 abbrev pub Casts : SeatState → Entry → Settled → SeatState → Type 0
 Casts s e Settled.Pending t = (s.theirs ≡ None) × (t ≡ casting s e)
 Casts s e Settled.Agreed t =
@@ -39,7 +39,7 @@ Casts s e Settled.Differ t =
 abbrev pub IsForNow : SeatState → Vote → Type 0
 IsForNow s v = (v.desk ≢ s.desk) × (position_of v ≡ s.position)
 
--- the seat is given this vote, answers and goes on as the second seat
+-- the seat hears this vote, answers, and becomes the second seat
 abbrev pub Hears : SeatState → Vote → Heard → SeatState → Type 0
 Hears s v Heard.Mine t = (v.desk ≡ s.desk) × (t ≡ s)
 Hears s v Heard.Old t = (v.desk ≢ s.desk) × Before (position_of v) s.position × (t ≡ s)
@@ -56,6 +56,6 @@ Hears s v Heard.Differ t =
     IsForNow s v × (s.theirs ≡ None) × ((e : Entry) × (s.mine ≡ Some e) × (v.entry ≢ e))
     × (t ≡ waiting s.desk (next_round s.position))
 
--- it hasn't both votes of its position
+-- the seat lacks a vote of its position
 abbrev pub SeatWaits : SeatState → Type 0
 SeatWaits s = (s.mine ≡ None) ⊎ (s.theirs ≡ None)

@@ -1,4 +1,4 @@
--- Worked calls of a desk and of a board, at the first place, over disks that show two lists of votes.
+-- Worked calls of a desk and a board at the first place, on disks that show two lists of votes.
 use Rattle.std.specs.Prelude.{◌≡◌, ◌⊎◌, ℕ, false, true, Option, Some, None, List, [], ◌∷◌}
 use Rattle.notation.specs.declared.entry.Entry.{Entry}
 use Rattle.agree_core.specs.declared.{messages.Asker.Asker, messages.DeskId.DeskId, messages.Message.Message, position.Position.Position, seat.Heard.Heard, seat.Settled.Settled}
@@ -12,7 +12,7 @@ use Rattle.agree_core.specs.Openings.{OpenRefusal, Opening, Opens}
 use Rattle.agree_core.specs.Positions.{first, next_place, next_round}
 use Rattle.agree_core.specs.Readers.{noting, reading}
 
--- a disk, by the votes that a read gives and by those that a power loss may leave in their stead
+-- a disk, by the votes that a read returns and the votes that a power loss may leave instead
 pub record Shown : Type 0 where
   pub read : List Ballot
   pub left : List Ballot
@@ -20,7 +20,7 @@ pub record Shown : Type 0 where
 abbrev pub shows : FileView Shown
 shows = view_of (λ d. Some d.read) (λ d image. (image ≡ Some d.read) ⊎ (image ≡ Some d.left))
 
--- all of them are synced
+-- a disk on which these votes are all synced
 abbrev pub synced : List Ballot → Shown
 synced votes = record { read = votes; left = votes }
 
@@ -46,7 +46,7 @@ new_desk = desk_a first None [] []
 abbrev pub waits : Entry → DeskState Shown
 waits e = desk_a first (Some e) [] (ballot_at 0 0 e ∷ [])
 
--- A pens a four and hears a six: they differ. In the next round both have the six: the book has it.
+-- A pens a four and hears a six: they differ. In the next round both vote for the six, and the book has it.
 abbrev pub DiffersAndAgrees : {Why : Type 0} → Rules Why → Entry → Entry → Type 0
 DiffersAndAgrees rules four six =
     let again = next_round first in
@@ -59,8 +59,8 @@ DiffersAndAgrees rules four six =
     × Receives shows (desk_a again (Some six) [] votes) (says B 1 six) (ReceiveAnswer.Told Heard.Agreed)
     (desk_a (next_place first) None (six ∷ []) votes) []
 
--- The power goes with the last device call of a pen: what is read has the vote, and a power loss may
--- leave the file without it. Opened, the desk has the vote, hands it out and waits.
+-- The power goes in the last device call of a pen: a read has the vote, and a power loss may leave the file without it.
+-- Opened again, the desk has the vote, hands it out and waits.
 abbrev pub StoppedAndOpened : {Why : Type 0} → Rules Why → Entry → Entry → Type 0
 StoppedAndOpened rules e f =
     let disk : Shown = record { read = ballot_at 0 0 e ∷ []; left = [] } in
@@ -71,8 +71,8 @@ StoppedAndOpened rules e f =
     × Receives shows (waits e) (says B 0 e) (ReceiveAnswer.Told Heard.Agreed)
     (desk_a (next_place first) None (e ∷ []) (ballot_at 0 0 e ∷ [])) []
 
--- The second device call of a pen fails, and nothing of the vote is to be read. The desk then pens
--- nothing, looks at no message and hands out nothing, until it is opened.
+-- The second device call of a pen fails, and a read shows nothing of the vote. The desk then pens nothing, looks at no
+-- message and hands out nothing until it is opened again.
 abbrev pub FailedAndOpened : {Why : Type 0} → Rules Why → Entry → Entry → Message → Type 0
 FailedAndOpened rules e f m =
     let failed = record new_desk { failed = true } in
@@ -82,8 +82,8 @@ FailedAndOpened rules e f m =
     × Ticks failed []
     × Opens shows rules A (synced []) (Opening.Opened new_desk)
 
--- Votes for an entry that may not come first: a board that has A's doesn't take B's, and a desk with
--- such a file isn't opened. The refused place is the first.
+-- Votes for an entry that may not come first: a board that has A's vote doesn't take B's, and a desk with such a file
+-- isn't opened. The refused place is the first.
 abbrev pub VotesOfNoBook : {Why : Type 0} → Rules Why → Entry → Type 0
 VotesOfNoBook rules e =
     let noted : BoardState = record { reader = noting (reading first) A e; book = [] } in

@@ -16,8 +16,8 @@ ghost use Rattle.agree_core.specs.Readers.{Listens, ReaderState, ReaderWaits};
 ghost use Rattle.agree_core.specs.Seats.{Casts, Hears, SeatState, SeatWaits};
 ghost use Rattle.agree_core.specs.Rows.{FileOfSecondRound, LeastRound, RefusedInTurn, SecondRound};
 
-/// Where each vote follows the one before it, a desk votes once at a position, a vote of the next round
-/// tells that both desks differed in this one, and a vote of the next place tells that this one is
+/// If each vote follows the one before it, a desk votes once at a position, a vote of the next round
+/// shows that the desks differed in this round, and a vote of the next place shows that this place is
 /// settled.
 pub fn votes_follow()
     ensures once { (v : AllVotes) → AllJustified v → OneVoteEach v }
@@ -26,14 +26,14 @@ pub fn votes_follow()
     ensures sequence { (theirs votes : List Ballot) → Justified theirs votes → IsSequence votes }
 {}
 
-/// A place is settled at one entry, in one round, which is the least with equal votes of both desks.
+/// A place is settled at one entry, in one round: the least with equal votes of both desks.
 pub fn settled_once()
     ensures once { (v : AllVotes) → AllJustified v → SettledOnce v }
     ensures least { (v : AllVotes) → AllJustified v → EqualVotesSettle v }
 {}
 
-/// There is one agreed list, and that of more votes begins with that of fewer; and of two books of
-/// settled entries one begins with the other, whichever of the votes each has.
+/// There is one agreed list, and more votes only make it longer. Of two books of settled entries one
+/// begins with the other, whichever of the votes settle each.
 pub fn agreed_list_grows()
     ensures grows { (v w : AllVotes) (xs ys : List Entry) → VotesGrow v w → AllJustified w
         → IsAgreedList v xs → IsAgreedList w ys → BeginsWith ys xs }
@@ -42,9 +42,9 @@ pub fn agreed_list_grows()
     ensures one_book { (w : AllVotes) → AllJustified w → OneBook w }
 {}
 
-/// A desk's file shows a book of settled entries, as long as the place of its last vote, with the last
-/// vote of each place; votes that are cast later only add to that book; and both files show the agreed
-/// list.
+/// A desk's file shows a book of settled entries, as long as the place of its last vote. The list by its
+/// votes has the last vote of each place, later votes only add to the book, and the two files show the
+/// agreed list.
 pub fn files_show_the_agreed_list()
     ensures settled { (v : AllVotes) → AllJustified v → FilesSettled v }
     ensures long { (bs : List Ballot) (b : Ballot) → IsSequence (b ∷ bs)
@@ -56,7 +56,7 @@ pub fn files_show_the_agreed_list()
         → IsAgreedByFiles v.a v.b xs → IsAgreedList v xs }
 {}
 
-/// No seat and no reader keeps both votes of its position: the call that brings the second one ends the round.
+/// No seat and no reader keeps both votes of its position: the call that brings the second vote ends the round.
 pub fn no_round_waits()
     ensures casts { (s t : SeatState) (e : Entry) (settled : Settled) → Casts s e settled t
         → SeatWaits t }
@@ -66,8 +66,8 @@ pub fn no_round_waits()
         → Listens r v heard t → ReaderWaits t }
 {}
 
-/// A list of entries is taken whole by a book's rules, or refused first at one place, whatever the
-/// rules and their causes `W`; and one entry more is taken or refused by what stands before it.
+/// A book's rules take a list of entries whole, or refuse it first at one place, whatever the rules and
+/// their causes `W`. One more entry is taken or refused by the entries before it.
 pub fn taken_or_refused<W>()
     ensures one { (rules : Rules W) (xs : List Entry) → TakenOrRefused rules xs }
     ensures taken { (rules : Rules W) (xs : List Entry) (e : Entry) → AllTaken rules [] xs
@@ -76,8 +76,8 @@ pub fn taken_or_refused<W>()
         → rules xs e ≢ None → FirstRefused rules [] (xs ++ e ∷ rest) (length xs) }
 {}
 
-// Worked votes: a round that differs and one that agrees, what a file shows of them, and the least of
-// two rounds.
+// Worked votes: a round that differs and one that agrees, what a file shows of them, the least of two
+// rounds with equal votes, and the place of a refused entry.
 fn worked_votes()
     ensures second_round { (p q r four six : Entry) → four ≢ six → SecondRound p q r four six }
     ensures file { (p q r four six : Entry) → FileOfSecondRound p q r four six }

@@ -1,4 +1,4 @@
-//! Rounds of votes for each place of a book, with no meaning of an entry.
+//! Rounds of votes for each place of a book, whatever an entry means.
 //!
 //! A position is a place of the book and a round of voting on it. Each of the two desks votes once at a
 //! position. Equal votes settle the place, and the next place opens at round 0; different votes open

@@ -15,7 +15,7 @@ pub enum DeskId {
 }
 
 impl DeskId {
-    /// Its number on files and in datagrams: 1 for A, 2 for B.
+    /// Returns the desk's number in files and in datagrams: 1 for A, 2 for B.
     pub fn number(self) -> u8
         ensures { result ≡ desk_number self }
     {
@@ -37,7 +37,7 @@ pub struct Vote {
 }
 
 impl Vote {
-    /// The position that it is for.
+    /// Returns the position that the vote is for.
     pub fn position(&self) -> Position
         ensures { result ≡ position_of self.now }
     {
@@ -56,7 +56,7 @@ pub enum Asker {
     Board,
 }
 
-/// A station asks the desks for their votes of its position.
+/// A station's ask for the desks' votes at its position.
 #[derive(Clone, Copy)]
 pub struct Ask {
     pub from: Asker,
@@ -64,7 +64,7 @@ pub struct Ask {
     pub round: u32,
 }
 
-/// All that is ever sent.
+/// Every message that stations send.
 #[derive(Clone, Copy)]
 pub enum Message {
     Vote(Vote),

@@ -19,8 +19,8 @@ impl Position {
     /// Round 0 of place 0.
     pub const FIRST: Position = Position { place: 0, round: 0 };
 
-    /// Whether all places or all rounds of this place are used up. Nothing is voted or asked at such a
-    /// position.
+    /// Whether all places, or all rounds of this place, are used up. No vote is cast or asked for at such
+    /// a position.
     pub fn is_full(self) -> bool
         ensures { IsTrue result ↔ IsFull self }
     {
@@ -34,7 +34,7 @@ impl Position {
         self < other
     }
 
-    // The position that opens once both desks have voted here.
+    // Returns the position that opens once both desks have voted here.
     pub(crate) fn next(self, agreed: bool) -> Position
         requires { InRange self }
         ensures { result ≡ next_position agreed self }

@@ -29,15 +29,15 @@ impl Model for Reader {
 }
 
 impl Reader {
-    /// A board at the first position of an empty book.
+    /// Returns a board at the first position of an empty book.
     pub fn fresh() -> Reader
         ensures { result ≡ reading first }
     {
         Reader::at(Position::FIRST)
     }
 
-    /// Takes a vote that came, for a position that isn't full. Of the answers the first that holds is given,
-    /// in their order and never `Mine`; only `Noted`, `Agreed` and `Differ` change the reader.
+    /// Hears a vote for a position that isn't full. Returns the first answer that holds, in the order of
+    /// `Heard` and never `Mine`. Only `Noted`, `Agreed` and `Differ` change the reader.
     pub fn hear(&mut self, vote: &Vote) -> Heard
         requires { InRange (position_of vote.now) }
         ensures step { Listens self.old vote.now result self.new }
@@ -89,14 +89,14 @@ impl Reader {
         }
     }
 
-    /// The position that the board waits for.
+    /// Returns the position whose votes the board waits for.
     pub fn position(&self) -> Position
         ensures { result ≡ self.now.position }
     {
         self.position
     }
 
-    /// This desk's vote of the position, if it is noted.
+    /// Returns this desk's vote at the position, if it is noted.
     pub fn noted(&self, desk: DeskId) -> Option<Entry>
         ensures { result ≡ noted_of self.now desk }
     {

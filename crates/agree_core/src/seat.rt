@@ -9,7 +9,7 @@ use crate::position::Position;
 use notation::Entry;
 use std::marker::Model;
 
-/// What has become of a round after a vote was cast.
+/// The state of a round after a vote was cast.
 #[derive(Clone, Copy, PartialEq, Eq)]
 pub enum Settled {
     /// The other desk's vote isn't there yet.
@@ -20,20 +20,20 @@ pub enum Settled {
     Differ,
 }
 
-/// What became of a vote that came.
+/// The answer to a vote that was heard.
 #[derive(Clone, Copy, PartialEq, Eq)]
 pub enum Heard {
-    /// It is a vote of the desk itself.
+    /// The vote is the desk's own.
     Mine,
-    /// It is for an earlier position.
+    /// The vote is for an earlier position.
     Old,
-    /// It is for a later position.
+    /// The vote is for a later position.
     Ahead,
-    /// That desk's vote of this position is noted already, and is the same.
+    /// That desk's vote at this position is already noted, with the same entry.
     Again,
-    /// That desk's vote of this position is noted already, and is another.
+    /// That desk's vote at this position is already noted, with another entry.
     TwoVotes,
-    /// It is noted, the first of this position.
+    /// The vote is noted, the first at this position.
     Noted,
     /// Both desks voted for this entry: the place has it, and the next place opens.
     Agreed,
@@ -61,14 +61,14 @@ impl Model for Seat {
 }
 
 impl Seat {
-    /// A desk at the first position of an empty book.
+    /// Returns a desk at the first position of an empty book.
     pub fn fresh(desk: DeskId) -> Seat
         ensures { result ≡ waiting desk first }
     {
         Seat::waiting(desk, Position::FIRST)
     }
 
-    /// A desk that has cast this vote, its last, and has heard nothing at its position since.
+    /// Returns a desk that has cast this vote, its last, and has heard nothing at its position since.
     pub fn resume(vote: Vote) -> Seat
         ensures { result ≡ resumed vote }
     {
@@ -78,8 +78,8 @@ impl Seat {
         }
     }
 
-    /// Casts the desk's vote of this position: `Pending` until the other desk's vote is there.
-    /// A desk votes once at a position, and not at a full one (`Position::is_full`).
+    /// Casts the desk's vote at this position: `Pending` if the other desk's vote isn't there yet. A desk
+    /// votes once at a position, and never at a full one (`Position::is_full`).
     #[inline(always)]
     pub fn cast(&mut self, entry: Entry) -> Settled
         requires not_cast { self.old.mine ≡ None }
@@ -110,8 +110,8 @@ impl Seat {
         }
     }
 
-    /// Takes a vote that came, for a position that isn't full. Of the answers the first that holds is given,
-    /// in their order; only `Noted`, `Agreed` and `Differ` change the seat.
+    /// Hears a vote for a position that isn't full. Returns the first answer that holds, in the order of
+    /// `Heard`. Only `Noted`, `Agreed` and `Differ` change the seat.
     #[inline(always)]
     pub fn hear(&mut self, vote: &Vote) -> Heard
         requires { InRange (position_of vote.now) }
@@ -158,21 +158,21 @@ impl Seat {
         }
     }
 
-    /// The position that the desk votes on.
+    /// Returns the position that the desk votes on.
     pub fn position(&self) -> Position
         ensures { result ≡ self.now.position }
     {
         self.position
     }
 
-    /// The desk's own vote of its position, if it is cast.
+    /// Returns the desk's own vote at its position, if it is cast.
     pub fn mine(&self) -> Option<Entry>
         ensures { result ≡ self.now.mine }
     {
         self.mine
     }
 
-    /// The other desk's vote of this position, if it is noted.
+    /// Returns the other desk's vote at this position, if it is noted.
     pub fn theirs(&self) -> Option<Entry>
         ensures { result ≡ self.now.theirs }
     {

@@ -1,4 +1,4 @@
-//! What the calls of desks and boards keep, over any disk and by any rules of a book.
+//! What the calls of desks and boards preserve, on any disk and under any rules of a book.
 //!
 //! These functions do nothing: each stands for the laws that it ensures.
 
@@ -18,18 +18,18 @@ ghost use Rattle.agree_core.specs.Openings.{Creates, OpenRefusal, Opening, Opens
 ghost use Rattle.agree_core.specs.WorkedSteps.{DiffersAndAgrees, FailedAndOpened, StoppedAndOpened};
 ghost use Rattle.agree_core.specs.WorkedSteps.{VotesOfNoBook};
 
-/// A disk, by what it shows of a desk's file: votes, the newest first, or nothing where its bytes are no
-/// sound file of that desk and match. The laws of desks hold over each such disk.
+/// A disk, by what it shows of a desk's file: the votes, newest first, or `None` if its bytes are no
+/// sound file of that desk and match. The laws of desks hold on every such disk.
 pub trait ShowsVotes {
-    /// What a read gives.
+    /// What a read returns.
     ghost read: { Self → Option (List Ballot) };
 
     /// What a power loss at this moment may leave.
     ghost image: { Self → Option (List Ballot) → Type 0 };
 }
 
-/// An entry may be penned, or exactly one cause stands against it, whatever the causes `W` of the
-/// book's rules.
+/// An entry may be penned, or is refused for exactly one cause, whatever causes `W` the book's rules
+/// have.
 pub fn a_pen_is_allowed_or_refused<D, W>()
     ensures either { (rules : Rules W) (k : DeskState D) (e : Entry)
         → MayPen rules k e ⊎ ((why : PenRefusal W) × RefusesPen rules k e why) }
@@ -39,8 +39,8 @@ pub fn a_pen_is_allowed_or_refused<D, W>()
         → RefusesPen rules k e why → RefusesPen rules k e other → why ≡ other }
 {}
 
-/// A desk's seat, book and disk stay those of its votes and the other desk's, whatever is penned and
-/// heard, as long as the other desk's votes that come are votes that it has.
+/// A desk's seat, book and disk always agree with its own votes and the other desk's, whatever is penned
+/// and heard, as long as each vote heard from the other desk is one that it has.
 pub fn desks_are_those_of_their_votes<D: ShowsVotes, W>()
     ensures created { (d : Desk) (theirs : List Ballot) (k : DeskState D)
         → Creates (view_of D.read D.image) d k → DeskFine (view_of D.read D.image) d theirs k }
@@ -70,8 +70,8 @@ pub fn desks_are_those_of_their_votes<D: ShowsVotes, W>()
         → DeskFine (view_of D.read D.image) d more k }
 {}
 
-/// A board's reader and book stay those of both desks' votes, as long as the votes that come are votes
-/// that their desks have; and it hands out no vote.
+/// A board's reader and book always agree with both desks' votes, as long as each vote heard is one that
+/// its desk has. A board hands out no vote.
 pub fn boards_are_those_of_the_votes<W>()
     ensures new { (v : AllVotes) → BoardFine v fresh_board }
     ensures receives { (rules : Rules W) (v : AllVotes) (k l : BoardState) (m : Message)
@@ -83,8 +83,8 @@ pub fn boards_are_those_of_the_votes<W>()
         → BoardFine w k }
 {}
 
-// Worked calls: a round that differs and one that agrees, a pen that stops and one that fails, and votes
-// for an entry that the book refuses.
+// Worked calls: a round that differs and one that agrees, a pen in which the power goes, a pen that
+// fails, and votes for an entry that the book refuses.
 fn worked_steps()
     ensures differs { (rules : Rules ℕ) (four six : Entry) → rules [] four ≡ None
         → rules [] six ≡ None → six ≢ four → DiffersAndAgrees rules four six }

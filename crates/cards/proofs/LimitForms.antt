@@ -1,11 +1,11 @@
--- What a sheet limits is found in its written form.
+-- The written form of a sheet determines its limits.
 use Rattle.std.proofs.Common.{◌≡◌, ◌<◌, ◌+◌, ◌/◌, ◌%◌, ℕ, Bool, List, [], ◌∷◌, ◌++◌, Option, drop, get_or, arith, refl, sym, ap, subst}
 use Rattle.std.specs.Prelude.{⊤}
 use Rattle.limits.specs.declared.powerplay.Powerplay.{Powerplay}
 use Rattle.limits.specs.Limits.{Limits}
 use Rattle.cards.specs.Digest.{bowler_bytes, each_overs, each_powerplay, free_bytes, limits_text}
 
--- no byte stands there, or one above k
+-- the bytes are empty, or begin with a byte above k
 abbrev Above : ℕ → List ℕ → Type 0
 Above k [] = ⊤
 Above k (b ∷ bs) = k < b
@@ -16,11 +16,11 @@ above_less k l h = grind arith
 none_at : (k : ℕ) (l r : List ℕ) → Above k l → l ≡ k ∷ r → {A : Type 0} → A
 none_at k l r h e = absurd (let less = subst (Above k) e h in omega (arith, less))
 
--- a number is found in its two bytes
+-- the two bytes of a number determine the number
 same_overs : (m n : ℕ) → m / 256 ≡ n / 256 → m % 256 ≡ n % 256 → m ≡ n
 same_overs m n a b = omega (arith, a, b)
 
--- ---- part by part
+-- ---- one part at a time
 
 overs_once : (xs ys p q : List ℕ) → Above 1 p → Above 1 q → each_overs xs ++ p ≡ each_overs ys ++ q → (xs ≡ ys) × (p ≡ q)
 unfolding each_overs

@@ -1,4 +1,4 @@
--- A sheet is found in its written form.
+-- The written form of a sheet determines the sheet.
 use Rattle.std.proofs.Common.{◌≡◌, ◌≤◌, ◌<◌, ◌+◌, ◌-◌, ◌^◌, ℕ, zero, suc, List, [], ◌∷◌, ◌++◌, take, drop, length, arith, sym, ap, ◌∙◌}
 use Rattle.std.proofs.lemmas.List.{append_assoc, append-nil, take_at, drop_at, same_lists, get_or_default}
 use Rattle.std.proofs.lemmas.Nat.{from_be_bytes-to_be_bytes_8}
@@ -14,13 +14,13 @@ use Rattle.cards.specs.Sheet.{IsTeam, Sheet, Team, in_columns, is_name, is_text,
 use Rattle.cards.specs.Digest.{IsSheet, limits_text, side_text, text, texts_from, written}
 use Rattle.cards.proofs.LimitForms.{same_limits}
 
--- one text more
+-- one more text
 pub texts_more : (f : ℕ → List ℕ) (k n : ℕ) → texts_from f k n ++ text (f (k + n)) ≡ texts_from f k (n + 1)
 unfolding texts_from
 texts_more f k zero = grind (arith, append-nil)
 texts_more f k (suc n) = grind (arith, append_assoc, texts_more f (k + 1) n)
 
--- the first of two texts, and what follows it
+-- equal bytes that begin with a text have the same text, and the same bytes after it
 pub first_text : (t u p q : List ℕ) → length t < 2 ^ 64 → length u < 2 ^ 64 → text t ++ p ≡ text u ++ q → (t ≡ u) × (p ≡ q)
 first_text t u p q short brief e =
     let number = ap (take 8) e in
@@ -28,7 +28,7 @@ first_text t u p q short brief e =
     let rest : t ++ p ≡ u ++ q = ap (drop 8) e in
     grind (arith, ap (take (length u)) rest, ap (drop (length u)) rest, take_at, drop_at)
 
--- so many texts, and what follows them
+-- equal bytes that begin with n texts have the same texts, and the same bytes after them
 pub each_text : (f g : ℕ → List ℕ) → ((j : ℕ) → length (f j) < 2 ^ 64) → ((j : ℕ) → length (g j) < 2 ^ 64)
     → (n k : ℕ) (p q : List ℕ) → texts_from f k n ++ p ≡ texts_from g k n ++ q
     → ((i : ℕ) → i < n → f (k + i) ≡ g (k + i)) × (p ≡ q)
@@ -43,7 +43,7 @@ each_text f g short brief (suc n) k p q e =
     at zero less here later = grind (arith, here)
     at (suc j) less here later = grind (arith, later j)
 
--- a name of a list
+-- the name at an index of a list
 abbrev slice_names : List (List ℕ) → ℕ → List ℕ
 slice_names xs i = get_or xs i []
 
@@ -59,7 +59,7 @@ player_short : (a : Team) → IsTeam a → (p : ℕ) → length (player_in a p) 
 player_short a h p =
     rw (unwrap_or-slice_get a.players (p - 1) []) (each_name a.players (p - 1) h.players)
 
--- eleven names that are the same one by one
+-- teams with the same name and the same eleven players' names are equal
 pub same_team : (a b : Team) → IsTeam a → IsTeam b → a.name ≡ b.name
     → ((i : ℕ) → i < 11 → player_in a (1 + i) ≡ player_in b (1 + i)) → a ≡ b
 same_team a b h k name each =
@@ -72,7 +72,7 @@ same_team a b h k name each =
     get_or_default a.players i d [] less ∙ rw index at (sym left ∙ one ∙ right) ∙ get_or_default b.players i [] d (omega (arith, k.eleven))) in
     λ i. record { name = name i; players = players i }
 
--- a side, and what follows it
+-- equal bytes that begin with a side have the same side, and the same bytes after it
 side_once : (a b : Team) → IsTeam a → IsTeam b → (p q : List ℕ)
     → (text a.name ++ texts_from (player_in a) 1 11) ++ p ≡ (text b.name ++ texts_from (player_in b) 1 11) ++ q
     → (a ≡ b) × (p ≡ q)

@@ -5,11 +5,11 @@ use Rattle.match_laws.specs.declared.outcome.Outcome.TheVariants.{Undecided, Dra
 use Rattle.match_laws.specs.declared.outcome.Outcome.TheVariants.{InningsAnd, PenaltyRuns}
 use Rattle.cards.specs.Sheet.{Sheet, name_of}
 
--- so many runs, or wickets
+-- a number of runs or wickets
 abbrev pub counted : ℕ → List ℕ → List ℕ → List ℕ
 counted n one many = decimal n ++ codes " " ++ (if n == 1 then one else many)
 
--- none where the match is undecided
+-- the result in words, or none if the match is undecided
 abbrev pub result_text : Sheet → Outcome → Option (List ℕ)
 result_text s Undecided = None
 result_text s Draw = Some (codes "match drawn")

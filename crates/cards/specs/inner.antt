@@ -1,3 +1,3 @@
--- What serves private functions and proofs only.
+-- Definitions for private functions and proofs only.
 pub mod Names
 pub mod Words

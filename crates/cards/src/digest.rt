@@ -11,7 +11,7 @@ use limits::{Limits, Powerplay};
 use notation::{Player, Side};
 use sha2::{Digest, Sha256};
 
-/// Adds a text with its length before it.
+/// Adds a text, with its length as 8 bytes before it.
 fn add_text(hasher: &mut Sha256, text: &str)
     ensures { (m : List ℕ) → Holds256 hasher.old m
         → Holds256 hasher.new (m ++ specs.text text.now) }
@@ -20,7 +20,7 @@ fn add_text(hasher: &mut Sha256, text: &str)
     hasher.update(text);
 }
 
-/// The player at an index, from 0 to 10.
+/// Returns the player at an index from 0 to 10.
 fn player_at(index: u8) -> Player
     requires { index < 11 }
     ensures { result ≡ index + 1 }
@@ -28,7 +28,7 @@ fn player_at(index: u8) -> Player
     Player::new(index + 1).unwrap()
 }
 
-/// Adds a side.
+/// Adds a side: its name and its eleven players' names.
 fn add_side(hasher: &mut Sha256, sheet: &MatchSheet, side: Side)
     ensures { (m : List ℕ) → Holds256 hasher.old m
         → Holds256 hasher.new (m ++ specs.side_text sheet.now side) }
@@ -39,7 +39,7 @@ fn add_side(hasher: &mut Sha256, sheet: &MatchSheet, side: Side)
     }
 }
 
-/// A number of overs, behind a byte that says what they are of.
+/// Adds a byte that says what the overs are of, and then the number of overs as 2 bytes.
 fn add_overs(hasher: &mut Sha256, mark: u8, overs: u16)
     ensures { (m : List ℕ) → Holds256 hasher.old m
         → Holds256 hasher.new (m ++ mark ∷ specs.overs_bytes overs) }
@@ -84,7 +84,7 @@ fn add_powerplays(hasher: &mut Sha256, powerplays: &[Powerplay])
     }
 }
 
-/// Adds the overs of a bowler, if they are limited.
+/// Adds the number of overs that a bowler may bowl, if it is limited.
 fn add_bowler(hasher: &mut Sha256, overs: Option<u16>)
     ensures { (m : List ℕ) → Holds256 hasher.old m
         → Holds256 hasher.new (m ++ specs.bowler_bytes overs) }
@@ -94,7 +94,7 @@ fn add_bowler(hasher: &mut Sha256, overs: Option<u16>)
     }
 }
 
-/// Adds that there are free hits, if there are.
+/// Adds a byte if there are free hits.
 fn add_free_hits(hasher: &mut Sha256, free_hits: bool)
     ensures { (m : List ℕ) → Holds256 hasher.old m
         → Holds256 hasher.new (m ++ specs.free_bytes free_hits) }
@@ -104,7 +104,7 @@ fn add_free_hits(hasher: &mut Sha256, free_hits: bool)
     }
 }
 
-/// Adds what a sheet limits: no byte, where that is nothing.
+/// Adds a sheet's limits: no byte if it has none.
 fn add_limits(hasher: &mut Sha256, limits: &Limits)
     ensures { (m : List ℕ) → Holds256 hasher.old m
         → Holds256 hasher.new (m ++ specs.limits_text limits.now) }
@@ -115,7 +115,7 @@ fn add_limits(hasher: &mut Sha256, limits: &Limits)
     add_powerplays(hasher, limits.powerplays());
 }
 
-/// The digest of a sheet. It takes no memory.
+/// Returns the SHA-256 digest of a sheet's written form. It allocates no memory.
 pub fn digest_of(sheet: &MatchSheet) -> [u8; 32]
     ensures { result ≡ specs.sheet_digest sheet.now }
 {
@@ -129,8 +129,8 @@ pub fn digest_of(sheet: &MatchSheet) -> [u8; 32]
     hasher.finalize()
 }
 
-/// Sheets of one written form are one sheet, for rows of whatever width, and that is no part of the form. This function does
-/// nothing: it stands for the laws that it ensures.
+/// States that two sheets with the same written form are equal except for the width of their rows, and that the form doesn't
+/// depend on that width. It does nothing.
 pub fn sheets_share_no_form()
     ensures one { (s t : Sheet) → IsSheet s → IsSheet t → written s ≡ written t → in_columns t.columns s ≡ t }
     ensures width { (s : Sheet) (n : ℕ) → written (in_columns n s) ≡ written s }

@@ -21,7 +21,7 @@ impl<'m> Innings<'m> {
     ghost use Rattle.match_laws.specs.History.{side_of};
     ghost use Rattle.cards.specs.Begun.{ForInnings};
 
-    /// The side that bats.
+    /// Returns the side that bats.
     pub fn side(&self) -> Side
         ensures { ForInnings self.now (λ s h i. result ≡ side_of h i) }
     {

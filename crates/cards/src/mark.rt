@@ -1,4 +1,4 @@
-//! Deliveries as an over's row shows them.
+//! The marks of deliveries in the row of an over.
 
 ghost use Rattle.std.specs.Prelude.{◌≡◌, ◌≤◌, ◌++◌, OnOk, codes};
 ghost use Rattle.match_laws.specs.Figures.{runs_of};
@@ -10,16 +10,16 @@ use ball_laws::runs_of;
 use notation::{Ball, Kind};
 use streams::{Sink, Watched, WriteFailed};
 
-/// A delivery, as an over's row shows it: these texts, one behind the other.
+/// The mark of a delivery in the row of an over: these texts, one after another.
 #[derive(Clone, Copy)]
 pub enum Mark {
-    /// One with no runs.
+    /// A delivery with no runs.
     Dot(&'static str),
-    /// So many runs, what they came off, and whether a wicket fell.
+    /// The number of runs, the mark of the kind of delivery, and the mark of a wicket.
     Runs(u32, &'static str, &'static str),
 }
 
-/// All runs of a delivery.
+/// Returns the sum of all runs of a delivery.
 pub fn all_runs(ball: &Ball) -> u32
     ensures value { result ≡ runs_of ball.now }
     ensures bound { result ≤ 260 }
@@ -52,7 +52,7 @@ fn dot_mark(is_out: bool) -> &'static str
     if is_out { "W" } else { "." }
 }
 
-/// A delivery with so many runs off this kind, with a wicket or without.
+/// Returns the mark of a delivery of this kind with these runs, with a wicket or without.
 fn mark_with(runs: u32, kind: Kind, is_out: bool) -> Mark
     ensures { mark_text result ≡ laws.mark runs kind is_out }
 {
@@ -63,14 +63,14 @@ fn mark_with(runs: u32, kind: Kind, is_out: bool) -> Mark
     }
 }
 
-/// A delivery's mark: all its runs, a Wide's and a No ball's own too, what they came off, and `W` where a wicket fell.
+/// Returns a delivery's mark: all its runs, with the penalty of a Wide or a No ball, its kind, and `W` if a wicket fell.
 pub fn mark_of(ball: &Ball) -> Mark
     ensures { mark_text result ≡ laws.mark_of ball.now }
 {
     mark_with(all_runs(ball), ball.kind, ball.out.is_some())
 }
 
-/// Prints a mark, behind a space.
+/// Prints a space and then a mark.
 fn print_mark<W: Sink>(out: &mut Watched<W>, mark: Mark) -> Result<(), WriteFailed>
     ensures text { OnOk result (Prints W.contents out.old out.new (codes " " ++ mark_text mark)) }
     ensures failed { TellsFailure result out.old out.new }
@@ -81,14 +81,14 @@ fn print_mark<W: Sink>(out: &mut Watched<W>, mark: Mark) -> Result<(), WriteFail
     }
 }
 
-/// The letter behind the mark of a delivery that was ruled dead.
+/// Returns `d`, the letter after the mark of a delivery that was ruled dead, or else an empty text.
 pub fn dead_mark(is_dead: bool) -> &'static str
     ensures { result.now ≡ laws.dead_mark is_dead }
 {
     if is_dead { "d" } else { "" }
 }
 
-/// Prints a delivery's mark, behind a space.
+/// Prints a space and then a delivery's mark, with `d` if the delivery was ruled dead.
 pub fn print_ball<W: Sink>(out: &mut Watched<W>, ball: &Ball) -> Result<(), WriteFailed>
     ensures text { OnOk result (Prints W.contents out.old out.new (laws.spaced_mark ball.now)) }
     ensures failed { TellsFailure result out.old out.new }

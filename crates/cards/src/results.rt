@@ -9,23 +9,23 @@ use itoa::Buffer;
 use match_laws::Outcome;
 use std::alloc::{AllocError, Global};
 
-/// A result: these texts, one behind the other.
+/// The words of a result: these texts, one after another.
 #[derive(Clone, Copy)]
 pub enum ResultWords<'a> {
-    /// A side, or nobody, and how.
+    /// A side or an empty text, and how the match ended.
     Plain(&'a str, &'a str),
-    /// A side, how, by how many, and of what.
+    /// The side that won, how, by how many, and of which unit.
     Counted(&'a str, &'a str, u32, &'a str),
 }
 
-/// The word for one, or for another number.
+/// Returns the word for a count of one, or for any other count.
 fn word(count: u32, one: &'static str, many: &'static str) -> &'static str
     ensures { result.now ≡ (if count == 1 then one.now else many.now) }
 {
     if count == 1 { one } else { many }
 }
 
-/// The words of a result; none where the match is undecided.
+/// Returns the words of a result, or none if the match is undecided.
 pub fn result_words(sheet: &MatchSheet, outcome: Outcome) -> Option<ResultWords<'_>>
     ensures { option_map result_in result ≡ results.result_text sheet.now outcome }
 {
@@ -49,7 +49,7 @@ pub fn result_words(sheet: &MatchSheet, outcome: Outcome) -> Option<ResultWords<
     })
 }
 
-/// The text of a win by so many of this.
+/// Returns the text of a win by this count of a unit.
 fn counted_text(
     alloc: Global,
     side: &str,
@@ -70,7 +70,7 @@ fn counted_text(
     Ok(text)
 }
 
-/// The text of some words.
+/// Returns the text of a result's words.
 fn text_of(alloc: Global, words: ResultWords<'_>) -> Result<String, AllocError>
     ensures { IfOk result (λ text. string_bytes text ≡ result_in words.entry) }
 {
@@ -82,7 +82,7 @@ fn text_of(alloc: Global, words: ResultWords<'_>) -> Result<String, AllocError>
     }
 }
 
-/// The result of a match, as a board's last line says it; none where the match is undecided.
+/// Returns the result of a match as a board's last line shows it, or none if the match is undecided.
 pub fn result_text(
     alloc: Global,
     sheet: &MatchSheet,

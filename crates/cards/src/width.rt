@@ -1,14 +1,14 @@
-//! How wide the rows are that a scorer is told.
+//! The width of a scorer's rows.
 
 ghost use Rattle.std.specs.Prelude.{◌≡◌, ◌≤◌, ◌↔◌, IfSome, IsSome};
 ghost use Rattle.cards.specs.Sheet as sheets;
 
 use std::marker::Model;
 
-/// How many columns rows have where nothing else is said.
+/// The default number of columns of a row.
 const USUAL: usize = 80;
 
-/// How many columns a scorer's rows have, 60 to 200.
+/// The number of columns of a scorer's rows, 60 to 200.
 #[derive(Clone, Copy)]
 pub struct Columns {
     number: usize,
@@ -28,7 +28,7 @@ impl Model for Columns {
 }
 
 impl Columns {
-    /// So many columns; none unless they are 60 to 200.
+    /// Returns this number of columns, or `None` unless it is 60 to 200.
     pub fn new(number: usize) -> Option<Columns>
         ensures valid { IsSome result ↔ ((sheets.least_columns ≤ number) × (number ≤ sheets.most_columns)) }
         ensures value { IfSome result (λ columns. columns ≡ number) }
@@ -40,14 +40,14 @@ impl Columns {
         }
     }
 
-    /// 80 columns.
+    /// Returns the default of 80 columns.
     pub fn usual() -> Columns
         ensures { result ≡ sheets.usual_columns }
     {
         Columns { number: USUAL }
     }
 
-    /// How many they are.
+    /// Returns the number of columns.
     pub fn number(self) -> usize
         ensures value { result ≡ self }
         ensures in_range { (sheets.least_columns ≤ result) × (result ≤ sheets.most_columns) }

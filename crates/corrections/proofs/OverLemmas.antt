@@ -1,4 +1,4 @@
--- Where overs begin among what stands.
+-- Where overs begin among the items that stand.
 use Rattle.std.proofs.Common.{arith, ◌≡◌, ℕ, ◌+◌, ◌<◌, ◌≤◌, true, List, [], ◌∷◌, ◌++◌, length, take, drop, get_or}
 use Rattle.std.proofs.Common.{refl, ap, ◌∙◌, append-nil}
 use Rattle.std.proofs.lemmas.List.{take_all, take_more}
@@ -25,14 +25,14 @@ balls_more items k x within here = grind (arith, take_more items k x within, bal
 pub balls_all : (items : List Placed) (k : ℕ) → length items ≤ k → balls_of (take k items) ≡ balls_of items
 balls_all items k end = ap balls_of (take_all k items end)
 
--- ---- the over that is on
+-- ---- the over in progress
 
 pub this_from : (items : List Placed) (k : ℕ) → AddFrom items k → is_parted (history (take k items)) ≡ true → balls_of (drop k items) ≡ open_over (history items)
 this_from items k m e = grind (arith, m.this)
 
--- ---- `void`s are of no over, and begin no innings
+-- ---- `void`s belong to no over, and begin no innings
 
--- two histories with the same overs, and one side batting
+-- two histories with the same overs and the same side batting
 pub record AreAlike (g h : History) : Type 0 where
   pub over : open_over g ≡ open_over h
   pub called : called_overs g ≡ called_overs h

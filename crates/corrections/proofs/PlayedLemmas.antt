@@ -1,4 +1,4 @@
--- Nothing of what stands in a legal book was refused.
+-- No item that stands in a legal book was refused.
 use Rattle.std.proofs.Common.{◌≡◌, ℕ, List, [], ◌∷◌, None, true, refl, sym, ap, ◌∙◌, subst, inl, inr}
 use Rattle.std.proofs.lemmas.Bool.{cases_Bool}
 use Rattle.notation.specs.declared.{entry.Plain.Plain, entry.Entry.Entry}
@@ -19,12 +19,12 @@ played n [] legal = tt
 played n (Void ∷ h) legal = (played n h legal.0, refl)
 played n (x ∷ h) legal = (played n h legal.0, (taken n h x refl legal.1).ball)
 
--- nor of what it began with
+-- if no item of a longer history was refused, none of the history it began with was
 pub played_before : (h : History) (xs : List Placed) → IsPlayed (history_after h xs) → IsPlayed h
 played_before h [] all = all
 played_before h (x ∷ xs) all = (played_before (x.item ∷ h) xs all).0
 
--- a history with the state of another one, which was played
+-- history g was played, and has the same state as history h
 record IsLike (g h : History) : Type 0 where
   pub state : state_after g ≡ state_after h
   pub played : IsPlayed g
@@ -39,7 +39,7 @@ like_more g h x taken e = record {
   played = (e.played, ap (λ s. refusal s x) e.state ∙ taken);
 }
 
--- `void`s among them change nothing
+-- `void`s among the items that follow change nothing
 like_behind : (g h : History) (xs : List Placed) → IsLike g h → IsPlayed (history_after h (kept xs)) → IsPlayed (history_after g xs)
 like_behind g h [] e all = e.played
 like_behind g h (x ∷ xs) e all = elim (cases_Bool (is_void x.item)) [

@@ -1,4 +1,4 @@
--- What serves private functions and proofs only.
+-- Definitions for private functions and proofs only.
 pub mod Kept
 pub mod Overs
 pub mod Scoring

@@ -1,4 +1,4 @@
-//! Who bowls, and in which over, among what stands.
+//! The bowler and the overs among the items that stand.
 
 ghost use Rattle.std.specs.Prelude.{◌≡◌, ℕ, ◌≤◌, List, length, take, true};
 ghost use Rattle.notation.specs.declared.entry.Ball.{Ball};
@@ -14,15 +14,15 @@ use crate::book_of::BookOf;
 use crate::placed::Placed;
 use notation::{Plain, Player};
 
-/// The over that is on, and the one called last in the open innings, as the items that stand from its beginning to its
-/// end: its deliveries, and what happened between them. Each is empty where there is no such over.
+/// The over in progress, and the over called last in the open innings. Each holds the items that stand from its
+/// beginning to its end, deliveries and others, and is empty if there is no such over.
 #[derive(Clone, Copy)]
 pub struct Overs<'a> {
     pub this: &'a [Placed],
     pub last: &'a [Placed],
 }
 
-/// The bowler with an item more.
+/// Returns who bowled the last delivery after one more item, given who did before it.
 fn bowler_after(bowler: Option<Player>, item: &Plain) -> Option<Player>
     ensures { (over : List Ball) → bowler ≡ laws.newest_bowler over
         → result ≡ laws.newest_bowler (laws.bowled item.now over) }
@@ -33,7 +33,7 @@ fn bowler_after(bowler: Option<Player>, item: &Plain) -> Option<Player>
     }
 }
 
-/// Who bowled the last delivery among some items.
+/// Returns who bowled the last delivery among these items, if there is one.
 pub fn bowler_of(items: &[Placed]) -> Option<Player>
     ensures { result ≡ laws.newest_bowler (balls_of items.now) }
 {
@@ -45,14 +45,14 @@ pub fn bowler_of(items: &[Placed]) -> Option<Player>
 }
 
 impl<'a> Overs<'a> {
-    /// Who bowls: who bowled the last delivery of this over, else of the last one.
+    /// Returns who bowled the last delivery of this over, or else of the last over.
     pub fn bowler(&self) -> Option<Player>
         ensures { (h : History) → AreOversOf self.now h → result ≡ laws.bowler_now h }
     {
         bowler_of(self.this).or(bowler_of(self.last))
     }
 
-    /// The over of the last delivery of the innings: this over, or the last one where this has no delivery yet.
+    /// Returns the over of the innings' last delivery: this over, or the last over if this one has no delivery yet.
     pub fn newest(&self) -> &'a [Placed]
         ensures over { (h : History) → AreOversOf self.now h → balls_of result.now ≡ laws.over_now h }
         ensures few { (most : ℕ) → length ((self.now).this).now ≤ most → length ((self.now).last).now ≤ most
@@ -66,7 +66,7 @@ impl<'a> Overs<'a> {
     }
 }
 
-/// Whether no delivery before the item is of an over with one behind it.
+/// Whether the item parts overs: no over has deliveries both before and after it.
 fn parts_overs(item: &Plain) -> bool
     ensures { result ≡ steps.parts_overs item.now }
 {
@@ -79,7 +79,7 @@ fn is_call(item: &Plain) -> bool
     matches!(item, Plain::Over)
 }
 
-/// Where the over that is on begins.
+/// Returns the index at which the over in progress begins.
 fn over_from(items: &[Placed]) -> usize
     ensures adds { AddFrom items.now result }
     ensures parted { is_parted (history (take result items.now)) ≡ true }
@@ -93,7 +93,7 @@ fn over_from(items: &[Placed]) -> usize
     0
 }
 
-/// The over that was called last, by what stands before the one that is on.
+/// Returns the over that was called last, given the items before the over in progress.
 fn called_over(before: &[Placed]) -> &[Placed]
     requires { is_parted (history before.now) ≡ true }
     ensures over { balls_of result.now ≡ last_called_over (history before.now) }
@@ -106,7 +106,8 @@ fn called_over(before: &[Placed]) -> &[Placed]
     &earlier[over_from(earlier)..]
 }
 
-/// The overs among the first items that stand in a book. It looks at the last of them, to where the over before began.
+/// Returns the overs among the first items that stand in a book. It reads them from the last one back, only as far as
+/// the beginning of the last over.
 pub fn overs_among(items: &[Placed]) -> Overs<'_>
     ensures all { AreOversOf result (history items.now) }
     ensures kept { AreOversOf result (history (kept items.now)) }
@@ -119,7 +120,7 @@ pub fn overs_among(items: &[Placed]) -> Overs<'_>
     }
 }
 
-/// The overs of a book.
+/// Returns the overs of a book.
 pub fn overs_of<B: BookOf>(book: &B) -> Overs<'_>
     ensures overs { AreOversOf result (history_of (B.content book.now)) }
     ensures few { (length (result.this).now ≤ PLACES) × (length (result.last).now ≤ PLACES) }

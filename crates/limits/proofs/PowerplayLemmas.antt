@@ -1,4 +1,4 @@
--- Which powerplay an over is in, powerplay by powerplay.
+-- The powerplay that an over is in, searched one powerplay at a time.
 use Rattle.std.proofs.Common.{◌≡◌, ◌<◌, ◌≤◌, ◌+◌, ℕ, List, ◌∷◌, Some, None, if◌then◌else◌, length, drop, get_or, sym, ap, ◌∙◌}
 use Rattle.std.proofs.lemmas.List.{drop_all, drop_more}
 use Rattle.limits.specs.declared.powerplay.Powerplay.{Powerplay}

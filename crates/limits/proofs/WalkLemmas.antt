@@ -1,4 +1,4 @@
--- Walks over what stands, and what histories make.
+-- Walks over the items that stand, and along histories.
 use Rattle.std.proofs.Common.{arith, ◌≡◌, ℕ, true, false, List, [], ◌∷◌, refl, sym, ap, ◌∙◌, inl, inr}
 use Rattle.std.proofs.lemmas.Bool.{cases_Bool}
 use Rattle.notation.specs.declared.entry.{Plain.Plain, Entry.Entry}
@@ -12,7 +12,7 @@ use Rattle.corrections.proofs.ScoringLemmas.{kept_first, kept_not}
 use Rattle.limits.specs.Figures.{is_free_hit, free_hit_after}
 use Rattle.limits.specs.inner.Walks.{along, bowled_after, bowled_of, none_bowled, walk}
 
--- a walk goes along the history of its items
+-- a walk over items goes on along their history
 walk_after : {S : Type 0} (step : Plain → S → S) (s : S) (h : History) (xs : List Placed)
     → walk step (along step s h) xs ≡ along step s (history_after h xs)
 walk_after step s h [] = refl
@@ -35,7 +35,7 @@ walk_book step passes s book items is =
     ap (walk step s) is ∙ sym (walk_kept step passes s (clean_items_of book))
     ∙ walk_after step s [] (kept (clean_items_of book)) ∙ ap (along step s) (history_of-clean_items book)
 
--- what a step makes of a history, item by item, is what the walk makes of the book's
+-- if a step computes a function of histories item by item, the walk computes it for the book's history
 pub walk_makes : {S : Type 0} (step : Plain → S → S) → PassesVoids step → (made : History → S) → ((x : Plain) (h : History) → step x (made h) ≡ made (x ∷ h))
     → (book : List Entry) (items : List Placed) → items ≡ clean_items_of book → walk step (made []) items ≡ made (history_of book)
 walk_makes {S} step passes made more book items is = walk_book step passes (made []) book items is ∙ goes_on (history_of book)
@@ -47,7 +47,7 @@ walk_makes {S} step passes made more book items is = walk_book step passes (made
 pub free_book : (book : List Entry) (items : List Placed) → items ≡ clean_items_of book → walk free_hit_after false items ≡ is_free_hit (history_of book)
 free_book book items is = walk_makes free_hit_after (λ x s v. grind arith) is_free_hit (λ x h. refl) book items is
 
--- overs of a bowler
+-- the overs that a player bowled
 pub bowled_book : (p : ℕ) (book : List Entry) (items : List Placed) → items ≡ clean_items_of book
     → walk (bowled_after p) none_bowled items ≡ bowled_of p (history_of book)
 bowled_book p book items is = walk_makes (bowled_after p) (λ x s v. grind arith) (bowled_of p) (λ x h. grind arith) book items is

@@ -1,4 +1,4 @@
--- The keys of the table `limits`, as a sheet names them, and why one can't be what it says.
+-- The names of the keys of the table `limits` in a sheet, and the texts of why a key is unfit.
 use Rattle.std.specs.Prelude.{ℕ, List, codes}
 use Rattle.limits.specs.declared.{key.Key.Key, unfit.Unfit.Unfit}
 use Rattle.limits.specs.declared.unfit.Unfit.TheVariants.{NoMemory, OtherKind, OutOfRange}

@@ -1,4 +1,4 @@
--- What is claimed stands in Limits, Reading, Keys, Rates, Figures and Worked; inner holds what serves private functions only.
+-- Public contracts: Limits, Reading, Keys, Rates, Figures and Worked. For private functions and proofs only: inner.
 pub mod Limits
 pub mod Keys
 pub mod Rates

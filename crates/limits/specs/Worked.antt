@@ -1,4 +1,4 @@
--- Worked rows, computed from a scorecard. Three overs a side, two for a bowler, free hits, and a powerplay of one over.
+-- Worked rows, computed from a scorecard: three overs a side, two a bowler, free hits, and a powerplay of one over.
 --
 --   Home                                       runs  balls that count   total
 --   over 1  7: . 1 4 nb wd . . 2                 9   6                     9
@@ -35,7 +35,7 @@ four n = Bowl (with_bound Four (ball n Bat 0))
 abbrev pub six : ℕ → Plain
 six n = Bowl (with_bound Six (ball n Bat 0))
 
--- after one delivery, and after five that count, of which a No ball and a Wide stand before the fourth
+-- after one delivery; and after five that count, with a No ball and a Wide before the fourth
 abbrev pub one_ball : History
 one_ball = with_items opened (dot 7 ∷ [])
 
@@ -51,11 +51,11 @@ five_balls = with_items wided (dot 7 ∷ dot 7 ∷ [])
 abbrev pub six_balls : History
 six_balls = with_items five_balls (run 7 2 ∷ [])
 
--- one ball too many in the first over, before the umpire calls it and behind that
+-- one delivery too many in the first over, before the umpire calls it
 abbrev pub seven_balls : History
 seven_balls = with_items six_balls (run 7 2 ∷ [])
 
--- after the over of five balls, which two bowled, and in the third one
+-- after the second over, of five deliveries by two bowlers; and in the third over
 abbrev pub two_overs : History
 two_overs = with_items six_balls (Over ∷ run 8 1 ∷ run 8 1 ∷ dot 9 ∷ six 9 ∷ run 9 1 ∷ Over ∷ [])
 
@@ -65,7 +65,7 @@ in_third = with_items two_overs (dot 7 ∷ run 7 2 ∷ [])
 abbrev pub three_overs : History
 three_overs = with_items in_third (run 7 1 ∷ dot 7 ∷ run 7 3 ∷ four 7 ∷ Over ∷ [])
 
--- the reply after an over of it, and after two balls of its second
+-- the reply after one over; and after two deliveries of its second over
 abbrev pub reply : History
 reply =
     with_items three_overs (End Overs ∷ Innings Away ∷ Come 1 ∷ Come 2
@@ -74,7 +74,7 @@ reply =
 abbrev pub in_second : History
 in_second = with_items reply (run 4 1 ∷ run 4 2 ∷ [])
 
--- what is left: a Wide and a No ball use nothing up, and the over of five balls was one over
+-- what is left: a Wide and a No ball don't count, and the over of five deliveries counts as one over
 pub record WorkedLeft : Type 0 where
   pub of_innings : overs_for limits 0 ∷ overs_for limits 3 ∷ [] ≡ Some 3 ∷ Some 3 ∷ []
   pub at_begin : deliveries_left 3 opened 0 ≡ 18
@@ -87,7 +87,7 @@ pub record WorkedLeft : Type 0 where
   pub in_last : deliveries_left 3 in_third 0 ≡ 4
   pub after_all : deliveries_left 3 three_overs 0 ∷ overs_left 3 three_overs 0 ∷ [] ≡ 0 ∷ 0 ∷ []
 
--- what is needed: 29 less 17, then 9 off ten
+-- what is needed: 29 less 17, then 9 off ten deliveries
 pub record WorkedNeeds : Type 0 where
   pub in_first : runs_needed 1 in_third ≡ None
   pub after_one : runs_needed 1 reply ≡ Some 12
@@ -95,8 +95,8 @@ pub record WorkedNeeds : Type 0 where
   pub in_over : runs_needed 1 in_second ≡ Some 9
   pub rates : an_over 12 12 ∷ an_over 9 10 ∷ a_ball 9 10 ∷ [] ≡ Some 600 ∷ Some 540 ∷ Some 90 ∷ []
 
--- rates: 6 * 43 / 31 is 8.3225.., 6 * 1 / 16 is 0.375 and 1 / 8 is 0.125, of which the half goes up. Of six overs the last five,
--- with 31 runs, count
+-- rates: 6 * 43 / 31 is 8.3225.., 6 * 1 / 16 is 0.375 and 1 / 8 is 0.125, whose halves are rounded up. Of six overs only
+-- the last five count, with 31 runs
 pub record WorkedRates : Type 0 where
   pub nearest : an_over 43 31 ∷ an_over 1 16 ∷ a_ball 1 8 ∷ an_over 9 0 ∷ [] ≡ Some 832 ∷ Some 38 ∷ Some 13 ∷ None ∷ []
   pub texts : two_places 832 ∷ two_places 5 ∷ two_places 1200 ∷ [] ≡ codes "8.32" ∷ codes "0.05" ∷ codes "12.00" ∷ []
@@ -104,14 +104,14 @@ pub record WorkedRates : Type 0 where
   pub of_last : last_rate opened ∷ last_rate in_third ∷ last_rate three_overs ∷ [] ≡ None ∷ Some 900 ∷ Some 933 ∷ []
   pub of_five : last_overs (4 ∷ 6 ∷ 0 ∷ 9 ∷ 12 ∷ 30 ∷ []) ≡ Some 620
 
--- who may bowl: the over of two counts for both
+-- who may bowl: the over of two bowlers counts for both
 pub record WorkedBowlers : Type 0 where
   pub bowled : overs_bowled 7 two_overs ∷ overs_bowled 8 two_overs ∷ overs_bowled 9 two_overs ∷ overs_bowled 10 two_overs ∷ [] ≡ 1 ∷ 1 ∷ 1 ∷ 0 ∷ []
   pub yet : overs_yet 2 7 in_third ∷ overs_yet 2 9 in_third ∷ overs_yet 2 10 in_third ∷ [] ≡ 0 ∷ 1 ∷ 2 ∷ []
   pub may : may_bowl (Some 2) 7 in_third ∷ may_bowl None 9 in_third ∷ may_bowl (Some 2) 9 in_third ∷ may_bowl (Some 2) 10 in_third ∷ [] ≡ true ∷ false ∷ false ∷ true ∷ []
   pub may_next : may_bowl (Some 2) 7 three_overs ∷ may_bowl (Some 2) 9 three_overs ∷ may_bowl (Some 2) 10 three_overs ∷ [] ≡ false ∷ true ∷ true ∷ []
 
--- a free hit from the No ball on, over the Wide; the powerplay is the first over
+-- the free hit after the No ball lasts through the Wide; the powerplay is the first over
 pub record WorkedFreedom : Type 0 where
   pub free : is_free_hit one_ball ∷ is_free_hit no_balled ∷ is_free_hit wided ∷ is_free_hit five_balls ∷ [] ≡ false ∷ true ∷ true ∷ false ∷ []
   pub powerplays : powerplay_now limits one_ball 0 ∷ powerplay_now limits two_overs 0 ∷ powerplay_now limits reply 1 ∷ [] ≡ Some 1 ∷ None ∷ None ∷ []

@@ -1,2 +1,2 @@
--- What serves private functions and proofs only.
+-- Definitions for private functions and proofs only.
 pub mod Walks

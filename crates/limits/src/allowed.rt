@@ -1,4 +1,4 @@
-//! What a sheet limits.
+//! The limits of a sheet.
 
 ghost use Rattle.std.specs.Prelude.{◌≡◌};
 ghost use Rattle.limits.specs.Limits as laws;
@@ -7,7 +7,7 @@ use crate::powerplay::Powerplay;
 use std::alloc::Global;
 use std::marker::Model;
 
-/// What a sheet limits. All of it may be absent.
+/// The limits of a sheet. Each may be absent.
 pub struct Limits {
     overs: Vec<u16>,
     overs_a_bowler: Option<u16>,
@@ -15,7 +15,7 @@ pub struct Limits {
     powerplays: Vec<Powerplay>,
 }
 
-// one step for whoever lets it go, in place of one a part
+// one step for a caller that drops it, instead of one for each part
 impl Drop for Limits {
     fn drop(self) {
         let Limits {
@@ -41,7 +41,7 @@ impl Model for Limits {
 }
 
 impl Limits {
-    /// Of these: overs of each innings, in order, the last of which stands for those behind it too.
+    /// Returns limits of these parts. `overs` has a number for each innings, in order; the last holds for later innings too.
     pub(crate) fn new(
         overs: Vec<u16>,
         overs_a_bowler: Option<u16>,
@@ -61,14 +61,14 @@ impl Limits {
         }
     }
 
-    /// Of a sheet that limits nothing. It takes no memory.
+    /// Returns the limits of a sheet that sets none. It allocates no memory.
     pub fn none(alloc: Global) -> Limits
         ensures { result ≡ laws.no_limits }
     {
         Limits::new(Vec::new(alloc), None, false, Vec::new(alloc))
     }
 
-    /// How many overs the innings has, if the sheet says it. Innings are numbered from 0.
+    /// Returns how many overs the innings has, if the sheet limits them. Innings are numbered from 0.
     pub fn overs_for(&self, innings: usize) -> Option<u16>
         ensures { result ≡ laws.overs_for self.now innings }
     {
@@ -76,14 +76,14 @@ impl Limits {
         self.overs.as_slice().get(innings.min(last)).copied()
     }
 
-    /// How many overs each innings has, in order: the last stands for those behind it too.
+    /// Returns how many overs each innings has, in order. The last number holds for later innings too.
     pub fn overs(&self) -> &[u16]
         ensures { result.now ≡ self.now.overs }
     {
         self.overs.as_slice()
     }
 
-    /// How many overs a bowler may bowl in an innings, if the sheet says it.
+    /// Returns how many overs a bowler may bowl in an innings, if the sheet limits them.
     pub fn overs_a_bowler(&self) -> Option<u16>
         ensures { result ≡ self.now.overs_a_bowler }
     {
@@ -97,14 +97,14 @@ impl Limits {
         self.free_hits
     }
 
-    /// The powerplays of an innings.
+    /// Returns the powerplays of an innings.
     pub fn powerplays(&self) -> &[Powerplay]
         ensures { result.now ≡ self.now.powerplays }
     {
         self.powerplays.as_slice()
     }
 
-    /// Which powerplay the over is in, both numbered from 1.
+    /// Returns which powerplay the over is in, if any. Powerplays and overs are numbered from 1.
     pub fn powerplay_of(&self, over: u64) -> Option<usize>
         ensures { result ≡ laws.powerplay_of self.now over }
     {
@@ -112,14 +112,14 @@ impl Limits {
     }
 }
 
-/// Whether the over is one of the powerplay.
+/// Whether the powerplay includes the over.
 fn has_over(powerplay: Powerplay, over: u64) -> bool
     ensures { result ≡ laws.has_over over powerplay }
 {
     u64::from(powerplay.first) <= over && over <= u64::from(powerplay.last)
 }
 
-/// The number, from 1, of the first powerplay that has the over.
+/// Returns the number, from 1, of the first powerplay that includes the over.
 #[tactic(auto, using(crate::proofs::PowerplayLemmas::powerplay_next, crate::proofs::PowerplayLemmas::powerplay_none))]
 fn powerplay_in(powerplays: &[Powerplay], over: u64) -> Option<usize>
     ensures { result ≡ laws.powerplay_from over 1 powerplays.now }

@@ -13,14 +13,14 @@ ghost use Rattle.limits.specs.inner.Walks as walks;
 use corrections::{BookOf, Placed, overs_of};
 use notation::{Plain, Player};
 
-/// In how many called overs of an innings a player bowled, and whether in the open one.
+/// The number of called overs of an innings in which a player bowled, and whether the player bowled in the open one.
 #[derive(Clone, Copy)]
 struct Bowled {
     called: u32,
     this: bool,
 }
 
-/// Of an innings that begins.
+/// Returns a player's count at the beginning of an innings.
 fn none_bowled() -> Bowled
     ensures { result ≡ walks.none_bowled }
 {
@@ -30,7 +30,7 @@ fn none_bowled() -> Bowled
     }
 }
 
-/// Behind an item.
+/// Returns the player's count after one more item.
 fn bowled_after(player: Player, item: &Plain, bowled: Bowled) -> Bowled
     requires { bowled.called ≤ PLACES }
     ensures value { result ≡ walks.bowled_after player item.now bowled }
@@ -50,7 +50,7 @@ fn bowled_after(player: Player, item: &Plain, bowled: Bowled) -> Bowled
     }
 }
 
-/// Behind these items.
+/// Returns the player's count after these items.
 fn bowled_behind(player: Player, items: &[Placed]) -> Bowled
     requires { length items.now ≤ PLACES }
     ensures value { result ≡ walks.walk (walks.bowled_after player) walks.none_bowled items.now }
@@ -63,7 +63,7 @@ fn bowled_behind(player: Player, items: &[Placed]) -> Bowled
     bowled
 }
 
-/// In how many overs of the open innings the player bowled. One that several bowled counts for each of them.
+/// Returns in how many overs of the open innings the player bowled. An over that several bowled counts for each of them.
 pub fn overs_bowled<B: BookOf>(book: &B, player: Player) -> u32
     ensures value { result ≡ laws.overs_bowled player (history_of (B.content book.now)) }
     ensures bound { result ≤ PLACES + 1 }
@@ -72,14 +72,14 @@ pub fn overs_bowled<B: BookOf>(book: &B, player: Player) -> u32
     bowled.called + u32::from(bowled.this)
 }
 
-/// How many overs he may begin yet, where a bowler has so many.
+/// Returns how many more overs the player may begin if a bowler may bowl `most`.
 pub fn overs_yet<B: BookOf>(book: &B, most: u16, player: Player) -> u32
     ensures { result ≡ laws.overs_yet most player (history_of (B.content book.now)) }
 {
     u32::from(most).saturating_sub(overs_bowled(book, player))
 }
 
-/// Whether he bowled, with an item more.
+/// Whether the player has bowled a delivery after one more item, given whether the player had before it.
 fn bowled_with(item: &Plain, player: Player, has_bowled: bool) -> bool
     ensures { (over : List Ball) → has_bowled ≡ bowled_in player over
         → result ≡ bowled_in player (bowled item.now over) }
@@ -90,7 +90,7 @@ fn bowled_with(item: &Plain, player: Player, has_bowled: bool) -> bool
     }
 }
 
-/// Whether he bowled a delivery among these items.
+/// Whether the player bowled a delivery among these items.
 fn bowled_among(items: &[Placed], player: Player) -> bool
     ensures { result ≡ bowled_in player (balls_of items.now) }
 {
@@ -101,7 +101,7 @@ fn bowled_among(items: &[Placed], player: Player) -> bool
     has_bowled
 }
 
-/// Whether he bowled a delivery of the open over.
+/// Whether the player bowled a delivery of the open over.
 fn bowls_now<B: BookOf>(book: &B, player: Player) -> bool
     ensures { result ≡ bowled_in player (open_over (history_of (B.content book.now))) }
 {
@@ -109,7 +109,7 @@ fn bowls_now<B: BookOf>(book: &B, player: Player) -> bool
     bowled_among(overs.this, player)
 }
 
-/// Whether he bowled a delivery of the over that was called last.
+/// Whether the player bowled a delivery of the over that was called last.
 fn bowled_last<B: BookOf>(book: &B, player: Player) -> bool
     ensures { result ≡ bowled_in player (last_called_over (history_of (B.content book.now))) }
 {
@@ -117,7 +117,7 @@ fn bowled_last<B: BookOf>(book: &B, player: Player) -> bool
     bowled_among(overs.last, player)
 }
 
-/// Whether he bowls this over, or has one left, where they are limited.
+/// Whether the player bowls this over or has an over left, or a bowler's overs aren't limited.
 fn has_overs<B: BookOf>(book: &B, most: Option<u16>, player: Player) -> bool
     ensures { result ≡ laws.has_overs most player (history_of (B.content book.now)) }
 {
@@ -127,8 +127,8 @@ fn has_overs<B: BookOf>(book: &B, most: Option<u16>, player: Player) -> bool
     }
 }
 
-/// Whether he may bowl the next delivery: he bowls this over or has one left, where a bowler has so many, and bowled none of
-/// the over before.
+/// Whether the player may bowl the next delivery: the player bowls this over or has an over left, if a bowler's overs are
+/// limited, and bowled no delivery of the over before.
 pub fn may_bowl<B: BookOf>(book: &B, most: Option<u16>, player: Player) -> bool
     ensures { result ≡ laws.may_bowl most player (history_of (B.content book.now)) }
 {

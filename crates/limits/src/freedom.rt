@@ -9,7 +9,7 @@ use ball_laws::counts;
 use corrections::{BookOf, Placed};
 use notation::{Kind, Plain};
 
-/// Whether it is a No ball.
+/// Whether a delivery of this kind is a No ball.
 fn is_no_ball(kind: Kind) -> bool
     ensures { result ≡ laws.is_no_ball kind }
 {
@@ -19,7 +19,7 @@ fn is_no_ball(kind: Kind) -> bool
     }
 }
 
-/// Whether a free hit is on behind an item, where one was before it, or wasn't.
+/// Whether the delivery after the item is a free hit, given whether a free hit was on before the item.
 fn free_hit_after(item: &Plain, was_on: bool) -> bool
     ensures { result ≡ laws.free_hit_after item.now was_on }
 {
@@ -30,7 +30,7 @@ fn free_hit_after(item: &Plain, was_on: bool) -> bool
     }
 }
 
-/// Whether a free hit is on behind these items.
+/// Whether the delivery after these items is a free hit.
 fn free_hit_behind(items: &[Placed]) -> bool
     ensures { result ≡ walk laws.free_hit_after false items.now }
 {
@@ -41,7 +41,7 @@ fn free_hit_behind(items: &[Placed]) -> bool
     is_on
 }
 
-/// Whether the next delivery is a free hit, where the sheet has them: after a No ball, until a delivery that counts.
+/// Whether the next delivery is a free hit if the sheet has free hits: after a No ball, until a delivery that counts.
 pub fn is_free_hit<B: BookOf>(book: &B) -> bool
     ensures { result ≡ laws.is_free_hit (history_of (B.content book.now)) }
 {

@@ -8,17 +8,17 @@ ghost use Rattle.limits.specs.Keys as names;
 pub enum Key {
     /// The table itself.
     Table,
-    /// How many overs an innings has.
+    /// The number of overs of an innings.
     Overs,
-    /// How many overs a bowler may bowl in it.
+    /// The number of overs that a bowler may bowl in an innings.
     OversABowler,
     /// Whether the delivery after a No ball is a free hit.
     FreeHits,
-    /// Which overs are powerplays.
+    /// The overs that are powerplays.
     Powerplays,
 }
 
-/// All of them, in the order in which they are told.
+/// The table and all its keys, in the order in which they are reported.
 pub const KEYS: [Key; 5] = [
     Key::Table,
     Key::Overs,
@@ -28,7 +28,7 @@ pub const KEYS: [Key; 5] = [
 ];
 
 impl Key {
-    /// How a sheet names it.
+    /// Returns the key's name in a sheet.
     pub fn name(self) -> &'static str
         ensures { result.now ≡ names.name_of self }
     {

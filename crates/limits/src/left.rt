@@ -1,4 +1,4 @@
-//! What is left of an innings, and what is needed.
+//! Overs and deliveries left of an innings, runs needed, and the current powerplay.
 
 ghost use Rattle.std.specs.Prelude.{◌≡◌, ◌<◌};
 ghost use Rattle.match_laws.specs.Stands.{ForEachHistory, begun_in};
@@ -7,7 +7,7 @@ ghost use Rattle.limits.specs.Figures as laws;
 use crate::allowed::Limits;
 use match_laws::Match;
 
-/// How many overs are left of so many: those that aren't called.
+/// Returns how many of an innings' overs are left: those that aren't called.
 pub fn overs_left(score: &Match, innings: usize, overs: u16) -> u32
     requires { innings < begun_in score.now }
     ensures { ForEachHistory score.now (λ n h. result ≡ laws.overs_left overs h innings) }
@@ -16,7 +16,8 @@ pub fn overs_left(score: &Match, innings: usize, overs: u16) -> u32
     u32::from(overs).saturating_sub(called)
 }
 
-/// How many deliveries are left of so many overs: six for each over left, less those that count in the open one.
+/// Returns how many deliveries are left of an innings' overs: six for each over left, less those that count in the
+/// open over, at most six of them.
 pub fn deliveries_left(score: &Match, innings: usize, overs: u16) -> u32
     requires { innings < begun_in score.now }
     ensures { ForEachHistory score.now (λ n h. result ≡ laws.deliveries_left overs h innings) }
@@ -26,7 +27,7 @@ pub fn deliveries_left(score: &Match, innings: usize, overs: u16) -> u32
     (6 * left).saturating_sub(since.min(6))
 }
 
-/// How many runs the side that bats last needs yet to win.
+/// Returns how many more runs the side that bats last needs to win, if there is a target.
 pub fn runs_needed(score: &Match) -> Option<u32>
     ensures { ForEachHistory score.now (λ n h. result ≡ laws.runs_needed n h) }
 {
@@ -38,7 +39,7 @@ pub fn runs_needed(score: &Match) -> Option<u32>
     Some(runs.saturating_sub(score.total(begun - 1)))
 }
 
-/// Which powerplay the over that is on, or begins next, is in. There is none where no innings is open.
+/// Returns which powerplay the over in progress, or else the next one, is in. There is none if no innings is open.
 pub fn powerplay_now(score: &Match, limits: &Limits, innings: usize) -> Option<usize>
     requires { innings < begun_in score.now }
     ensures { ForEachHistory score.now (λ n h. result ≡ laws.powerplay_now limits.now h innings) }

@@ -1,5 +1,5 @@
-//! What the sheet of a match limits, overs and who may bowl them, and what follows for the score: told, and never a reason to
-//! refuse an entry.
+//! The limits that a match's sheet sets, such as overs and overs a bowler, and what they mean for the score. They are
+//! shown to the scorer, and are never a reason to refuse an entry.
 #![tactic(auto)]
 
 mod allowed;

@@ -1,6 +1,6 @@
 //! Powerplays.
 
-/// Overs in which the field is restricted, from the first to the last one, numbered from 1.
+/// The overs in which the field is restricted: the first and the last of them, numbered from 1.
 #[derive(Clone, Copy)]
 pub struct Powerplay {
     pub first: u16,

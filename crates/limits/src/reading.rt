@@ -14,17 +14,17 @@ use std::alloc::Global;
 use toml::value::Array;
 use toml::{Table, Value};
 
-/// The most overs of an innings.
+/// The largest number of overs that a sheet may give.
 const MOST_OVERS: u64 = 450;
 
-/// The value at a key, where there is one.
+/// Returns the value at a key, if there is one.
 fn value_at<'a>(table: &'a Table, key: &str) -> Option<&'a Value>
     ensures { option_map (λ value. view value.now) result ≡ get_member key.now (table_view table.now) }
 {
     table.get(key)
 }
 
-/// A number of overs.
+/// Reads a number of overs, 1 to 450.
 fn number_of(value: &Value) -> Result<u16, Unfit>
     ensures value { Reads (λ n. n) result (reads.number_of (view value.now)) }
     ensures read { result ≢ Err Unfit.NoMemory }
@@ -39,7 +39,7 @@ fn number_of(value: &Value) -> Result<u16, Unfit>
     }
 }
 
-/// The items of an array, each a number of overs.
+/// Reads the items of an array, each a number of overs.
 fn numbers_of(alloc: Global, items: &Array) -> Result<Vec<u16>, Unfit>
     ensures { Reads (λ numbers. numbers.items) result (reads.numbers_of (array_view items.now)) }
 {
@@ -50,7 +50,7 @@ fn numbers_of(alloc: Global, items: &Array) -> Result<Vec<u16>, Unfit>
     Ok(numbers)
 }
 
-/// A number, alone.
+/// Reads one number of overs as a list.
 fn one_number(alloc: Global, value: &Value) -> Result<Vec<u16>, Unfit>
     ensures { Reads (λ numbers. numbers.items) result (reads.one_number (view value.now)) }
 {
@@ -60,7 +60,7 @@ fn one_number(alloc: Global, value: &Value) -> Result<Vec<u16>, Unfit>
     Ok(numbers)
 }
 
-/// The overs of each innings: a list, or a number for all of them.
+/// Reads the overs of each innings: a list, or one number for all of them.
 fn overs_of(alloc: Global, value: &Value) -> Result<Vec<u16>, Unfit>
     ensures { Reads (λ numbers. numbers.items) result (reads.overs_of (view value.now)) }
 {
@@ -80,7 +80,7 @@ fn flag_of(value: &Value) -> Result<bool, Unfit>
     }
 }
 
-/// From the first of two numbers to the last.
+/// Reads a powerplay from its first and last over.
 fn two_numbers(first: &Value, last: &Value) -> Result<Powerplay, Unfit>
     ensures { Reads (λ powerplay. powerplay) result (reads.two_numbers (view first.now) (view last.now)) }
 {
@@ -93,7 +93,7 @@ fn two_numbers(first: &Value, last: &Value) -> Result<Powerplay, Unfit>
     }
 }
 
-/// A powerplay: two items.
+/// Reads a powerplay from an array of two items.
 fn pair_of(items: &Array) -> Result<Powerplay, Unfit>
     ensures { Reads (λ powerplay. powerplay) result (reads.pair_of (array_view items.now)) }
 {
@@ -118,7 +118,7 @@ fn powerplay_of(value: &Value) -> Result<Powerplay, Unfit>
     }
 }
 
-/// The items of an array, each a powerplay.
+/// Reads the items of an array, each a powerplay.
 fn each_powerplay(alloc: Global, items: &Array) -> Result<Vec<Powerplay>, Unfit>
     ensures { Reads (λ powerplays. powerplays.items) result (reads.each_powerplay (array_view items.now)) }
 {
@@ -138,7 +138,7 @@ fn powerplays_of(alloc: Global, value: &Value) -> Result<Vec<Powerplay>, Unfit>
     }
 }
 
-/// The overs of each innings, in order.
+/// Reads the overs of each innings, in order; an empty list if the key is absent.
 fn overs_at(alloc: Global, table: &Table) -> Result<Vec<u16>, Unfit>
     ensures { Reads (λ numbers. numbers.items) result (reads.overs_at (table_view table.now)) }
 {
@@ -148,7 +148,7 @@ fn overs_at(alloc: Global, table: &Table) -> Result<Vec<u16>, Unfit>
     }
 }
 
-/// How many overs a bowler may bowl.
+/// Reads how many overs a bowler may bowl, if the key is there.
 fn a_bowler_at(table: &Table) -> Result<Option<u16>, Unfit>
     ensures value { Reads (λ overs. overs) result (reads.a_bowler_at (table_view table.now)) }
     ensures read { result ≢ Err Unfit.NoMemory }
@@ -178,7 +178,7 @@ fn powerplays_at(alloc: Global, table: &Table) -> Result<Vec<Powerplay>, Unfit>
     }
 }
 
-/// The overs of each innings, none where the key can't be what it says. It fails only where memory is refused.
+/// Reads the overs of each innings, or none if the key is unfit. It fails only if an allocation fails.
 fn fit_overs(alloc: Global, table: &Table) -> Result<Vec<u16>, Unfit>
     ensures value { IfOk result (λ numbers. numbers.items ≡ reads.fit_or [] (reads.overs_at (table_view table.now))) }
     ensures only { IfErr result (λ why. why ≡ Unfit.NoMemory) }
@@ -191,7 +191,7 @@ fn fit_overs(alloc: Global, table: &Table) -> Result<Vec<u16>, Unfit>
     }
 }
 
-/// So with the powerplays.
+/// Reads the powerplays, or none if the key is unfit. It fails only if an allocation fails.
 fn fit_powerplays(alloc: Global, table: &Table) -> Result<Vec<Powerplay>, Unfit>
     ensures value { IfOk result (λ powerplays.
         powerplays.items ≡ reads.fit_or [] (reads.powerplays_at (table_view table.now))) }
@@ -223,7 +223,7 @@ fn fit_free_hits(table: &Table) -> bool
     }
 }
 
-/// What a table limits.
+/// Reads the limits from the table. It fails only if an allocation fails.
 fn limits_from(alloc: Global, table: &Table) -> Result<Limits, Unfit>
     ensures value { IfOk result (λ limits. limits ≡ reads.limits_from (table_view table.now)) }
     ensures only { IfErr result (λ why. why ≡ Unfit.NoMemory) }
@@ -233,7 +233,7 @@ fn limits_from(alloc: Global, table: &Table) -> Result<Limits, Unfit>
     Ok(Limits::new(overs, fit_a_bowler(table), fit_free_hits(table), powerplays))
 }
 
-/// The table of a document, where it has one.
+/// Returns the table `limits` of a document, if it has one.
 fn table_of(document: &Table) -> Option<&Table>
     ensures { option_map (λ table. table_view table.now) result ≡ reads.table_of (table_view document.now) }
 {
@@ -243,10 +243,10 @@ fn table_of(document: &Table) -> Option<&Table>
     }
 }
 
-/// What a sheet limits, by its document: the table `limits` with `overs`, a number or one for each innings in order, of which
-/// the last stands for those behind it; `overs_a_bowler`, a number; `free_hits`, true or false; and `powerplays`, a list of
-/// first and last overs. Numbers are 1 to 450. A key that can't be what it says is as if it weren't there. It fails only where
-/// memory is refused.
+/// Reads a sheet's limits from the table `limits` of its document. Its keys are `overs`, one number or one for each innings in
+/// order, the last of which holds for later innings too; `overs_a_bowler`, a number; `free_hits`, true or false; and
+/// `powerplays`, a list of pairs of first and last over. Numbers are 1 to 450. An unfit key is treated as absent. It fails
+/// only if an allocation fails.
 pub fn read_limits(alloc: Global, document: &Table) -> Result<Limits, Unfit>
     ensures value { IfOk result (λ limits. limits ≡ reads.limits_in (table_view document.now)) }
     ensures only { IfErr result (λ why. why ≡ Unfit.NoMemory) }
@@ -257,7 +257,7 @@ pub fn read_limits(alloc: Global, document: &Table) -> Result<Limits, Unfit>
     }
 }
 
-/// Why a value can't be the table.
+/// Returns why a value can't be the table, if it can't.
 fn checked_table(value: &Value) -> Option<Unfit>
     ensures { result ≡ reads.checked_table (view value.now) }
 {
@@ -267,7 +267,7 @@ fn checked_table(value: &Value) -> Option<Unfit>
     }
 }
 
-/// Why the table itself can't be what it says.
+/// Returns why the value of `limits` itself is unfit, if it is.
 fn table_unfit(document: &Table) -> Option<Unfit>
     ensures { result ≡ reads.unfit_in Key.Table (table_view document.now) }
 {
@@ -313,7 +313,7 @@ fn powerplays_unfit(alloc: Global, table: &Table) -> Option<Unfit>
     }
 }
 
-/// Why a key of the table can't be what it says.
+/// Returns why a key of the table is unfit, if it is.
 fn key_unfit(alloc: Global, table: &Table, key: Key) -> Option<Unfit>
     ensures { result ≢ Some Unfit.NoMemory → result ≡ reads.key_unfit key (table_view table.now) }
 {
@@ -326,7 +326,7 @@ fn key_unfit(alloc: Global, table: &Table, key: Key) -> Option<Unfit>
     }
 }
 
-/// The same, in a document that may have no such table.
+/// Returns why a key is unfit, if it is, in a document that may have no table `limits`.
 fn unfit_in_table(alloc: Global, document: &Table, key: Key) -> Option<Unfit>
     ensures { result ≢ Some Unfit.NoMemory → result ≡ reads.unfit_in_table key (table_view document.now) }
 {
@@ -336,7 +336,8 @@ fn unfit_in_table(alloc: Global, document: &Table, key: Key) -> Option<Unfit>
     }
 }
 
-/// Why a key of a sheet's document can't be what it says, if it can't. Where memory is refused nothing is known of it.
+/// Returns why the key `limits` of a sheet's document, or a key of that table, is unfit, if it is. `NoMemory` means that
+/// an allocation failed, so that whether the key is fit is unknown.
 pub fn why_unfit(alloc: Global, document: &Table, key: Key) -> Option<Unfit>
     ensures { result ≢ Some Unfit.NoMemory → result ≡ reads.unfit_in key (table_view document.now) }
 {

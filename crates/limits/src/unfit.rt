@@ -1,4 +1,4 @@
-//! Why a key of the table `limits` can't be what it says.
+//! Why the value of a key in the table `limits` is unfit.
 
 ghost use Rattle.std.specs.Prelude.{◌≡◌, Some};
 ghost use Rattle.limits.specs.declared.unfit.Unfit.TheVariants.{NoMemory};
@@ -6,14 +6,14 @@ ghost use Rattle.limits.specs.declared.unfit.Unfit.TheVariants.{NoMemory};
 use std::alloc::{AllocError, AllocFailed};
 use std::fmt;
 
-/// Why a key of the table `limits` can't be what it says.
+/// Why the value of a key in the table `limits` is unfit.
 #[derive(Clone, Copy)]
 pub enum Unfit {
-    /// An allocation failed: nothing is known of the key.
+    /// An allocation failed: whether the value is fit is unknown.
     NoMemory,
-    /// It is of another kind.
+    /// The value is of another kind.
     OtherKind,
-    /// A number is out of its range.
+    /// A number is out of its range, or a powerplay ends before it begins.
     OutOfRange,
 }
 
@@ -22,7 +22,7 @@ impl fmt::Display for Unfit {
 
     ghost output = { λ why. Some (why_text why) };
 
-    /// Writes it in words.
+    /// Writes the reason in words.
     fn fmt<W: fmt::Write>(&self, f: &mut fmt::Formatter<W>) -> fmt::Result {
         f.write_str(match self {
             Unfit::NoMemory => "can't be read",

@@ -1,4 +1,4 @@
-//! What is kept, what is said again and when.
+//! What a window keeps, what it says again and when.
 ghost use Rattle.std.specs.Prelude.{◌<◌};
 ghost use Rattle.notation.specs.Written.{IsEntry};
 
@@ -15,7 +15,7 @@ mod all_is_heard;
 mod behind;
 mod handed_back;
 
-/// A clock of the test's.
+/// A clock that the test sets.
 #[derive(Drop)]
 struct Hand<'a> {
     now: &'a Cell<u64>,
@@ -43,7 +43,7 @@ fn entry(rt: &impl Abort, line: &str) -> Entry
     }
 }
 
-/// A desk's vote for a line, in match 7.
+/// Returns a desk's vote for a line, in match 7.
 fn vote(rt: &impl Abort, desk: DeskId, place: u32, round: u32, line: &str) -> MessageBytes
     requires place { place < PLACES }
     requires round { round < ROUNDS }
@@ -51,7 +51,7 @@ fn vote(rt: &impl Abort, desk: DeskId, place: u32, round: u32, line: &str) -> Me
     vote_of(desk, place, round, entry(rt, line))
 }
 
-/// An ask for the votes of a position, in match 7.
+/// Returns an ask for the votes of a position, in match 7.
 fn ask_at(from: Asker, place: u32, round: u32) -> MessageBytes
     requires place { place < PLACES }
     requires round { round < ROUNDS }

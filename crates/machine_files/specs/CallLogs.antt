@@ -1,4 +1,4 @@
--- What a log of a file's calls tells.
+-- What a log of a file's calls says.
 use Rattle.std.specs.Prelude.{ℕ, List, [], ◌∷◌, ◌++◌}
 use Rattle.machine_files.specs.declared.call_log.{AskedLog.AskedLog, ByteLog.ByteLog, ByteLog.Empty, ByteLog.More'}
 use Rattle.machine_files.specs.declared.call_log.AskedLog.TheVariants as asks

@@ -11,11 +11,11 @@ file_of disk = disk.bytes.items
 abbrev pub images_of : {F : Type 0} → FileDisk F → Images
 images_of disk = left_of disk.history
 
--- what its file was asked for
+-- the calls of the disk's file
 abbrev pub calls_of : {F : Type 0} → (F → Option (List Call)) → FileDisk F → Option (List Call)
 calls_of calls disk = calls disk.file
 
--- the name of its file
+-- the name of the disk's file
 abbrev pub name_of : {F : Type 0} → (F → Option (List ℕ)) → FileDisk F → Option (List ℕ)
 name_of name disk = name disk.file
 

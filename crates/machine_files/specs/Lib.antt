@@ -1,5 +1,5 @@
--- What is claimed of a disk on a real file, or on two, and of what a file is asked for, also of one that is held by its name
--- (Named); of what a file of text was given (Texts); and what is told of a file that can't be written.
+-- What is claimed of a disk on a real file or on two; of a file's calls, also if it is held by its name (Named); of the
+-- texts that a text file was given (Texts); and of what is told of a file that can't be written.
 pub mod Alike
 pub mod CallLogs
 pub mod Calls

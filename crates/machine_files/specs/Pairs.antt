@@ -1,4 +1,4 @@
--- What a disk on two files shows: the first one's bytes, and what a power loss may leave of that one.
+-- What a disk on two files shows: the first file's bytes, and what a power loss may leave of that file.
 use Rattle.std.specs.Prelude.{◌≡◌, ℕ, List, Option}
 use Rattle.entry_log.specs.Disk.{Images, Faults}
 use Rattle.machine_files.specs.declared.{file_disk.FileDisk.FileDisk, pair.Pair.Pair}
@@ -8,7 +8,7 @@ use Rattle.machine_files.specs.FileDisk as one
 use Rattle.machine_files.specs.History.{always_due}
 
 module _ {F G : Type 0} where
-  -- the disk on each of both files
+  -- the disk on each of the two files
   abbrev pub first_of : Pair F G → FileDisk F
   first_of pair = pair.first
 
@@ -27,7 +27,7 @@ module _ {F G : Type 0} where
   abbrev pub faults_of : Pair F G → Faults
   faults_of pair = always_due pair.failures
 
-  -- what each of both files was asked for
+  -- the calls of each of the two files
   abbrev pub first_calls : (F → Option (List Call)) → Pair F G → Option (List Call)
   first_calls calls pair = one.calls_of calls pair.first
 
@@ -40,8 +40,8 @@ module _ {F G : Type 0} where
       (one.name_of first new.first ≡ one.name_of first old.first)
       × (one.name_of second new.second ≡ one.name_of second old.second)
 
-  -- Either file suffices: whatever a power loss may leave of it is an image of the one disk. So to begin on one alone,
-  -- where the other is lost, is to begin after a power loss.
+  -- Either file is enough: whatever a power loss may leave of it is an image of the one disk. So beginning with one file,
+  -- if the other is lost, is beginning after a power loss.
   pub record EitherSuffices (pair : Pair F G) : Type 0 where
     pub first : IsAmong (one.images_of pair.first) (images_of pair)
     pub second : IsAmong (one.images_of pair.second) (images_of pair)

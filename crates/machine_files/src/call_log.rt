@@ -1,4 +1,4 @@
-//! What a file was asked for and what it answered, which clauses alone read. It takes no memory, and has no last value.
+//! The calls of a file and their answers, which only contract clauses read. The log takes no memory, and never overflows.
 
 ghost use Rattle.std.specs.Prelude.{◌≡◌, ◌∷◌, ◌++◌, [], Some};
 ghost use Rattle.machine_files.specs.Calls.{Answers, CutTo, ReadFront, WriteAt};
@@ -16,14 +16,14 @@ pub enum ByteLog {
 impl ByteLog {
     ghost use Rattle.machine_files.specs.CallLogs.{bytes_in};
 
-    /// These, and then one more.
+    /// Returns these bytes and one more.
     fn more(&self, byte: u8) -> ByteLog
         ensures { bytes_in result ≡ bytes_in self.now ++ byte ∷ [] }
     {
         ByteLog::More(Snapshot::of(self), Snapshot::of(&byte))
     }
 
-    /// These bytes.
+    /// Returns the log of these bytes.
     fn of(bytes: &[u8]) -> ByteLog
         ensures { bytes_in result ≡ bytes.now }
     {
@@ -35,7 +35,7 @@ impl ByteLog {
     }
 }
 
-/// What a file is asked for.
+/// A call of a file.
 #[derive(Drop)]
 pub enum AskedLog {
     WriteAt(Snapshot<u64>, Snapshot<ByteLog>),
@@ -48,7 +48,7 @@ pub enum AskedLog {
 impl AskedLog {
     ghost use Rattle.machine_files.specs.CallLogs.{asked_in};
 
-    /// These bytes at this offset.
+    /// Returns the call that writes these bytes at this offset.
     pub fn write_at(at: u64, bytes: &[u8]) -> AskedLog
         ensures { asked_in result ≡ WriteAt at bytes.now }
     {
@@ -56,14 +56,14 @@ impl AskedLog {
         AskedLog::WriteAt(Snapshot::of(&at), Snapshot::of(&bytes))
     }
 
-    /// Its end at this length.
+    /// Returns the call that cuts the file to this length.
     pub fn cut(len: u64) -> AskedLog
         ensures { asked_in result ≡ CutTo len }
     {
         AskedLog::CutTo(Snapshot::of(&len))
     }
 
-    /// To fill a buffer, which then has these bytes.
+    /// Returns the call that fills a buffer, which then has these bytes.
     pub fn read_front(bytes: &[u8]) -> AskedLog
         ensures { asked_in result ≡ ReadFront bytes.now }
     {
@@ -72,7 +72,7 @@ impl AskedLog {
     }
 }
 
-/// Every call, in order: those that were done, and those that failed.
+/// All calls, in order: those that were done, and those that failed.
 #[derive(Drop)]
 pub enum CallLog {
     Empty,
@@ -83,7 +83,7 @@ pub enum CallLog {
 impl CallLog {
     ghost use Rattle.machine_files.specs.CallLogs.{asked_in, calls_in};
 
-    /// This log, and then a call that was answered so.
+    /// Returns this log with one more call, which had this answer.
     pub fn answered(&self, asked: &AskedLog, answer: &io::Result<()>) -> CallLog
         ensures { Answers answer.now (asked_in asked.now) (Some (calls_in self.now)) (Some (calls_in result)) }
     {

@@ -6,8 +6,8 @@ use libc::types::rlimit;
 /// The limit on a file's size, by its number on Linux. The C library's own name for it isn't declared here.
 const FILE_SIZE: i32 = 1;
 
-/// Whether a file may have so many bytes. Past the limit the system would end the process by a signal; so nobody is to ask
-/// it for that. Where it tells no limit, there is none.
+/// Whether a file may have this many bytes. Past the limit the system would end the process by a signal, so no such write
+/// may be asked for. If the system names no limit, there is none.
 pub fn may_have(len: u64) -> bool {
     let mut limit = rlimit {
         rlim_cur: 0,

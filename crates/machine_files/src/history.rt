@@ -1,5 +1,5 @@
-//! What was done to a file, as far as a power loss may undo it, and how many calls failed. Clauses alone read both: they
-//! take no memory, and have no last value.
+//! What was done to a file, as far as a power loss may undo it, and how many calls failed. Only contract clauses read
+//! both: they take no memory, and never overflow.
 
 ghost use Rattle.std.specs.Prelude.{◌≡◌, ◌+◌};
 ghost use Rattle.entry_log.specs.Disk.{cut_to, only, written};
@@ -17,21 +17,21 @@ pub enum History {
 impl History {
     ghost use Rattle.machine_files.specs.History.{left_of};
 
-    /// A sync has left these bytes.
+    /// Returns the history of a file on which a sync has left these bytes.
     pub fn synced(bytes: &Vec<u8>) -> History
         ensures { left_of result ≡ only bytes.now.items }
     {
         History::Synced(Snapshot::of(bytes))
     }
 
-    /// This history, and then a write of so many bytes, whether it failed or not.
+    /// Returns this history with a write of `count` bytes, whether it failed or not.
     pub fn written(&self, at: usize, count: usize) -> History
         ensures { left_of result ≡ written at count (left_of self.now) }
     {
         History::Written(Snapshot::of(self), Snapshot::of(&at), Snapshot::of(&count))
     }
 
-    /// This history, and then a cut to a length, whether it failed or not.
+    /// Returns this history with a cut to a length, whether it failed or not.
     pub fn cut(&self, len: usize) -> History
         ensures { left_of result ≡ cut_to len (left_of self.now) }
     {
@@ -39,7 +39,7 @@ impl History {
     }
 }
 
-/// How many calls have failed.
+/// The number of calls that have failed.
 #[derive(Drop)]
 pub enum Failures {
     Zero,
@@ -49,7 +49,7 @@ pub enum Failures {
 impl Failures {
     ghost use Rattle.machine_files.specs.History.{count_of};
 
-    /// One more.
+    /// Returns the number plus one.
     pub fn one_more(&self) -> Failures
         ensures { count_of result ≡ count_of self.now + 1 }
     {

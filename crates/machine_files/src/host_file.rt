@@ -7,15 +7,15 @@ use std::fs::{File, OpenFile};
 use std::io::{self, Read, Seek, SeekFrom};
 use std::os::unix::fs::FileExt;
 
-/// A file that is written in place. Nothing is known of what it holds, only of what it was asked for.
+/// A file that is written in place. Only its calls and answers are known, not what it holds.
 pub trait Host {
-    /// What it was asked for and what it answered, the oldest first; `None` where that isn't known.
+    /// The file's calls and their answers, oldest first; `None` if they aren't known.
     ghost calls: { Self → Option (List Call) };
 
-    /// The name that it has, or that it is to take; `None` where it has none.
+    /// The file's name, or the name that it will take; `None` without a name.
     ghost name: { Self → Option (List ℕ) };
 
-    /// How many bytes it has.
+    /// Returns the length of the file in bytes.
     fn len(&mut self) -> io::Result<u64>
         ensures asked { calls self.new ≡ calls self.old }
         ensures name { name self.new ≡ name self.old };
@@ -30,20 +30,20 @@ pub trait Host {
         ensures asked { Answers result (WriteAt at bytes.now) (calls self.old) (calls self.new) }
         ensures name { name self.new ≡ name self.old };
 
-    /// Ends the file at this length.
+    /// Cuts the file to this length.
     fn cut(&mut self, len: u64) -> io::Result<()>
         ensures asked { Answers result (CutTo len) (calls self.old) (calls self.new) }
         ensures name { name self.new ≡ name self.old };
 
-    /// Waits until all that was written is kept.
+    /// Waits until everything that was written is kept.
     fn sync(&mut self) -> io::Result<()>
         ensures asked { Answers result Sync (calls self.old) (calls self.new) }
         ensures name { name self.new ≡ name self.old };
 }
 
-/// A new file that is to take the name of another.
+/// A new file that will take the name of another.
 pub trait Successor: Host {
-    /// Takes the name, and waits until the folder keeps that.
+    /// Takes the name, and waits until the folder keeps the change.
     fn take_name(&mut self) -> io::Result<()>
         ensures asked { Answers result TakeName (Self.calls self.old) (Self.calls self.new) }
         ensures name { Self.name self.new ≡ Self.name self.old };
@@ -76,7 +76,7 @@ impl Host for File {
     }
 }
 
-/// No file: a disk on it keeps its bytes in memory alone. What is asked of it is done at once, and it has no byte itself.
+/// No file: a disk on it keeps its bytes in memory only. Each call is done at once, and the file is empty.
 #[derive(Drop)]
 pub struct NoFile;
 

@@ -1,5 +1,5 @@
-//! The machine's files: disks on real files, alone and as two that are kept alike, and texts that others read. Nothing is known
-//! of what the machine does with what it is given; it stands behind traits.
+//! The machine's files: disks on real files, alone or as two that are kept alike, and texts that others read. Nothing is known
+//! of what the machine does with its calls, so it is used through traits.
 #![tactic(auto)]
 
 mod call_log;

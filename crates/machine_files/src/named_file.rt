@@ -1,4 +1,4 @@
-//! A file of the host that is held by its name, and a new one beside it that is to take that name.
+//! A file of the host that is held by its name, and a new file beside it that will take that name.
 
 ghost use Rattle.std.specs.Prelude.{◌≡◌, [], IfOk, Some};
 
@@ -11,29 +11,30 @@ use std::fs::{self, File, Metadata, OpenOptions, Permissions, TryLockError};
 use std::io::{self, ErrorKind};
 use std::os::unix::fs::{MetadataExt, OpenOptionsExt, PermissionsExt, fchown};
 
-/// Where a file leaves why its last failed call failed, so that it is known once the file is gone.
+/// Where a file notes why its last failed call failed, so that the cause outlives the file.
 pub type LastFault = Cell<Option<WriteFault>>;
 
-/// A file for this process alone, and its name. It is written, cut and synced only while that names this very file, and
-/// it is as long as it was left: where it was moved, deleted, replaced, or changed in place, each of these fails.
+/// A file that this process has locked, and its name. It is written, cut and synced only while the name leads to this
+/// very file and the file is as long as it was left: each call fails if the file was moved, deleted, replaced, or
+/// changed in length.
 pub struct NamedFile<'a> {
     rt: &'a HostRuntime,
     file: File,
-    /// The name that it has, or that it is to take.
+    /// The name that the file has, or that it will take.
     name: String,
-    /// The name that it has until then.
+    /// The name that the file has until then.
     beside: Option<String>,
-    /// The file whose name it takes, which stays locked.
+    /// The file whose name it will take, which stays locked.
     before: Option<File>,
-    /// Its device, and its number there when it was opened.
+    /// The file's device, and its number there when it was opened.
     known: (u64, u64),
-    /// How long it was left, where that is known.
+    /// The length at which the file was left, if that is known.
     len: Option<u64>,
     last_fault: Option<&'a LastFault>,
     log: CallLog,
 }
 
-// one step for whoever lets it go, in place of one a part
+// one step for whoever drops the file, instead of one for each field
 impl Drop for NamedFile<'_> {
     fn drop(self) {
         let NamedFile {
@@ -50,7 +51,7 @@ impl Drop for NamedFile<'_> {
     }
 }
 
-/// What is known of the file that has this name.
+/// Returns the metadata of the file with this name.
 fn found(rt: &HostRuntime, name: &str) -> Result<Metadata, Cause> {
     match fs::metadata(rt, name) {
         Ok(found) => Ok(found),
@@ -59,14 +60,14 @@ fn found(rt: &HostRuntime, name: &str) -> Result<Metadata, Cause> {
     }
 }
 
-/// The device of an open file, and its number there.
+/// Returns the device of an open file, and its number there.
 fn known_of(file: &File) -> Result<(u64, u64), Cause> {
     let open = file.metadata().map_err(|why| cause_of(&why))?;
     Ok((open.dev(), open.ino()))
 }
 
-/// Asks that this is the name of an open file, and tells what is known of it. Some file systems give a file another number
-/// while it is open, as when it is renamed: so one that isn't the known number is asked of the open file again.
+/// Checks that this name leads to an open file, and returns its metadata. Some file systems give an open file another
+/// number, as when it is renamed: so if the number isn't the known one, the open file is asked for its number again.
 fn named(rt: &HostRuntime, name: &str, file: &File, known: (u64, u64)) -> Result<Metadata, Cause> {
     let found = found(rt, name)?;
     let number = (found.dev(), found.ino());
@@ -77,7 +78,7 @@ fn named(rt: &HostRuntime, name: &str, file: &File, known: (u64, u64)) -> Result
     }
 }
 
-/// Syncs the folder that a file is in, so that its name isn't lost with the power.
+/// Syncs the folder that a file is in, so that a power loss can't undo its name.
 fn sync_folder(rt: &HostRuntime, name: &str) -> io::Result<()> {
     let whole = fs::canonicalize(rt, name)?;
     match whole.parent() {
@@ -86,7 +87,7 @@ fn sync_folder(rt: &HostRuntime, name: &str) -> io::Result<()> {
     }
 }
 
-/// Why no lock is had.
+/// Returns why a file couldn't be locked.
 fn cause_of_lock(why: TryLockError) -> Cause {
     match why {
         TryLockError::WouldBlock => Cause::InUse,
@@ -97,14 +98,14 @@ fn cause_of_lock(why: TryLockError) -> Cause {
     }
 }
 
-/// Locks a file for this process, and then asks that this is its name. A file that another process has is left alone.
+/// Locks a file for this process, then checks that this name leads to it. Refuses a file that another process has locked.
 fn locked(rt: &HostRuntime, name: &str, file: File) -> Result<File, Cause> {
     file.try_lock().map_err(cause_of_lock)?;
     let _found = named(rt, name, &file, known_of(&file)?)?;
     Ok(file)
 }
 
-/// Removes what a start that was cut off left under this name. What another process has, or is no file, is left alone.
+/// Removes what a start that was cut off left under this name, unless it is locked by another process or no file.
 fn clear(rt: &HostRuntime, name: &str) -> Result<(), Cause> {
     match fs::symlink_metadata(rt, name) {
         Ok(found) if found.is_file() => {}
@@ -118,7 +119,7 @@ fn clear(rt: &HostRuntime, name: &str) -> Result<(), Cause> {
     fs::remove_file(rt, name).map_err(|why| cause_of(&why))
 }
 
-/// Passes over that the system doesn't allow it.
+/// Turns a refused permission into success.
 fn if_allowed(answer: io::Result<()>) -> io::Result<()> {
     match answer {
         Err(why) if why.kind() == ErrorKind::PermissionDenied => Ok(()),
@@ -126,7 +127,7 @@ fn if_allowed(answer: io::Result<()>) -> io::Result<()> {
     }
 }
 
-/// Gives a new file the mode of an old one, and its group and owner where this process may.
+/// Gives a new file the mode of an old one, and its group and owner if this process may.
 fn give_access(old: &File, new: &File) -> io::Result<()> {
     let (from, to) = (old.metadata()?, new.metadata()?);
     if from.gid() != to.gid() {
@@ -142,7 +143,7 @@ fn give_access(old: &File, new: &File) -> io::Result<()> {
     Ok(())
 }
 
-/// A new file under this name, for this process alone.
+/// Makes a new file with this name, locked for this process.
 fn made(rt: &HostRuntime, name: &str) -> Result<File, Cause> {
     clear(rt, name)?;
     let made = OpenOptions::new()
@@ -157,8 +158,8 @@ fn made(rt: &HostRuntime, name: &str) -> Result<File, Cause> {
 impl<'a> NamedFile<'a> {
     ghost use Rattle.machine_files.specs.Named as named;
 
-    /// Opens a file for this process alone, and makes it where there is none, for its owner alone. One that another process
-    /// has is left alone, and so is one that lost its name before it was locked.
+    /// Opens a file and locks it for this process; if there is none, makes one that only its owner may use. A file that
+    /// another process has locked is left alone, and so is one that lost its name before it was locked.
     pub fn open(rt: &'a HostRuntime, name: &str) -> Result<NamedFile<'a>, Cause>
         ensures name { IfOk result (λ file. named.name file ≡ Some name.now) }
         ensures calls { IfOk result (λ file. named.calls file ≡ Some []) }
@@ -187,7 +188,7 @@ impl<'a> NamedFile<'a> {
         })
     }
 
-    /// It leaves there from now on why a call failed.
+    /// Returns the file, which from now on notes there why a call failed.
     pub fn telling(self, last_fault: &'a LastFault) -> NamedFile<'a>
         ensures name { named.name result ≡ named.name self.entry }
         ensures calls { named.calls result ≡ named.calls self.entry }
@@ -197,8 +198,8 @@ impl<'a> NamedFile<'a> {
         file
     }
 
-    /// A new file without a byte beside this one, which is to take its name. Until then its own is that name without
-    /// links, and `.unfinished` behind it; what a start that was cut off left there is removed. Both stay locked.
+    /// Makes a new, empty file beside this one, which will take its name. Until then the new file has that name without links
+    /// and with `.unfinished` behind it; what a start that was cut off left there is removed. Both files stay locked.
     pub fn beside(self) -> Result<NamedFile<'a>, Cause>
         ensures name { IfOk result (λ file. named.name file ≡ named.name self.entry) }
         ensures calls { IfOk result (λ file. named.calls file ≡ named.calls self.entry) }
@@ -236,7 +237,7 @@ impl<'a> NamedFile<'a> {
         })
     }
 
-    /// Whether it is known to be on the same disk as another file.
+    /// Whether the file is known to be on the same device as another file.
     pub fn is_on_disk_of(&self, other: &NamedFile<'_>) -> bool {
         match (self.file.metadata(), other.file.metadata()) {
             (Ok(one), Ok(another)) => one.dev() == another.dev(),
@@ -244,7 +245,7 @@ impl<'a> NamedFile<'a> {
         }
     }
 
-    /// Asks that its name still names it, and that it is as long as it was left.
+    /// Checks that the name still leads to the file, and that the file is as long as it was left.
     fn expect_kept(&self) -> Result<(), Cause> {
         let name = match &self.beside {
             Some(beside) => beside,
@@ -257,7 +258,7 @@ impl<'a> NamedFile<'a> {
         }
     }
 
-    /// Leaves why a call failed.
+    /// Notes why a call failed.
     fn note<T>(&self, answer: Result<T, Cause>) -> io::Result<T> {
         match answer {
             Ok(done) => Ok(done),
@@ -274,12 +275,12 @@ impl<'a> NamedFile<'a> {
         }
     }
 
-    /// The same of the system's answer.
+    /// Notes why the system failed a call.
     fn noted<T>(&self, answer: io::Result<T>) -> io::Result<T> {
         self.note(answer.map_err(|why| cause_of(&why)))
     }
 
-    /// Asks that a write up to this length may be asked for.
+    /// Checks that the file is as it was left and may grow to this length.
     fn expect_room(&self, end: u64) -> Result<(), Cause> {
         self.expect_kept()?;
         if may_have(end) {
@@ -289,7 +290,7 @@ impl<'a> NamedFile<'a> {
         }
     }
 
-    /// Has this file take the name that it is to have.
+    /// Renames the file to the name that it will take.
     fn rename(&mut self) -> Result<(), Cause>
         ensures name { self.new.name ≡ self.old.name }
         ensures log { self.new.log ≡ self.old.log }
@@ -306,7 +307,7 @@ impl<'a> NamedFile<'a> {
         self.expect_kept()
     }
 
-    /// Writes while its name names it, and notes how long it is then.
+    /// Writes while the name leads to the file, and notes the new length.
     fn write(&mut self, at: u64, bytes: &[u8]) -> io::Result<()>
         ensures name { self.new.name ≡ self.old.name }
         ensures log { self.new.log ≡ self.old.log }
@@ -320,7 +321,7 @@ impl<'a> NamedFile<'a> {
         Ok(())
     }
 
-    /// Ends it at this length, in the same way.
+    /// Cuts the file to this length while the name leads to it, and notes the new length.
     fn end_at(&mut self, len: u64) -> io::Result<()>
         ensures name { self.new.name ≡ self.old.name }
         ensures log { self.new.log ≡ self.old.log }
@@ -333,7 +334,7 @@ impl<'a> NamedFile<'a> {
         Ok(())
     }
 
-    /// Syncs it, and asks then that its name names it still.
+    /// Syncs the file, and then checks that the name still leads to it.
     fn keep(&mut self) -> io::Result<()>
         ensures name { self.new.name ≡ self.old.name }
         ensures log { self.new.log ≡ self.old.log }
@@ -343,7 +344,7 @@ impl<'a> NamedFile<'a> {
         self.note(self.expect_kept())
     }
 
-    /// Lets it go. Where it didn't take its name, it is removed.
+    /// Drops the file. If it didn't take its name, it is removed.
     pub fn give_up(self) {
         if let Some(beside) = &self.beside {
             if named(self.rt, beside.as_str(), &self.file, self.known).is_ok() {
@@ -360,7 +361,7 @@ impl Host for NamedFile<'_> {
 
     ghost name = { named.name };
 
-    /// What it has from here on, nobody else is to change.
+    /// Nobody else may change the length from here on.
     fn len(&mut self) -> io::Result<u64> {
         let len = self.file.len()?;
         self.len = Some(len);
@@ -385,7 +386,7 @@ impl Host for NamedFile<'_> {
         cut
     }
 
-    /// What was written is kept in the file that has the name still when all of it is.
+    /// Keeps what was written, in a file that still has the name once all of it is kept.
     fn sync(&mut self) -> io::Result<()> {
         let synced = self.keep();
         self.log = self.log.answered(&AskedLog::Sync, &synced);

@@ -12,7 +12,7 @@ use std::alloc::Global;
 use std::io;
 use streams::LONGEST_INPUT;
 
-/// How many bytes a file has, where that is at most 16,777,216.
+/// Returns the length of a file in bytes, if that is at most 16,777,216.
 pub fn length_of<F: Host>(file: &mut F) -> Result<usize, OpenFault>
     ensures most { IfOk result (λ len. len ≤ LONGEST_INPUT) }
     ensures only_read { F.calls file.new ≡ F.calls file.old }
@@ -25,7 +25,7 @@ pub fn length_of<F: Host>(file: &mut F) -> Result<usize, OpenFault>
     }
 }
 
-/// All bytes of a file, which is only read, and once. It is refused as a disk on it is.
+/// Returns all bytes of a file, which it only reads, and once. Refuses as a disk on the file does.
 pub fn bytes_of<F: Host>(alloc: Global, file: &mut F) -> Result<Vec<u8>, OpenFault>
     ensures most { IfOk result (λ bytes. vec_len bytes ≤ LONGEST_INPUT) }
     ensures read { IfOk result (λ bytes. Adds (F.calls file.old) (F.calls file.new) (Done (ReadFront bytes.items))) }
@@ -40,7 +40,7 @@ pub fn bytes_of<F: Host>(alloc: Global, file: &mut F) -> Result<Vec<u8>, OpenFau
     }
 }
 
-/// Has a new file hold these bytes and nothing else, keep them, and only then take its name.
+/// Writes exactly these bytes to a new file, syncs it, and only then has it take its name.
 #[tactic(auto, using(crate::proofs::CallLemmas::first_failed, crate::proofs::CallLemmas::later_failed))]
 fn renew<F: Successor>(file: &mut F, bytes: &[u8]) -> io::Result<()>
     ensures done { OnOk result (AddsDone (F.calls file.old) (F.calls file.new) (renewal bytes.now)) }
@@ -53,8 +53,9 @@ fn renew<F: Successor>(file: &mut F, bytes: &[u8]) -> io::Result<()>
     file.take_name()
 }
 
-/// A disk on a new file that takes the name of another, with room for `room` bytes: it is to hold just these bytes and
-/// to keep them, and only then to take the name. Where one of these fails the rest isn't asked, and the file comes back.
+/// Returns a disk on a new file that takes the name of another, with room for `room` bytes: the file gets exactly these
+/// bytes, is synced, and only then takes the name. If one of these calls fails, the rest aren't made, and the file is
+/// handed back.
 pub fn renewed<F: Successor + Drop>(
     alloc: Global,
     file: F,

@@ -14,47 +14,47 @@ use std::io::{self, ErrorKind, Write};
 use std::os::unix::fs::{MetadataExt, OpenOptionsExt};
 use std::path::Path;
 
-/// What a text is put into. Nothing is known of what it holds, only of what it was given.
+/// Something that a text is put into. Only the texts that it was given are known, not what it holds.
 pub trait Replaces {
-    /// The texts that it was given whole, the oldest first; `None` where they aren't known.
+    /// The texts that were given whole, oldest first; `None` if they aren't known.
     ghost given: { Self → Option (List (List ℕ)) };
 
-    /// Has it hold this text and nothing else.
+    /// Replaces what is held by this text alone.
     fn replace(&mut self, text: &[u8]) -> Result<(), WriteFault>
         ensures { Takes result (given self.old) (given self.new) text.now };
 }
 
-/// The two names of a text: its own, and that of the new file beside it, which takes it. Nothing is known of what stands
-/// there, only of what was put there.
+/// The two names of a text: its own, and that of the new file beside it, which will take that name. Only what was put
+/// under them is known, not what is there.
 pub trait TwoNames {
-    /// The whole texts that took its own name, the oldest first; `None` where they aren't known.
+    /// The whole texts that took the text's own name, oldest first; `None` if they aren't known.
     ghost given: { Self → Option (List (List ℕ)) };
 
-    /// The whole text that the new file has, where it has one and that is known.
+    /// The whole text in the new file, if it has one and that text is known.
     ghost beside: { Self → Option (List ℕ) };
 
-    /// Asks that what is there may give way, and takes away what a board left beside it whose process was killed.
+    /// Checks that what is there may be replaced, and removes the new file that a killed board left behind.
     fn make_room(&mut self) -> Result<(), WriteFault>
         ensures { given self.new ≡ given self.old };
 
-    /// Writes a text to a new file beside it.
+    /// Writes a text to the new file.
     fn put(&mut self, text: &[u8]) -> Result<(), WriteFault>
         ensures given { given self.new ≡ given self.old }
         ensures beside { OnOk result (IfSome (given self.old) (λ _. beside self.new ≡ Some text.now)) };
 
-    /// Has the new file take its own name.
+    /// Renames the new file to the text's own name.
     fn rename(&mut self) -> Result<(), WriteFault>
         ensures { TakesBeside result (given self.old) (given self.new) (beside self.old) };
 }
 
-/// A file that always holds a whole text: each is written to a new file beside it, which then takes its name.
+/// A file that always holds a whole text: each text is written to a new file beside it, which is then renamed to it.
 #[derive(Drop)]
 pub struct WholeText<F> {
     names: F,
 }
 
 impl<F> WholeText<F> {
-    /// The file of these two names.
+    /// Returns the file with these two names.
     pub fn new(names: F) -> WholeText<F> {
         WholeText { names }
     }
@@ -63,7 +63,7 @@ impl<F> WholeText<F> {
 impl<F: TwoNames> Replaces for WholeText<F> {
     ghost given = { λ file. F.given file.names };
 
-    /// It isn't synced: a board that begins again writes it anew.
+    /// Nothing is synced: a board that begins again writes its text anew.
     fn replace(&mut self, text: &[u8]) -> Result<(), WriteFault> {
         self.names.make_room()?;
         self.names.put(text)?;
@@ -71,8 +71,8 @@ impl<F: TwoNames> Replaces for WholeText<F> {
     }
 }
 
-/// The name of a file of text on this machine, and that of the file beside it that the next one is written to. Neither is
-/// put in the place of anything but a text.
+/// The name of a text file on this machine, and that of the new file beside it that the next text is written to. Neither
+/// replaces anything but a text.
 #[derive(Drop)]
 pub struct TextFile<'a> {
     rt: &'a HostRuntime,
@@ -82,12 +82,12 @@ pub struct TextFile<'a> {
     key: Option<&'a str>,
 }
 
-/// Whether both are one file.
+/// Whether both are the same file.
 fn is_same(one: &Metadata, other: &Metadata) -> bool {
     one.dev() == other.dev() && one.ino() == other.ino()
 }
 
-/// Whether a file, which is there, is the one of this path.
+/// Whether the file at this path is the one that was found.
 fn is_at(rt: &HostRuntime, path: &str, found: &Metadata) -> bool {
     match fs::metadata(rt, path) {
         Ok(other) => is_same(&other, found),
@@ -95,7 +95,7 @@ fn is_at(rt: &HostRuntime, path: &str, found: &Metadata) -> bool {
     }
 }
 
-/// Whether both paths are those of one file.
+/// Whether both paths lead to one file.
 pub fn is_same_file(rt: &HostRuntime, one: &str, other: &str) -> bool {
     match fs::metadata(rt, one) {
         Ok(found) => is_at(rt, other, &found),
@@ -103,7 +103,7 @@ pub fn is_same_file(rt: &HostRuntime, one: &str, other: &str) -> bool {
     }
 }
 
-/// The folder that a file of this path is in.
+/// Returns the folder that a file with this path is in.
 fn folder_of(rt: &HostRuntime, path: &str) -> io::Result<Metadata> {
     match Path::new(path).parent() {
         Some(folder) if !folder.as_str().is_empty() => fs::metadata(rt, folder.as_str()),
@@ -111,7 +111,7 @@ fn folder_of(rt: &HostRuntime, path: &str) -> io::Result<Metadata> {
     }
 }
 
-/// Whether one of two paths ends in the name that the other ends in, or in that of the file beside it.
+/// Whether one of two paths ends in the name that the other ends in, or in the name of the new file beside the other.
 fn names_meet(one: &str, other: &str) -> bool {
     let (one, other) = (Path::new(one).file_name(), Path::new(other).file_name());
     let (Some(one), Some(other)) = (one, other) else {
@@ -122,7 +122,7 @@ fn names_meet(one: &str, other: &str) -> bool {
         || other.strip_suffix(".new") == Some(one)
 }
 
-/// Whether another process has a file to itself, as a desk has its votes file. Where the system knows no locks, none has.
+/// Whether another process has locked the file, as a desk locks its votes file. If the system has no locks, none has.
 fn is_locked(file: &File) -> bool {
     match file.try_lock_shared() {
         Err(TryLockError::WouldBlock) => true,
@@ -130,8 +130,8 @@ fn is_locked(file: &File) -> bool {
     }
 }
 
-/// Asks that what a file holds may give way to a text: it has no byte and no other process has it to itself, or it begins
-/// as a file of a board.
+/// Checks that a text may replace what a file holds: the file is empty and no other process has locked it, or it begins
+/// as a board's file does.
 fn expect_text(file: &mut File, len: u64) -> Result<(), Cause> {
     match front_of(file, len).map_err(|why| cause_of(&why))? {
         Front::Text => Ok(()),
@@ -142,13 +142,13 @@ fn expect_text(file: &mut File, len: u64) -> Result<(), Cause> {
     }
 }
 
-/// The fault of what stands under a file's own name, or under that of the one beside it.
+/// Returns the fault of a file's own name, or of the new file's name.
 fn fault(name: Name, why: Cause) -> WriteFault {
     WriteFault { name, why }
 }
 
 impl<'a> TextFile<'a> {
-    /// A file of this name, beside the sheet and the key of these names. It isn't opened yet.
+    /// Returns a text file with this name, beside the sheet and the key with these names. It isn't opened yet.
     pub fn new(
         rt: &'a HostRuntime,
         path: &'a str,
@@ -165,7 +165,7 @@ impl<'a> TextFile<'a> {
         })
     }
 
-    /// Whether this file, which is there, is the key.
+    /// Whether the file that was found is the key.
     fn is_key(&self, found: &Metadata) -> bool {
         match self.key {
             Some(key) => is_at(self.rt, key, found),
@@ -173,7 +173,7 @@ impl<'a> TextFile<'a> {
         }
     }
 
-    /// Asks that something that is there may give way to a text: a plain file, neither the sheet nor the key, and a text.
+    /// Checks that a text may replace what was found: it is a plain file, neither the sheet nor the key, and a text.
     fn expect_way(&self, path: &str, found: &Metadata) -> Result<(), Cause> {
         if found.is_symlink() {
             return Err(Cause::Link);
@@ -191,7 +191,7 @@ impl<'a> TextFile<'a> {
         expect_text(&mut file, found.len())
     }
 
-    /// Whether there is something at a path, which is then known to give way. What doesn't is a fault.
+    /// Whether there is something at a path. If a text may not replace it, that is a fault.
     fn finds(&self, path: &str) -> Result<bool, Cause> {
         match fs::symlink_metadata(self.rt, path) {
             Ok(found) => {
@@ -203,7 +203,7 @@ impl<'a> TextFile<'a> {
         }
     }
 
-    /// Whether there is one under its own name, and whether there is one beside it. Both give way then.
+    /// Whether there is a file with its own name, and whether there is a new file. A text may then replace both.
     fn finds_both(&self) -> Result<(bool, bool), WriteFault> {
         let own = self.finds(self.path).map_err(|why| fault(Name::Own, why))?;
         let new = self
@@ -212,7 +212,7 @@ impl<'a> TextFile<'a> {
         Ok((own, new))
     }
 
-    /// Asks that the text may be put into both files. What is there stays as it is.
+    /// Checks that the text may be written under both names. What is there stays as it is.
     pub fn expect_room(&self) -> Result<(), WriteFault> {
         let _found = self.finds_both()?;
         match folder_of(self.rt, self.path) {
@@ -221,8 +221,8 @@ impl<'a> TextFile<'a> {
         }
     }
 
-    /// Whether two of these would be written to one file: they are in one folder, and the name of the one, or of the
-    /// file beside it, is one of the other's.
+    /// Whether two text files would be written to one file: they are in one folder, and one's own name, or its new
+    /// file's, is one of the other's names.
     pub fn meets(&self, other: &TextFile<'_>) -> io::Result<bool> {
         if !names_meet(self.path, other.path) {
             return Ok(false);
@@ -231,13 +231,13 @@ impl<'a> TextFile<'a> {
         Ok(is_same(&one, &folder_of(other.rt, other.path)?))
     }
 
-    /// Takes away what a board left beside it whose process was killed.
+    /// Removes the new file that a killed board left behind.
     fn clear(&self) -> Result<(), Cause> {
         fs::remove_file(self.rt, self.beside.as_str()).map_err(|why| cause_of(&why))
     }
 
-    /// Writes a text to a new file beside it, which its owner alone may write, and others read as far as the umask lets them.
-    /// Where that fails the new file is taken away again.
+    /// Writes a text to a new file, which only its owner may write, and others may read as far as the umask allows. If
+    /// writing fails, the new file is removed again.
     fn write(&self, text: &[u8]) -> Result<(), Cause> {
         if !may_have(text.len() as u64) {
             return Err(Cause::Limit);

@@ -1,73 +1,73 @@
-//! Why a file can't be written, as far as the system tells.
+//! Why a file can't be written, as far as the system says.
 
 ghost use Rattle.std.specs.Prelude.{◌≡◌};
 ghost use Rattle.machine_files.specs.WriteFault as texts;
 
 use std::io::{self, ErrorKind};
 
-/// Which of a file's two names is meant: its own, or that of the new file beside it that is to take it.
+/// One of a file's two names: its own, or that of the new file beside it that will take it.
 #[derive(Clone, Copy)]
 pub enum Name {
     Own,
-    /// `.unfinished` behind its own: a votes file that is written anew.
+    /// The own name with `.unfinished` behind it: a votes file that is written anew.
     Unfinished,
-    /// `.new` behind its own: a board's next text.
+    /// The own name with `.new` behind it: a board's next text.
     New,
 }
 
-/// Why nothing is written there.
+/// Why nothing is written.
 #[derive(Clone, Copy)]
 pub enum Cause {
-    /// Another process has it to itself, as a desk has its votes file.
+    /// Another process has locked the file, as a desk locks its votes file.
     InUse,
-    /// The disk is full, or this user's part of it.
+    /// The disk, or this user's part of it, is full.
     NoSpace,
-    /// The limit on the size of this user's files is in the way.
+    /// The file would be longer than this user's files may be.
     Limit,
     /// The file system knows no locks.
     NoLock,
-    /// This user may not.
+    /// This user isn't allowed to.
     NotAllowed,
-    /// It can only be read there.
+    /// The file system can only be read.
     ReadOnly,
-    /// Its folder isn't there.
+    /// The file's folder isn't there.
     NoFolder,
-    /// Its name is longer than the file system takes.
+    /// The file's name is longer than the file system takes.
     LongName,
-    /// It is a link.
+    /// The name is a link.
     Link,
-    /// It is a folder, a pipe, a device or the like.
+    /// The name is a folder, a pipe, a device or the like.
     NotAFile,
-    /// It is there already.
+    /// The file exists already.
     There,
-    /// The sheet, the key, or a votes file stands there.
+    /// The sheet, the key, or a votes file is there.
     Sheet,
     Key,
     Votes,
-    /// Something stands there that begins as no file of a board does.
+    /// Something is there that doesn't begin as a board's file does.
     Other,
     /// Two of a board's files would be one.
     Both,
-    /// A desk's votes file stands there, which is to be copied.
+    /// The copy would be the votes file itself.
     Itself,
-    /// It was moved, deleted or replaced, or is shorter or longer than it was left.
+    /// The file was moved, deleted or replaced, or is shorter or longer than it was left.
     Lost,
     /// The disk fails.
     Device,
     /// Memory was refused.
     NoMemory,
-    /// Anything else that the system tells.
+    /// Any other cause that the system gives.
     System,
 }
 
-/// Which file it is, and why nothing is written there.
+/// Which file isn't written, and why.
 #[derive(Clone, Copy)]
 pub struct WriteFault {
     pub name: Name,
     pub why: Cause,
 }
 
-/// What the system's answer to a call tells.
+/// Returns the cause that an answer of the system stands for.
 pub fn cause_of(error: &io::Error) -> Cause {
     match error.kind() {
         ErrorKind::StorageFull | ErrorKind::QuotaExceeded => Cause::NoSpace,
@@ -86,7 +86,7 @@ pub fn cause_of(error: &io::Error) -> Cause {
 }
 
 impl Name {
-    /// What stands behind the file's own name.
+    /// Returns what stands behind the file's own name.
     pub fn ending(self) -> &'static str
         ensures { result.now ≡ texts.ending_of self }
     {
@@ -99,7 +99,7 @@ impl Name {
 }
 
 impl Cause {
-    /// What a scorer is told of it.
+    /// Returns what a scorer is told of the cause.
     pub fn words(self) -> &'static str
         ensures { result.now ≡ texts.words_of self }
     {

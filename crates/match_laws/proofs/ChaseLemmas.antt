@@ -1,4 +1,4 @@
--- What a side that bats last needs, and what it has won.
+-- What a side that bats last needs, and when it has won.
 use Rattle.std.proofs.Common.{◌≡◌, ℕ, zero, suc, ◌+◌, ◌-◌, ◌≤◌, ◌<◌, Bool, true, Some, [], ◌∷◌, refl, sym, subst, ap, ◌∙◌, arith, ◌⊎◌}
 use Rattle.std.proofs.lemmas.Bool.{le-leb, leb-true}
 use Rattle.std.specs.Prelude.{nat_le, nat_lt, if◌then◌else◌}
@@ -14,7 +14,7 @@ use Rattle.match_laws.specs.Refusals.{IsLegal}
 use Rattle.match_laws.specs.Chases.{BatsLast, ChaseTells, HasReachedTarget, WonByWickets}
 use Rattle.match_laws.proofs.LegalLemmas.{begun_few}
 
--- ---- the innings that began last is its side's
+-- ---- the side of the innings that began last
 
 side_current : (h : History) (side : Side) → is_side (last_side h) side ≡ true → side_eq (side_of h (current h)) side ≡ true
 side_current [] side e = cc
@@ -31,12 +31,12 @@ current_total : (n : ℕ) (h : History) (side : Side) → n ≤ 2 → IsLegal n 
     total h (current h) ≤ side_total h side
 current_total n h side le legal e = search (arith, begun_few, own_total, side_current)
 
--- ---- to lead is to have reached what is needed
+-- ---- a side leads exactly if it has reached what it needs
 
 reach_same : (theirs ours here : ℕ) → here ≤ ours → nat_lt theirs ours ≡ nat_le (theirs + 1 - (ours - here)) here
 reach_same theirs ours here le = grind arith
 
--- ---- the outcome where a side has won
+-- ---- the outcome if a side has won
 
 outcome_won : (n : ℕ) (h : History) (side : Side) → has_won n h side ≡ true → outcome n h ≡ won_by n h side
 unfolding outcome
@@ -67,7 +67,7 @@ chase_tells n h le legal side b =
 
 -- ---- a win by wickets
 
--- the winner bats
+-- the side has won while it bats
 record WinsInPlay (n : ℕ) (h : History) (side : Side) (left : ℕ) : Type 0 where
   pub won : has_won n h side ≡ true
   pub going : is_open h ≡ true
@@ -79,7 +79,7 @@ wins_in_play n h s side left won e =
     let same : s ≡ side = grind (arith, e) in
     record { won = subst (λ x. has_won n h x ≡ true) same won; going = grind (arith, e); is_left = grind (arith, e) }
 
--- one of the sides has won so
+-- an outcome by wickets is the wording of a side that has won
 whose : (home away both closed : Bool) (x y : Outcome) (side : Side) (left : ℕ)
     → (if home then x else (if away then y else (if both then Tie else (if closed then Draw else Undecided)))) ≡ Wickets side left
     → ((home ≡ true) × (x ≡ Wickets side left)) ⊎ ((away ≡ true) × (y ≡ Wickets side left))

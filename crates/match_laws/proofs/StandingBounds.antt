@@ -1,4 +1,4 @@
--- What the standing of a match has, since some history has it.
+-- Properties of a match's standing, which follow since some history has this standing.
 use Rattle.std.proofs.Common.{◌≡◌, ℕ, ◌<◌, ◌≤◌, false, Some, ap, sym, ◌∙◌, arith, get_or}
 use Rattle.std.proofs.Math.Bridge.{le_prop}
 use Rattle.std.proofs.Math.Logic.{∥∥₁_elim}
@@ -21,7 +21,7 @@ pub kept_begun : (m : Standing) → ∥ IsKept m ∥₁ → m.begun ≤ 4
 kept_begun m kept = ∥∥₁_elim kept le_prop (λ w.
     omega (arith, begun_few w.innings_a_side w.history ((w.stands).one_or_two).1 (w.stands).legal, (w.stands).begun))
 
--- ten wickets at most
+-- at most ten wickets
 pub kept_few : (m : Standing) → ∥ IsKept m ∥₁ → (k : ℕ) (d : InningsScore) → k < 4 → (get_or m.scores k d).wickets ≤ 10
 kept_few m kept k d lt = ∥∥₁_elim kept le_prop (λ w. rw (at_table (score_of w.history) m.scores (w.stands).scores k d lt)
     (wickets-ten w.innings_a_side w.history k (w.stands).legal))
@@ -37,25 +37,25 @@ pub kept_score : (m : Standing) → ∥ IsKept m ∥₁ → (k : ℕ) (d : Innin
 kept_score m kept k d lt = ∥∥₁_elim kept (hlevel le_prop) (λ w. rw (at_table (score_of w.history) m.scores (w.stands).scores k d lt)
     (score-small w.history k (w.stands).in_range (entries_few w.innings_a_side w.history (w.stands).legal)))
 
--- a side's record, by what it is for each history
+-- a side's record has room, since every history gives this record
 pub kept_record : (m : Standing) (side : Side) (r : SideRecord) → ∥ IsKept m ∥₁ →
     ((n : ℕ) → (h : History) → StandsFor m n h → r ≡ side_record h side) → IsSmallRecord r
 kept_record m side r kept is = ∥∥₁_elim kept (hlevel le_prop) (λ w. rw (is w.innings_a_side w.history w.stands)
     (record-small w.history side (entries_few w.innings_a_side w.history (w.stands).legal)))
 
--- where an innings can begin there is room for it
+-- there is room for an innings that may begin
 pub room_begun : (m : Standing) (s : Side) → ∥ CanTake m (Innings s) ∥₁ → m.begun < 4
 room_begun m s can = ∥∥₁_elim can le_prop (λ w.
     omega (arith, begun_room w.innings_a_side w.history s ((w.stands).one_or_two).1 (w.stands).legal w.taken, (w.stands).begun))
 
--- the innings that a side began last has a place
+-- the innings that a side began last is one of the four
 pub kept_latest : (m : Standing) (side : Side) (r : SideRecord) (k : ℕ) → ∥ IsKept m ∥₁ →
     ((n : ℕ) → (h : History) → StandsFor m n h → r ≡ side_record h side) → r.latest ≡ Some k → k < 4
 kept_latest m side r k kept is e = ∥∥₁_elim kept le_prop (λ w.
     let began = latest_of-begun w.history side k (sym (ap (λ v. v.latest) (is w.innings_a_side w.history w.stands)) ∙ e) in
     omega (arith, began, begun_few w.innings_a_side w.history ((w.stands).one_or_two).1 (w.stands).legal))
 
--- there is room for one entry more
+-- there is room for one more entry
 pub room_taken : (m : Standing) (x : Plain) → is_void x ≡ false → ∥ CanTake m x ∥₁ → m.taken < 8192
 room_taken m x v can = ∥∥₁_elim can le_prop (λ w.
     omega (arith, (taken w.innings_a_side w.history x v w.taken).room, (w.stands).taken))

@@ -1,4 +1,4 @@
--- An innings' runs, by who struck and by who bowled.
+-- An innings' runs, summed by striker and by bowler.
 use Rattle.std.proofs.Common.{◌∙◌, ◌≡◌, ℕ, zero, suc, ◌+◌, Bool, Some, None, Option, List, [], ◌∷◌, refl, arith}
 use Rattle.std.specs.List.{range_with_len}
 use Rattle.std.specs.Prelude.{nat_le, nat_lt, ◌==◌, ◌&&◌, if◌then◌else◌}
@@ -23,7 +23,7 @@ tally-zero : {X : Type 0} (xs : List X) → tally (λ x. 0) xs ≡ 0
 tally-zero [] = refl
 tally-zero (x ∷ xs) = let rest = tally-zero xs in omega arith
 
--- one player of the eleven has the number
+-- the sum over consecutive players of a number that only player q has
 one_of_range : (v q a n : ℕ) → tally (λ p. if q == p then v else 0) (range_with_len a n) ≡ (if nat_le a q && nat_lt q (a + n) then v else 0)
 one_of_range v q a zero = grind arith
 one_of_range v q a (suc n) = grind (arith, one_of_range v q (a + 1) n)
@@ -53,7 +53,7 @@ played : (n : ℕ) (h : History) → IsLegal n h → IsPlayed h
 played n [] legal = tt
 played n (x ∷ h) legal = grind (arith, played n h legal.0, taken n h x)
 
--- nobody bowls while an end is vacant
+-- a delivery that is taken has a striker
 struck : (n : ℕ) (h : History) (b : Ball) → IsLegal n (Bowl b ∷ h) → IsInRange h → IsStruck ((state_after h).ends).striker
 struck n h b legal ranges =
     let sound = in_order-played h ranges (played n h legal.0) in
@@ -67,13 +67,13 @@ manned n (x ∷ h) legal ranges = grind (arith, struck n h, manned n h legal.0 r
 one_striker : (t : Bool) (v : ℕ) (s : Option ℕ) → IsStruck s → tally (λ p. if t && is_at s p then v else 0) numbers ≡ (if t then v else 0)
 one_striker t v s is = grind (arith, one_where)
 
--- where one player of the eleven has each delivery's number, the sum by players is that by deliveries
+-- if one player of the eleven has each delivery's number, the sum by players is the sum by deliveries
 sum-manned : (g : ℕ → Delivery → ℕ) (k : Delivery → ℕ) → ((d : Delivery) → IsManned d → tally (λ p. g p d) numbers ≡ k d) →
     (ds : List Delivery) → AllManned ds → tally (λ p. tally (g p) ds) numbers ≡ tally k ds
 sum-manned g k one [] all = tally-zero numbers
 sum-manned g k one (d ∷ ds) all = search (arith, (sum-manned g k one ds all.0))
 
--- ---- what each delivery's runs are
+-- ---- the parts of each delivery's runs
 
 runs-struck : (i : ℕ) (ds : List Delivery) → tally (of_innings runs_of i) ds
     ≡ tally (of_innings batted_of i) ds + tally (of_innings byes_of i) ds + tally (of_innings legs_of i) ds

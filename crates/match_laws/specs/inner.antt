@@ -1,4 +1,4 @@
--- What serves private functions and proofs only.
+-- Definitions that only private functions and proofs use.
 pub mod Added
 pub mod BattingTables
 pub mod BowlingTables

@@ -1,6 +1,6 @@
-//! What a match's figures and its result tell of one another.
+//! How a match's figures and its result agree with one another.
 //!
-//! These functions do nothing: each stands for the laws that it ensures.
+//! These functions do nothing: each is there for the laws that it ensures.
 
 ghost use Rattle.std.specs.Prelude.{ℕ, ◌≤◌};
 ghost use Rattle.notation.specs.declared.entry.Side.{Side};
@@ -11,17 +11,16 @@ ghost use Rattle.match_laws.specs.Refusals.{IsLegal};
 ghost use Rattle.match_laws.specs.Stands.{ForEachHistory};
 ghost use Rattle.match_laws.specs.Totals.{AddsUp};
 
-/// An innings' total is its batters' runs and the extras, and also what is debited to its bowlers
-/// with the byes, the leg byes and the penalty runs.
+/// Ensures that an innings' total is its batters' runs plus the extras, and also the runs debited to its bowlers
+/// plus the byes, the leg byes and the penalty runs.
 pub fn totals_add_up()
     ensures histories { (n : ℕ) → (h : History) → IsLegal n h → IsInRange h
         → (i : ℕ) → AddsUp h i }
     ensures matches { (m : Standing) → ForEachHistory m (λ n h. (i : ℕ) → AddsUp h i) }
 {}
 
-/// A side that bats last has won exactly where the total of its innings, in play or ended, reaches
-/// what it needs; it has won by wickets exactly where that innings is in play, at a total that
-/// reaches its target.
+/// Ensures that a side that bats last has won exactly if the total of its innings, in play or ended, reaches the runs
+/// that it needs, and that it has won by wickets exactly if that innings is in play and its total reaches the target.
 pub fn chases_end_at_the_target()
     ensures last_innings { (n : ℕ) → (h : History) → n ≤ 2 → IsLegal n h
         → (side : Side) → BatsLast n h side → ChaseTells n h side }

@@ -1,4 +1,4 @@
--- A word that stands first in the bytes of a line, or doesn't.
+-- Skipping a word that a line's bytes begin with or don't.
 use Rattle.std.proofs.Common.{◌≡◌, ◌≢◌, ◌∙◌, ℕ, ◌<◌, List, [], ◌∷◌, ◌++◌, length, take, drop, get_or, true, false, refl, sym, ap, arith, append-nil, take-append-drop, codes, Ok, ◌==◌, None}
 use Rattle.std.specs.List.{join_with_byte}
 use Rattle.std.specs.Str.{bytes_eq}
@@ -14,7 +14,7 @@ use Rattle.notation.proofs.SpacedLines.{at_space, one_token}
 same : (word : Token) → bytes_eq word word ≡ true
 same word = (bytes_eq-Decides word word).1 refl
 
--- the word begins the bytes
+-- bytes that begin with the word are the word and the rest
 stripped : (word left : List ℕ) → bytes_eq (take (length word) left) word ≡ true → word ++ drop (length word) left ≡ left
 stripped word left h = search (arith, bytes_eq-Decides, take-append-drop)
 
@@ -32,20 +32,20 @@ next : (word : Token) (rest : List ℕ) → is_token word ≡ true → 0 < lengt
 next word [] h some space = absurd (omega (arith, some))
 next word (b ∷ bs) h some space = let e : b ≡ 32 = space in rw e (at_next word bs h)
 
--- the word is all that is left
+-- the word is skipped if nothing follows it
 pub skips_last : (word left : List ℕ) → is_token word ≡ true → bytes_eq (take (length word) left) word ≡ true
     → length (drop (length word) left) ≡ 0 → (true, []) ≡ skip word (tokens left)
 skips_last word left h begins none =
     last word (drop (length word) left) h none ∙ ap (λ l. skip word (tokens l)) (stripped word left begins)
 
--- a space stands behind it
+-- the word is skipped if a space follows it
 pub skips_next : (word left : List ℕ) → is_token word ≡ true → bytes_eq (take (length word) left) word ≡ true
     → 0 < length (drop (length word) left) → get_or (drop (length word) left) 0 0 ≡ 32
     → (true, tokens (drop 1 (drop (length word) left))) ≡ skip word (tokens left)
 skips_next word left h begins some space =
     next word (drop (length word) left) h some space ∙ ap (λ l. skip word (tokens l)) (stripped word left begins)
 
--- what stands behind the first token
+-- after the first token comes a space or nothing
 record Behind (word left : List ℕ) : Type 0 where
   whole : left ≡ word ++ drop (length word) left
   space : 0 < length (drop (length word) left) → get_or (drop (length word) left) 0 0 ≡ 32
@@ -65,18 +65,18 @@ unfolding skip
 another word [] h = refl
 another word (t ∷ ts) h = grind (arith, bytes_eq-Decides t word, h ts)
 
--- the token goes on behind it
+-- the word isn't skipped if the token goes on after it
 pub stays_longer : (word left : List ℕ) → 0 < length (drop (length word) left) → get_or (drop (length word) left) 0 0 ≢ 32
     → (false, tokens left) ≡ skip word (tokens left)
 stays_longer word left some other = another word (tokens left) (λ ts e. other ((behind word left ts e).space some))
 
--- the bytes begin with another word
+-- the word isn't skipped if the bytes don't begin with it
 pub stays_other : (word left : List ℕ) → bytes_eq (take (length word) left) word ≡ false → (false, tokens left) ≡ skip word (tokens left)
 stays_other word left h = another word (tokens left) (λ ts e.
     let front : take (length word) left ≡ word = ap (take (length word)) (behind word left ts e).whole ∙ take_at word (drop (length word) left) (length word) refl in
     grind (arith, bytes_eq-Decides (take (length word) left) word, front))
 
--- nothing is left
+-- no word is skipped at the end
 pub stays_empty : (word : Token) → (false, []) ≡ skip word []
 unfolding skip
 stays_empty word = refl
@@ -86,7 +86,7 @@ unfolding skip
 skipped word [] us h = grind arith
 skipped word (t ∷ ts) us h = grind (arith, bytes_eq-Decides t word)
 
--- the words that are tried first
+-- the words `ball` and `bat`, which are tried first, are read as the tables read them
 pub ball_first : (ts us : List Token) → (true, us) ≡ skip (codes "ball") ts → word_at first_text all_firsts ts ≡ Ok (First.Ball, us)
 unfolding word_at
 ball_first ts us h = rw (skipped (codes "ball") ts us h) refl
@@ -100,7 +100,7 @@ unfolding skip
 kept word [] us h = grind arith
 kept word (t ∷ ts) us h = grind (arith, bytes_eq-Decides t word)
 
--- nothing stands behind the runs of a delivery
+-- the optional parts of a delivery that ends with its runs
 pub bare : (ts : List Token) → true ≡ (length ts == 0)
     → (short_at ts ≡ Ok (0, ts)) × (bound_at ts ≡ (Bound.Run, ts)) × (skip (codes "dead") ts ≡ (false, ts)) × (out_at ts ≡ Ok (None, ts))
 unfolding skip short_at bound_at out_at

@@ -1,4 +1,4 @@
-//! What is left of a pen line while it is read.
+//! The rest of a line while it is read.
 
 ghost use Rattle.std.specs.Prelude.{◌≡◌, ◌==◌, ◌≤◌, ℕ, List, [], ◌∷◌, length, true, MatchOption, IfOk, IfSome};
 ghost use Rattle.notation.specs.Written.{tokens, found_number, is_token};
@@ -11,7 +11,7 @@ use crate::words::Word;
 use std::marker::Model;
 use std::str;
 
-/// The tokens that are left of a line, as the bytes that they stand in.
+/// The remaining tokens of a line, kept as the bytes that hold them.
 #[derive(Drop)]
 pub struct Cursor<'a> {
     left: Option<&'a [u8]>,
@@ -26,7 +26,7 @@ impl<'a> Model for Cursor<'a> {
     ghost view = { λ c. tokens_left c.left };
 }
 
-/// The first token of some bytes, and what stands behind the space after it.
+/// Returns the first token of some bytes, and the rest after the space that follows the token, if there is one.
 fn cut(bytes: &[u8]) -> (&[u8], Option<&[u8]>)
     ensures { tokens bytes.now ≡ result.0.now ∷ tokens_left result.1 }
 {
@@ -40,7 +40,7 @@ fn cut(bytes: &[u8]) -> (&[u8], Option<&[u8]>)
     }
 }
 
-/// The number that a token is, as `number_in` says. Most numbers have one digit.
+/// Returns what `number_in` does, with a short path for one digit, as most numbers have.
 fn number_of(token: &[u8], low: u16, high: u16) -> Option<u16>
     ensures value { result ≡ found_number low high token.now }
     ensures range { IfSome result (λ n. (low ≤ n) × (n ≤ high)) }
@@ -60,7 +60,7 @@ fn number_of(token: &[u8], low: u16, high: u16) -> Option<u16>
 }
 
 impl<'a> Cursor<'a> {
-    /// The tokens of a line.
+    /// Returns the tokens of a line.
     pub fn new(line: &'a [u8]) -> Cursor<'a>
         ensures { result ≡ tokens line.entry.now }
     {
@@ -86,7 +86,7 @@ impl<'a> Cursor<'a> {
         Some(token)
     }
 
-    /// Takes the word where it stands next, and says whether it did.
+    /// Takes the next token if it is this word, and returns whether it was.
     #[inline]
     pub fn skip(&mut self, word: &[u8]) -> bool
         requires { is_token word.now ≡ true }
@@ -110,7 +110,7 @@ impl<'a> Cursor<'a> {
         true
     }
 
-    /// Takes a word of this kind.
+    /// Takes a word of this kind. `Missing` if no token is left, `UnknownWord` if the token is no such word.
     #[inline]
     #[tactic(auto, unfolding(crate::specs::inner::TokenReading::word_at))]
     pub fn word<W: Word>(&mut self) -> Result<W, LineFault>
@@ -120,7 +120,7 @@ impl<'a> Cursor<'a> {
         W::of(token).ok_or(LineFault::UnknownWord)
     }
 
-    /// Takes a number in the range.
+    /// Takes a number in the range. `Missing` if no token is left, `BadNumber` if the token is no such number.
     #[inline(always)]
     #[tactic(auto, unfolding(crate::specs::inner::TokenReading::number_at))]
     pub fn number(&mut self, low: u16, high: u16) -> Result<u16, LineFault>

@@ -5,7 +5,7 @@ ghost use Rattle.notation.specs.Lines.{lines_of};
 
 use std::marker::Model;
 
-/// The lines that are left of a text: what stands between newlines, without an empty line at the end.
+/// The remaining lines of a text: the pieces between its newlines, without an empty line at the end.
 #[derive(Drop)]
 pub struct Lines<'a> {
     rest: &'a [u8],
@@ -21,14 +21,14 @@ impl<'a> Model for Lines<'a> {
 }
 
 impl<'a> Lines<'a> {
-    /// All lines of a text.
+    /// Returns all lines of a text.
     pub fn new(text: &'a [u8]) -> Lines<'a>
         ensures { result ≡ lines_of text.entry.now }
     {
         Lines { rest: text }
     }
 
-    /// The next line, if there is one.
+    /// Takes the next line, without its newline; `None` if no line is left.
     pub fn next(&mut self) -> Option<&'a [u8]>
         ensures { MatchOption result
             ((self.old ≡ []) × (self.new ≡ []))

@@ -1,4 +1,4 @@
-//! Prints the QR code of each line of standard input. Beside it are tests of who may type from a desk's page.
+//! Prints the QR code of each line of standard input. Beside that are tests of who may type from a desk's page.
 #![tactic(auto)]
 
 #[cfg(test)]

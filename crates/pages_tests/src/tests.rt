@@ -1,4 +1,4 @@
-//! Posts whose tags Python's `hmac` computed, with the bytes 0 to 15 as the secret.
+//! Posts whose tags Python's `hmac` computed with the bytes 0 to 15 as the secret.
 
 use agree_core::Position;
 use posts::{Post, Posts, Refusal, Stamp, tag_in};
@@ -19,7 +19,7 @@ const LONGEST: &str = "9a639f78cb130050410453560b36a93520daa795838a3b563da36cfc1
 
 const ONE: &str = "2377b60ac29a9590dba449c97dfa00aa029419b444d50a6c85f4ac59742898fc";
 
-/// The bytes 16 to 31, and by them the tag of a claim, and the secret as it is handed out.
+/// The bytes 16 to 31, the tag of a claim made with them, and the secret as it is handed out.
 const TICKET: [u8; 16] = [
     16, 17, 18, 19, 20, 21, 22, 23, 24, 25, 26, 27, 28, 29, 30, 31,
 ];
@@ -30,7 +30,7 @@ const HIDDEN: [u8; 16] = [
     0xc0, 0x71, 0xac, 0x82, 0x80, 0xc1, 0xd6, 0xca, 0x3f, 0xba, 0xe6, 0x42, 0xf4, 0xbc, 0x02, 0xd0,
 ];
 
-/// The lines of these posts, each hidden by its tag.
+/// The lines of these posts, each one hidden by its tag.
 const HIDDEN_FOUR: [u8; 1] = [0x77];
 
 const HIDDEN_ONE: [u8; 1] = [0x8d];
@@ -46,7 +46,7 @@ const HIDDEN_LONGEST: [u8; 128] = [
     0x76, 0xc9, 0x51, 0x56, 0x6e, 0xb3, 0xec, 0xcf, 0x21, 0x12, 0xe7, 0x5b, 0x90, 0xbd, 0x99, 0x9e,
 ];
 
-/// `4` and the end of a line, hidden under the number 7: the tag, and two bytes.
+/// `4` and a newline, hidden under the number 7: the tag, and two bytes.
 const FRAME: [u8; 34] = [
     0x3d, 0x15, 0x37, 0x79, 0x23, 0x4b, 0xee, 0x2a, 0x6b, 0x52, 0x3c, 0x81, 0xcb, 0x4a, 0xbf, 0xea,
     0xac, 0x3c, 0xb5, 0xeb, 0x0b, 0x74, 0x05, 0x88, 0xba, 0xae, 0x85, 0xf3, 0x87, 0x7c, 0xe5, 0x98,
@@ -58,7 +58,7 @@ const HERE: Position = Position {
     round: 0,
 };
 
-/// What a post from here comes to at place 18 in its first round, with this many lines that wait.
+/// Judges a post from here at place 18 in round 0, with this many lines waiting.
 fn judged(
     posts: &mut Posts,
     fields: [&str; 3],
@@ -77,7 +77,7 @@ fn judged(
     }
 }
 
-/// Of a page that has given so many nonces.
+/// Returns the posts of a page that has given this many nonces.
 fn given(count: u64) -> Posts {
     let mut posts = Posts::new(SECRET);
     for _ in 0..count {
@@ -263,7 +263,7 @@ fn the_oldest_nonce_is_forgotten(rt: HostRuntime) {
     );
 }
 
-/// What is handed out for a tag, at this time.
+/// Returns what is handed out for a tag at this time.
 fn handed(posts: &mut Posts, tag: &str, now: u64) -> Option<[u8; 16]> {
     let tag = tag_in(tag)?;
     posts.hand_out(&tag, now)

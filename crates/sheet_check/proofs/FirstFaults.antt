@@ -1,4 +1,4 @@
--- The first of all that is wrong with a sheet is that by whose number it is refused.
+-- A sheet is refused by the number of its first fault.
 use Rattle.std.proofs.Common.{◌≡◌, ℕ, ◌+◌, ◌==◌, nat_le, ◌&&◌, Bool, true, false, if◌then◌else◌, ℤ, pos, negsuc, List, [], ◌∷◌, ◌++◌, length, Option, Some, None, Result, Ok, Err, IfOk, codes, refl, decimal}
 use Rattle.std.specs.List.{list_all}
 use Rattle.toml.specs.Data.{Data, Items, no_items, item, Members, get_member, as_str, as_integer, as_array, as_table}
@@ -11,7 +11,7 @@ use Rattle.cards.specs.declared.fault.SheetFault.TheVariants.{BadNumber, BadText
 use Rattle.sheet_check.specs.Faults.{Fault, at, count_faults, faults, first_of, is_from, kind_faults, kinds_from, name_faults, names_from, number_at, number_or_kind, player, players, players_at, players_or_kind, side_at, side_or_kind, text_at, text_faults, text_or_kind, unless}
 use Rattle.sheet_check.specs.Reports.{why_of}
 
--- the first of two
+-- the first of two faults
 abbrev or_first : Option SheetFault → Option SheetFault → Option SheetFault
 or_first None other = other
 or_first (Some why) other = Some why
@@ -24,7 +24,7 @@ none_first : (xs : List Fault) → first_of xs ≡ None → xs ≡ []
 none_first [] e = refl
 none_first (x ∷ xs) e = absurd cc
 
--- of a part, and of what follows it
+-- the first fault of a part and of what is read after it
 bind_first : {A B : Type 0} (xs ys : List Fault) (r : Result A SheetFault) (f : A → Result B SheetFault)
     → first_of xs ≡ why_of r → IfOk r (λ x. first_of ys ≡ why_of (f x)) → first_of (xs ++ ys) ≡ why_of (r >>= f)
 bind_first xs ys (Ok x) f e k = rw (first_append xs ys, e) k
@@ -180,7 +180,7 @@ innings_faults ms = number_at 1 2 (codes "innings") (codes "isn't 1 or 2") (get_
 abbrev game_faults : Members → List Fault
 game_faults ms = number_at 0 greatest_game (codes "number") (codes "is below 0") (get_member (codes "number") ms) ++ innings_faults ms
 
--- what is read behind the title, and so on
+-- the sheet that is read after these parts
 abbrev with_home : Members → List ℕ → ℕ → ℕ → Team → Result Sheet SheetFault
 with_home ms title game innings home =
     reads.team_at (codes "away") ms >>= λ away. Ok (record { title = title; game = game; innings = innings; home = home; away = away; limits = limits_in ms; columns = usual_columns })

@@ -1,4 +1,4 @@
--- How many items a list of values has.
+-- The number of items of a list of values.
 use Rattle.std.proofs.Common.{◌≡◌, List, length}
 use Rattle.toml.specs.declared.value.Value.{Value}
 use Rattle.toml.specs.View.{items_view}

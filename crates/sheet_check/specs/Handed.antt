@@ -1,5 +1,5 @@
--- What a sheet's document hands on to archives and pages, beside the match: its tables [info] and [meta], and what is wrong with
--- them. A sheet is refused for it only where it is handed on.
+-- The parts of a sheet's document that are passed on to archives and pages beside the match, its tables [info] and [meta],
+-- and their faults. A sheet is refused for these only if they are passed on.
 use Rattle.std.specs.Prelude.{ℕ, Bool, true, ◌&&◌, nat_le, if◌then◌else◌, pos, ℤ, List, ◌++◌, Option, Some, None, is_none, is_some, option_and_then, codes}
 use Rattle.toml.specs.Data.{Data, string, datetime, Members, get_member, as_integer, as_table}
 use Rattle.toml_datetime.specs.Parse.{parse_datetime}
@@ -7,11 +7,11 @@ use Rattle.toml_datetime.specs.declared.datetime.{Date.Date, Datetime.Datetime}
 use Rattle.cards.specs.declared.fault.SheetFault.TheVariants.{WrongKind}
 use Rattle.sheet_check.specs.Faults.{Fault, at, unless}
 
--- a day alone, with no time of it
+-- the date of a date without a time or an offset
 abbrev pub local_date : Datetime → Option Date
 local_date d = if is_none d.time && is_none d.offset then d.date else None
 
--- the day that a value tells: that of a date, or of a text that is one
+-- a value read as a day: a date, or a text that is one
 abbrev pub day_of : Data → Option Date
 day_of (datetime d) = local_date d
 day_of (string text) = option_and_then local_date (parse_datetime text)
@@ -25,34 +25,34 @@ from_one z = None
 abbrev pub revision_of : Data → Option ℕ
 revision_of d = option_and_then from_one (as_integer d)
 
--- what the table [meta] of a sheet's document has at a key
+-- the value at a key of the table [meta] of a sheet's document
 abbrev pub meta_at : List ℕ → Members → Option Data
 meta_at key document = option_and_then (get_member key) (option_and_then as_table (get_member (codes "meta") document))
 
--- nothing stands there, or a value that tells what is wanted
+-- the value is absent, or can be read as what is wanted
 abbrev pub is_fine : {A : Type 0} → (Data → Option A) → Option Data → Bool
 is_fine told None = true
 is_fine told (Some d) = is_some (told d)
 
--- nothing stands at the key, or a table
+-- the value at the key is absent or a table
 abbrev pub has_fine_table : List ℕ → Members → Bool
 has_fine_table key document = is_fine as_table (get_member key document)
 
--- nothing stands at `created` in [meta], or a day
+-- `created` in [meta] is absent or a day
 abbrev pub has_fine_day : Members → Bool
 has_fine_day document = is_fine day_of (meta_at (codes "created") document)
 
--- nothing stands at `revision` there, or a whole number from 1 on
+-- `revision` in [meta] is absent or a whole number from 1 on
 abbrev pub has_fine_revision : Members → Bool
 has_fine_revision document = is_fine revision_of (meta_at (codes "revision") document)
 
--- all of it is fine
+-- all parts that are passed on are fine
 abbrev pub is_fine_document : Members → Bool
 is_fine_document document =
     ((has_fine_table (codes "info") document && has_fine_table (codes "meta") document) && has_fine_day document)
     && has_fine_revision document
 
--- what isn't
+-- the fault of each part that isn't fine
 abbrev pub table_faults : List ℕ → Members → List Fault
 table_faults key document = unless (has_fine_table key document) (at WrongKind key (codes "isn't a table"))
 

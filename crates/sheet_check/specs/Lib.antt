@@ -1,6 +1,6 @@
--- What is claimed: what is wrong with a sheet, Faults; with its table of stations, Stations, what stands twice there, Twice, and
--- what is no address, Addresses; with what it limits, Limits, and hands on, Handed; how all are told, Reports; how a sheet is
--- shown, SheetRows.
+-- Contracts of the public calls. Faults of a sheet: Faults; of its stations: Stations, their duplicates: Twice, and their
+-- addresses: Addresses; of its limits: Limits; of what it passes on: Handed. Reports of all faults: Reports; how a text is
+-- shown: Letters; how a sheet is shown: SheetRows.
 pub mod Faults
 pub mod Letters
 pub mod Stations

@@ -1,4 +1,4 @@
--- What is wrong with a sheet's table `[limits]`, key by key. No sheet is refused for it.
+-- The faults of a sheet's table `[limits]`, key by key. No sheet is refused for them.
 use Rattle.std.specs.Prelude.{ℕ, ◌||◌, Bool, List, [], ◌∷◌, ◌++◌, Option, Some, None, codes, bytes_eq}
 use Rattle.toml.specs.Data.{Members, no_members, member}
 use Rattle.limits.specs.declared.{key.Key.Key, unfit.Unfit.Unfit}
@@ -15,7 +15,7 @@ place Key.OversABowler = codes "limits, overs_a_bowler"
 place Key.FreeHits = codes "limits, free_hits"
 place Key.Powerplays = codes "limits, powerplays"
 
--- of another kind
+-- the words for a value of another kind
 abbrev pub kind_words : Key → List ℕ
 kind_words Key.Table = codes "isn't a table"
 kind_words Key.Overs = codes "isn't a whole number, or a list of them"
@@ -23,7 +23,7 @@ kind_words Key.OversABowler = codes "isn't a whole number"
 kind_words Key.FreeHits = codes "isn't true or false"
 kind_words Key.Powerplays = codes "isn't a list of first and last overs, as [[1, 8], [33, 40]]"
 
--- a number out of its range
+-- the words for a number out of its range
 abbrev pub range_words : Key → List ℕ
 range_words Key.Powerplays = codes "has an over that isn't from 1 to 450, or a last one before the first"
 range_words key = codes "isn't from 1 to 450"
@@ -34,7 +34,7 @@ told_of key (Some NoMemory) = []
 told_of key (Some OtherKind) = kind (place key) (kind_words key)
 told_of key (Some OutOfRange) = at BadNumber (place key) (range_words key) ∷ []
 
--- a key that can't be what it says
+-- the fault of a key whose value is unfit
 abbrev pub key_faults : Key → Members → List Fault
 key_faults key ms = told_of key (unfit_in key ms)
 
@@ -43,7 +43,7 @@ abbrev pub is_key : List ℕ → Bool
 is_key key =
     ((bytes_eq key (codes "overs") || bytes_eq key (codes "overs_a_bowler")) || bytes_eq key (codes "free_hits")) || bytes_eq key (codes "powerplays")
 
--- one that it has
+-- the fault of a key that the table can't have
 abbrev pub unknown_of : List ℕ → List Fault
 unknown_of key =
     unless (is_key key) (at WrongKind (codes "limits") (quoted key ++ codes " isn't one of overs, overs_a_bowler, free_hits, powerplays"))
@@ -56,7 +56,7 @@ abbrev pub unknown_in : Option Members → List Fault
 unknown_in None = []
 unknown_in (Some table) = unknown_faults table
 
--- all of a sheet's table: none, where it has no such table
+-- all faults of a sheet's limits: none if it has no table `[limits]`
 abbrev pub limit_faults : Members → List Fault
 limit_faults ms =
     key_faults Key.Table ms

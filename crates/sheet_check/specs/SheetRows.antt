@@ -1,5 +1,5 @@
--- A sheet as it was read: its title, number and innings, both sides with their players' numbers and names, and what it limits. s is
--- the sheet.
+-- The rows of a sheet as it was read: its title, number and innings, both sides with their players' numbers and names, and
+-- its limits. s is the sheet.
 use Rattle.std.specs.Prelude.{ℕ, Bool, if◌then◌else◌, List, [], ◌∷◌, ◌++◌, Option, Some, None, codes, decimal}
 use Rattle.notation.specs.declared.entry.Side.{Side}
 use Rattle.notation.specs.declared.entry.Side.TheVariants.{Home, Away}
@@ -8,11 +8,11 @@ use Rattle.limits.specs.declared.powerplay.Powerplay.{Powerplay}
 use Rattle.limits.specs.Limits.{Limits}
 use Rattle.cards.specs.Sheet.{Sheet, name_of, player_of}
 
--- a row: what it is, and its text
+-- a row: its label and its text
 abbrev pub row : List ℕ → List ℕ → List ℕ
 row what text = what ++ codes " " ++ text ++ codes "\n"
 
--- the players of these numbers
+-- the rows of the players of these numbers
 abbrev pub players : Sheet → Side → List ℕ → List ℕ
 players s side [] = []
 players s side (n ∷ ns) = row (decimal n) (player_of s side n) ++ players s side ns
@@ -20,7 +20,7 @@ players s side (n ∷ ns) = row (decimal n) (player_of s side n) ++ players s si
 abbrev pub team : Sheet → List ℕ → Side → List ℕ
 team s what side = row what (name_of s side) ++ players s side numbers
 
--- the overs of each innings, in order
+-- a row for the overs of each innings, in order
 abbrev pub overs_rows : List ℕ → List ℕ
 overs_rows [] = []
 overs_rows (n ∷ ns) = row (codes "overs") (decimal n) ++ overs_rows ns
@@ -32,12 +32,12 @@ bowler_row (Some n) = row (codes "overs_a_bowler") (decimal n)
 abbrev pub free_row : Bool → List ℕ
 free_row free = if free then row (codes "free_hits") (codes "true") else []
 
--- the first over of each, and the last
+-- a row for each powerplay: its first over and its last
 abbrev pub powerplay_rows : List Powerplay → List ℕ
 powerplay_rows [] = []
 powerplay_rows (p ∷ ps) = row (codes "powerplay") (decimal p.first ++ codes " " ++ decimal p.last) ++ powerplay_rows ps
 
--- no row, where it limits nothing
+-- the rows of a sheet's limits: none if it has no limits
 abbrev pub limits_rows : Limits → List ℕ
 limits_rows l = overs_rows l.overs ++ bowler_row l.overs_a_bowler ++ free_row l.free_hits ++ powerplay_rows l.powerplays
 

@@ -1,4 +1,4 @@
-//! Which texts in a sheet's table of stations are no addresses.
+//! Texts in a sheet's table of stations that aren't addresses.
 
 ghost use Rattle.std.specs.Prelude.{◌≡◌, ◌++◌, codes, map, option_map, string_bytes, IfOk};
 ghost use Rattle.std.specs.Bool.{MatchBool};
@@ -26,7 +26,7 @@ pub fn is_address(text: &str) -> bool
     }
 }
 
-/// What is told of a text that isn't.
+/// Returns the words for a text that isn't an address.
 fn no_address_words(alloc: Global, text: &str) -> Result<String, AllocError>
     ensures { IfOk result (λ words. string_bytes words
         ≡ letters.quoted text.now ++ codes " isn't an address with a port, such as 192.168.1.20:4711") }
@@ -37,7 +37,7 @@ fn no_address_words(alloc: Global, text: &str) -> Result<String, AllocError>
     Ok(words)
 }
 
-/// Puts that a text is no address, if it isn't.
+/// Appends the fault that a text, if there is one, isn't an address.
 fn put_text(
     alloc: Global,
     out: &mut Vec<Fault>,
@@ -63,7 +63,7 @@ fn put_text(
     )
 }
 
-/// Puts it of each of these.
+/// Appends a fault for each of these texts that isn't an address.
 fn put_each(
     alloc: Global,
     out: &mut Vec<Fault>,
@@ -79,7 +79,7 @@ fn put_each(
     put_each(alloc, out, more)
 }
 
-/// Puts which texts of the table are no addresses.
+/// Appends a fault for each desk's or board's text in the table of stations that isn't an address.
 fn put_table(alloc: Global, out: &mut Vec<Fault>, table: &Table) -> Result<(), AllocError>
     ensures { PutsSuch result out.old out.new (laws.TellsEach (laws.addressed (table_view table.now))) }
 {
@@ -94,7 +94,7 @@ fn put_table(alloc: Global, out: &mut Vec<Fault>, table: &Table) -> Result<(), A
     put_each(alloc, out, &texts)
 }
 
-/// The same of a sheet's table.
+/// Appends a fault for each text that isn't an address in the table of stations, if the sheet has one.
 pub fn put_addresses(alloc: Global, out: &mut Vec<Fault>, table: &Table) -> Result<(), AllocError>
     ensures { PutsSuch result out.old out.new (laws.TellsAddresses (table_view table.now)) }
 {

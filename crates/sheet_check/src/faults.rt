@@ -1,4 +1,4 @@
-//! All that is wrong with a sheet's table, key by key.
+//! All faults of a sheet's table, key by key.
 
 ghost use Rattle.std.specs.Prelude.{◌≡◌, ◌++◌, codes, decimal, option_map, string_bytes, IfOk};
 ghost use Rattle.toml.specs.Data.{get_member};
@@ -14,10 +14,10 @@ use cards::SheetFault;
 use std::alloc::{AllocError, Global};
 use toml::{Table, Value};
 
-/// The most bytes of a title.
+/// The greatest length of a title in bytes.
 const LONGEST_TITLE: usize = 60;
 
-/// The value at a key of a table.
+/// Returns the value at a key of a table, if there is one.
 pub fn value_in<'a>(table: &'a Table, key: &str) -> Option<&'a Value>
     ensures { option_map (λ value. view value.now) result ≡ get_member key.now (table_view table.now) }
 {
@@ -27,7 +27,7 @@ pub fn value_in<'a>(table: &'a Table, key: &str) -> Option<&'a Value>
     }
 }
 
-/// What is told of a text that is too long.
+/// Returns the words for a text that is too long.
 fn long_words(alloc: Global, most: usize, text: &str) -> Result<String, AllocError>
     ensures { IfOk result (λ words. string_bytes words
         ≡ letters.quoted text.now ++ codes ": longer than " ++ decimal most ++ codes " letters") }
@@ -40,7 +40,7 @@ fn long_words(alloc: Global, most: usize, text: &str) -> Result<String, AllocErr
     Ok(words)
 }
 
-/// What is told of one with letters that aren't plain.
+/// Returns the words for a text with letters that aren't plain.
 fn odd_words(alloc: Global, text: &str) -> Result<String, AllocError>
     ensures { IfOk result (λ words. string_bytes words
         ≡ letters.quoted text.now ++ codes ": " ++ letters.odd_letters text.now ++ codes "isn't plain") }
@@ -54,7 +54,7 @@ fn odd_words(alloc: Global, text: &str) -> Result<String, AllocError>
     Ok(words)
 }
 
-/// Puts what is wrong with a text.
+/// Appends the faults of a text: it is empty, is longer than `most` bytes, or has letters that aren't plain.
 pub fn put_text_faults(
     alloc: Global,
     out: &mut Vec<Fault>,
@@ -72,7 +72,7 @@ pub fn put_text_faults(
     put_unless(alloc, out, are_plain(text), why, place, odd.as_str())
 }
 
-/// Puts what is wrong with the text there.
+/// Appends the faults of a value that must be a text, or that the value is absent.
 pub fn put_text(
     alloc: Global,
     out: &mut Vec<Fault>,
@@ -91,7 +91,7 @@ pub fn put_text(
     }
 }
 
-/// Whether a number is from low to high.
+/// Whether a number is from `low` to `high`.
 fn is_from(low: u64, high: u64, number: i64) -> bool
     ensures { result ≡ faults.is_from low high number }
 {
@@ -101,7 +101,7 @@ fn is_from(low: u64, high: u64, number: i64) -> bool
     }
 }
 
-/// Puts what is wrong with the number there.
+/// Appends the fault of a value that must be a whole number from `low` to `high`, or that the value is absent.
 pub fn put_number(
     alloc: Global,
     out: &mut Vec<Fault>,
@@ -130,7 +130,7 @@ pub fn put_number(
     }
 }
 
-/// Puts all that is wrong with a sheet's table.
+/// Appends all faults of a sheet's table.
 pub fn put_faults(alloc: Global, out: &mut Vec<Fault>, table: &Table) -> Result<(), AllocError>
     ensures { Puts result out.old out.new (faults.faults (table_view table.now)) }
 {

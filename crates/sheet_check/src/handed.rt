@@ -1,4 +1,4 @@
-//! What a sheet's document hands on to archives and pages, and what is wrong with it.
+//! The parts of a sheet's document that are passed on to archives and pages, and their faults.
 
 ghost use Rattle.std.specs.Prelude.{◌≡◌, option_and_then, option_map};
 ghost use Rattle.toml.specs.View.{table_view, view};
@@ -14,14 +14,14 @@ use std::str::FromStr;
 use toml::value::{Date, Datetime};
 use toml::{Table, Value};
 
-/// What the table `[meta]` of a sheet's document has at a key.
+/// Returns the value at a key of the table `[meta]` of a sheet's document, if there is one.
 pub fn meta_at<'a>(document: &'a Table, key: &str) -> Option<&'a Value>
     ensures { option_map (λ value. view value.now) result ≡ laws.meta_at key.now (table_view document.now) }
 {
     value_in(value_in(document, "meta")?.as_table()?, key)
 }
 
-/// A day alone, with no time of it.
+/// Returns the date of a date without a time or an offset.
 fn local_date(datetime: Datetime) -> Option<Date>
     ensures { result ≡ laws.local_date datetime }
 {
@@ -32,7 +32,7 @@ fn local_date(datetime: Datetime) -> Option<Date>
     }
 }
 
-/// The day that a text is.
+/// Reads a text as a day.
 fn day_in(text: &str) -> Option<Date>
     ensures { result ≡ option_and_then laws.local_date (parse_datetime text.now) }
 {
@@ -42,7 +42,7 @@ fn day_in(text: &str) -> Option<Date>
     }
 }
 
-/// The day that a value tells: a date, or a text that is one.
+/// Reads a value as a day: a date, or a text that is one.
 pub fn day_of(value: &Value) -> Option<Date>
     ensures { result ≡ laws.day_of (view value.now) }
 {
@@ -53,7 +53,7 @@ pub fn day_of(value: &Value) -> Option<Date>
     }
 }
 
-/// The revision that a value tells: a whole number from 1 on.
+/// Reads a value as a revision: a whole number from 1 on.
 pub fn revision_of(value: &Value) -> Option<u64>
     ensures { result ≡ laws.revision_of (view value.now) }
 {
@@ -63,7 +63,7 @@ pub fn revision_of(value: &Value) -> Option<u64>
     }
 }
 
-/// Whether a table stands at a key of a document, or nothing.
+/// Whether the value at a key of a document is absent or a table.
 fn has_fine_table(document: &Table, key: &str) -> bool
     ensures { result ≡ laws.has_fine_table key.now (table_view document.now) }
 {
@@ -93,7 +93,7 @@ fn has_fine_revision(document: &Table) -> bool
     }
 }
 
-/// Whether what a document hands on can be.
+/// Whether the parts of a document that are passed on are fine: `[info]`, `[meta]`, and `created` and `revision` in `[meta]`.
 pub fn is_fine_document(document: &Table) -> bool
     ensures { result ≡ laws.is_fine_document (table_view document.now) }
 {
@@ -103,7 +103,7 @@ pub fn is_fine_document(document: &Table) -> bool
         && has_fine_revision(document)
 }
 
-/// Puts that no table stands at a key of a document, if something else does.
+/// Appends the fault that the value at a key of a document isn't a table, if so.
 fn put_table(
     alloc: Global,
     out: &mut Vec<Fault>,
@@ -123,7 +123,7 @@ fn put_table(
     )
 }
 
-/// Puts that `created` in `[meta]` is no day, if it isn't.
+/// Appends the fault that `created` in `[meta]` isn't a day, if so.
 fn put_day(alloc: Global, out: &mut Vec<Fault>, document: &Table) -> Result<(), AllocError>
     ensures { Puts result out.old out.new (laws.day_faults (table_view document.now)) }
 {
@@ -139,7 +139,7 @@ fn put_day(alloc: Global, out: &mut Vec<Fault>, document: &Table) -> Result<(), 
     )
 }
 
-/// Puts that `revision` there is no whole number from 1 on, if it isn't.
+/// Appends the fault that `revision` in `[meta]` isn't a whole number from 1 on, if so.
 fn put_revision(alloc: Global, out: &mut Vec<Fault>, document: &Table) -> Result<(), AllocError>
     ensures { Puts result out.old out.new (laws.revision_faults (table_view document.now)) }
 {
@@ -155,7 +155,7 @@ fn put_revision(alloc: Global, out: &mut Vec<Fault>, document: &Table) -> Result
     )
 }
 
-/// Puts all that is wrong with what a document hands on.
+/// Appends all faults of the parts of a document that are passed on.
 pub fn put_handed(alloc: Global, out: &mut Vec<Fault>, document: &Table) -> Result<(), AllocError>
     ensures { Puts result out.old out.new (laws.handed_faults (table_view document.now)) }
 {

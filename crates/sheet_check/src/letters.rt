@@ -1,4 +1,4 @@
-//! A text of a sheet as it is shown, and its letters that aren't plain.
+//! How a text of a sheet is shown, and which of its letters aren't plain.
 
 ghost use Rattle.std.specs.Prelude.{◌≡◌, ◌++◌, string_bytes, IfOk, OnOk};
 ghost use Rattle.std.specs.Int.{is_in_range};
@@ -8,14 +8,14 @@ ghost use Rattle.sheet_check.specs.Letters as letters;
 
 use std::alloc::{AllocError, Global};
 
-/// Whether a letter's number is one of these.
+/// Whether a letter's number is from `low` to `high`.
 fn is_within(low: u32, high: u32, code: u32) -> bool
     ensures { result ≡ is_in_range low high code }
 {
     low <= code && code <= high
 }
 
-/// Whether a terminal obeys a letter, or it turns or breaks the line in which it is shown.
+/// Whether a letter controls a terminal, or changes the direction of the line in which it is shown or breaks that line.
 fn is_obeyed(letter: char) -> bool
     ensures { result ≡ letters.is_obeyed letter }
 {
@@ -27,7 +27,7 @@ fn is_obeyed(letter: char) -> bool
         || is_within(0x2060, 0x206f, code)
 }
 
-/// Whether a letter is of plain English text.
+/// Whether a letter is plain: printable ASCII.
 fn is_plain(letter: char) -> bool
     ensures { result ≡ is_printable letter }
 {
@@ -35,14 +35,14 @@ fn is_plain(letter: char) -> bool
     32 <= code && code <= 126
 }
 
-/// Whether each letter of a text is.
+/// Whether every letter of a text is plain.
 pub fn are_plain(text: &str) -> bool
     ensures { result ≡ list_all is_printable text.now }
 {
     text.as_bytes().iter().all(|byte| (32..=126).contains(byte))
 }
 
-/// Puts a letter as it is shown behind a text.
+/// Appends a letter as it is shown: `?` for one that a terminal obeys.
 fn push_letter(out: &mut String, letter: char) -> Result<(), AllocError>
     ensures { OnOk result (string_bytes out.new ≡ string_bytes out.old ++ letters.shown_letter letter) }
 {
@@ -53,7 +53,7 @@ fn push_letter(out: &mut String, letter: char) -> Result<(), AllocError>
     }
 }
 
-/// A text as it is shown, without its quotes.
+/// Returns a text as it is shown, without quotes.
 pub fn shown(alloc: Global, text: &str) -> Result<String, AllocError>
     ensures { IfOk result (λ shown. string_bytes shown ≡ letters.shown text.now) }
 {
@@ -64,7 +64,7 @@ pub fn shown(alloc: Global, text: &str) -> Result<String, AllocError>
     Ok(out)
 }
 
-/// Puts a text in quotes behind another.
+/// Appends a text as it is shown, in quotes.
 pub fn push_quoted(alloc: Global, out: &mut String, text: &str) -> Result<(), AllocError>
     ensures { OnOk result (string_bytes out.new ≡ string_bytes out.old ++ letters.quoted text.now) }
 {
@@ -74,7 +74,7 @@ pub fn push_quoted(alloc: Global, out: &mut String, text: &str) -> Result<(), Al
     out.push_str("\"")
 }
 
-/// Puts a letter that isn't plain behind a text, and a blank.
+/// Appends a letter that isn't plain, followed by a space; nothing for a plain letter.
 fn push_odd(out: &mut String, letter: char) -> Result<(), AllocError>
     ensures { OnOk result (string_bytes out.new ≡ string_bytes out.old ++ letters.odd_letter letter) }
 {
@@ -88,7 +88,7 @@ fn push_odd(out: &mut String, letter: char) -> Result<(), AllocError>
     out.push_str(" ")
 }
 
-/// The letters of a text that aren't plain.
+/// Returns the letters of a text that aren't plain, each followed by a space.
 pub fn odd_letters(alloc: Global, text: &str) -> Result<String, AllocError>
     ensures { IfOk result (λ odd. string_bytes odd ≡ letters.odd_letters text.now) }
 {

@@ -1,4 +1,4 @@
-//! What a match sheet has, and all that is wrong with one, in a scorer's words.
+//! The contents of a match sheet, and all its faults, in a scorer's words.
 #![tactic(auto)]
 
 mod addresses;

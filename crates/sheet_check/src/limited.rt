@@ -1,4 +1,4 @@
-//! What is wrong with a sheet's table of limits.
+//! The faults of a sheet's table of limits.
 
 ghost use Rattle.std.specs.Prelude.{◌≡◌, ◌++◌, codes, string_bytes, IfOk};
 ghost use Rattle.toml.specs.View.{table_view};
@@ -15,7 +15,7 @@ use limits::{Key, Unfit, why_unfit};
 use std::alloc::{AllocError, Global};
 use toml::Table;
 
-/// Where a key is told.
+/// Returns where a key is, as reports name it.
 fn place(key: Key) -> &'static str
     ensures { result.now ≡ laws.place key }
 {
@@ -28,7 +28,7 @@ fn place(key: Key) -> &'static str
     }
 }
 
-/// What is told of a key that is of another kind.
+/// Returns the words for a key whose value is of another kind.
 fn kind_words(key: Key) -> &'static str
     ensures { result.now ≡ laws.kind_words key }
 {
@@ -41,7 +41,7 @@ fn kind_words(key: Key) -> &'static str
     }
 }
 
-/// What is told of a number that is out of its range.
+/// Returns the words for a key with a number that is out of its range.
 fn range_words(key: Key) -> &'static str
     ensures { result.now ≡ laws.range_words key }
 {
@@ -51,7 +51,7 @@ fn range_words(key: Key) -> &'static str
     }
 }
 
-/// Puts that a key can't be what it says, if it can't.
+/// Appends the fault that the value of a key is unfit, if it is.
 fn put_key(
     alloc: Global,
     out: &mut Vec<Fault>,
@@ -78,7 +78,7 @@ fn is_key(key: &str) -> bool
     key == "overs" || key == "overs_a_bowler" || key == "free_hits" || key == "powerplays"
 }
 
-/// What is told of a key that the table doesn't have.
+/// Returns the words for a key that the table can't have.
 fn unknown_words(alloc: Global, key: &str) -> Result<String, AllocError>
     ensures { IfOk result (λ words. string_bytes words
         ≡ quoted key.now ++ codes " isn't one of overs, overs_a_bowler, free_hits, powerplays") }
@@ -89,7 +89,7 @@ fn unknown_words(alloc: Global, key: &str) -> Result<String, AllocError>
     Ok(words)
 }
 
-/// Puts that the table doesn't have a key, if it doesn't.
+/// Appends the fault that the table can't have a key, if so.
 fn put_unknown(alloc: Global, out: &mut Vec<Fault>, key: &str) -> Result<(), AllocError>
     ensures { Puts result out.old out.new (laws.unknown_of key.now) }
 {
@@ -98,7 +98,7 @@ fn put_unknown(alloc: Global, out: &mut Vec<Fault>, key: &str) -> Result<(), All
     put_unless(alloc, out, is_key(key), why, "limits", words.as_str())
 }
 
-/// Puts it of each key.
+/// Appends a fault for each key that the table can't have.
 fn put_unknowns(alloc: Global, out: &mut Vec<Fault>, table: &Table) -> Result<(), AllocError>
     ensures { Puts result out.old out.new (laws.unknown_faults (table_view table.now)) }
 {
@@ -108,7 +108,7 @@ fn put_unknowns(alloc: Global, out: &mut Vec<Fault>, table: &Table) -> Result<()
     Ok(())
 }
 
-/// The same, in a sheet that may have no such table.
+/// Appends a fault for each key that the table of limits can't have, if the sheet has that table.
 fn put_unknowns_in(alloc: Global, out: &mut Vec<Fault>, document: &Table) -> Result<(), AllocError>
     ensures { Puts result out.old out.new (laws.unknown_in (table_of (table_view document.now))) }
 {
@@ -121,7 +121,7 @@ fn put_unknowns_in(alloc: Global, out: &mut Vec<Fault>, document: &Table) -> Res
     }
 }
 
-/// Puts all that is wrong with what a sheet limits, by its table.
+/// Appends all faults of a sheet's limits.
 pub fn put_limits(alloc: Global, out: &mut Vec<Fault>, document: &Table) -> Result<(), AllocError>
     ensures { Puts result out.old out.new (laws.limit_faults (table_view document.now)) }
 {

@@ -1,4 +1,4 @@
-//! Faults, each put behind those before it.
+//! Appending faults to a list.
 
 ghost use Rattle.std.specs.Prelude.{◌≡◌, ◌∷◌, [], ◌++◌, decimal, string_bytes, IfOk, OnOk};
 ghost use Rattle.sheet_check.specs.Faults as faults;
@@ -8,14 +8,14 @@ use cards::SheetFault;
 use itoa::Buffer;
 use std::alloc::{AllocError, Global};
 
-/// One thing that is wrong with a sheet: by which number it is told, and in which words.
+/// A fault of a sheet: the kind, which gives its number, and the words in which it is reported.
 #[derive(Drop)]
 pub struct Fault {
     pub why: SheetFault,
     pub words: String,
 }
 
-/// Puts a fault: why, where it is, and what it is.
+/// Appends a fault: its kind, where it is, and its words.
 pub fn put_fault(
     alloc: Global,
     out: &mut Vec<Fault>,
@@ -31,7 +31,7 @@ pub fn put_fault(
     Ok(())
 }
 
-/// Puts it, unless this holds.
+/// Appends a fault unless `holds`.
 pub fn put_unless(
     alloc: Global,
     out: &mut Vec<Fault>,
@@ -48,7 +48,7 @@ pub fn put_unless(
     put_fault(alloc, out, why, place, words)
 }
 
-/// Puts that a value is of another kind.
+/// Appends the fault that a value is of another kind.
 pub fn put_kind(
     alloc: Global,
     out: &mut Vec<Fault>,
@@ -60,14 +60,14 @@ pub fn put_kind(
     put_fault(alloc, out, SheetFault::WrongKind, place, words)
 }
 
-/// Puts that what has to be somewhere isn't there.
+/// Appends the fault that a required value isn't there.
 pub fn put_absent(alloc: Global, out: &mut Vec<Fault>, place: &str) -> Result<(), AllocError>
     ensures { Puts result out.old out.new (faults.absent place.now) }
 {
     put_fault(alloc, out, SheetFault::MissingKey, place, "isn't there")
 }
 
-/// Puts a number behind a text.
+/// Appends a number to a text.
 pub fn push_number(out: &mut String, number: u64) -> Result<(), AllocError>
     ensures { OnOk result (string_bytes out.new ≡ string_bytes out.old ++ decimal number) }
 {
@@ -75,7 +75,7 @@ pub fn push_number(out: &mut String, number: u64) -> Result<(), AllocError>
     out.push_str(buffer.format(number))
 }
 
-/// A text of two.
+/// Returns the two texts joined.
 pub fn joined(alloc: Global, front: &str, back: &str) -> Result<String, AllocError>
     ensures { IfOk result (λ text. string_bytes text ≡ front.now ++ back.now) }
 {

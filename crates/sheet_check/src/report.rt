@@ -1,4 +1,4 @@
-//! All that is wrong with the text of a sheet.
+//! Reports of all faults in the text of a sheet.
 
 ghost use Rattle.std.specs.Prelude.{◌≡◌, List, map, string_bytes, IfOk};
 ghost use Rattle.toml.specs.View.{table_view};
@@ -15,7 +15,7 @@ use crate::stations::put_stations;
 use std::alloc::{AllocError, Global};
 use toml::Table;
 
-/// In which line of a text a byte of it is, counted from 1.
+/// Returns the number, from 1, of the line that holds the byte at this index of a text.
 fn line_at(text: &[u8], index: usize) -> usize {
     let mut line = 1usize;
     for byte in text.iter().take(index) {
@@ -26,7 +26,7 @@ fn line_at(text: &[u8], index: usize) -> usize {
     line
 }
 
-/// What is told of a text that is no TOML: in which line, and why.
+/// Returns the report of a text that is not TOML: the number of the line, and why.
 fn toml_line(alloc: Global, line: usize, why: &str) -> Result<String, AllocError>
     ensures { IfOk result (λ text. IsTomlLine (string_bytes text)) }
 {
@@ -38,7 +38,7 @@ fn toml_line(alloc: Global, line: usize, why: &str) -> Result<String, AllocError
     Ok(out)
 }
 
-/// Why nothing begins with a sheet, by its table: all that is wrong with it and its stations.
+/// Returns the faults for which nothing begins with a sheet: all faults of the sheet itself and of its stations.
 pub fn faults_of(alloc: Global, table: &Table) -> Result<Vec<Fault>, AllocError>
     ensures { IfOk result (λ faults. faults_in faults ≡ begin_faults (table_view table.now)) }
 {
@@ -48,7 +48,7 @@ pub fn faults_of(alloc: Global, table: &Table) -> Result<Vec<Fault>, AllocError>
     Ok(out)
 }
 
-/// The lines of these faults.
+/// Returns the lines of these faults.
 fn lines_of(alloc: Global, faults: &[Fault]) -> Result<String, AllocError>
     ensures { IfOk result (λ text. string_bytes text ≡ told (map fault_of faults.now)) }
 {
@@ -60,7 +60,7 @@ fn lines_of(alloc: Global, faults: &[Fault]) -> Result<String, AllocError>
     Ok(out)
 }
 
-/// What is told of a sheet's table.
+/// Returns the report of a sheet's table.
 fn table_report(alloc: Global, table: &Table) -> Result<String, AllocError>
     ensures { IfOk result (λ report. (all : List faults.Fault) × AreAllFaults (table_view table.now) all × (string_bytes report ≡ told all)) }
 {
@@ -71,7 +71,7 @@ fn table_report(alloc: Global, table: &Table) -> Result<String, AllocError>
     lines_of(alloc, faults.as_slice())
 }
 
-/// What is told of what a sheet's table hands on.
+/// Returns the report of what a sheet's table passes on to archives and pages.
 fn handed_report(alloc: Global, table: &Table) -> Result<String, AllocError>
     ensures { IfOk result (λ report. string_bytes report ≡ told (handed_faults (table_view table.now))) }
 {
@@ -80,8 +80,8 @@ fn handed_report(alloc: Global, table: &Table) -> Result<String, AllocError>
     lines_of(alloc, faults.as_slice())
 }
 
-/// All that is wrong with a sheet, its table of stations, what it limits and what it hands on, a line each; without a byte where
-/// that is nothing.
+/// Reports all faults of a sheet, its table of stations, its limits and what it passes on, one line each. The report is empty
+/// if there are none. It fails if an allocation fails.
 pub fn report_of(alloc: Global, text: &[u8]) -> Result<String, AllocError>
     ensures { IfOk result (λ report. IsReport text.now (string_bytes report)) }
 {
@@ -94,7 +94,7 @@ pub fn report_of(alloc: Global, text: &[u8]) -> Result<String, AllocError>
     }
 }
 
-/// All that is wrong with what a sheet hands on to archives and pages, likewise.
+/// Reports all faults of what a sheet passes on to archives and pages, as `report_of` does.
 pub fn handed_report_of(alloc: Global, text: &[u8]) -> Result<String, AllocError>
     ensures { IfOk result (λ report. IsHandedReport text.now (string_bytes report)) }
 {
@@ -107,7 +107,7 @@ pub fn handed_report_of(alloc: Global, text: &[u8]) -> Result<String, AllocError
     }
 }
 
-/// The first line of a report, without its end.
+/// Returns the first line of a report, without its newline.
 pub fn first_line(report: &str) -> &str {
     match report.split_once('\n') {
         Some((line, _)) => line,

@@ -1,4 +1,4 @@
-//! A sheet as it was read.
+//! The rows that show a sheet as it was read.
 
 ghost use Rattle.std.specs.Prelude.{◌≡◌, ◌++◌, codes, decimal, string_bytes, true, IfOk, OnOk};
 ghost use Rattle.std.specs.List.{list_all};
@@ -11,7 +11,7 @@ use limits::{Limits, Powerplay};
 use notation::{Player, Side};
 use std::alloc::{AllocError, Global};
 
-/// Puts a row behind others: what it is, and its text.
+/// Appends a row: its label and its text.
 fn push_row(out: &mut String, what: &str, text: &str) -> Result<(), AllocError>
     ensures { OnOk result (string_bytes out.new ≡ string_bytes out.old ++ texts.row what.now text.now) }
 {
@@ -21,7 +21,7 @@ fn push_row(out: &mut String, what: &str, text: &str) -> Result<(), AllocError>
     out.push_str("\n")
 }
 
-/// A number as text.
+/// Returns a number as a text.
 fn number_text(alloc: Global, number: u64) -> Result<String, AllocError>
     ensures { IfOk result (λ text. string_bytes text ≡ decimal number) }
 {
@@ -30,7 +30,7 @@ fn number_text(alloc: Global, number: u64) -> Result<String, AllocError>
     Ok(text)
 }
 
-/// Puts the players of these numbers.
+/// Appends a row for each player of these numbers.
 fn push_players(
     alloc: Global,
     out: &mut String,
@@ -52,7 +52,7 @@ fn push_players(
     push_players(alloc, out, sheet, side, more)
 }
 
-/// Puts a side: its name, and its players.
+/// Appends the rows of a side: its name and its players.
 fn push_team(
     alloc: Global,
     out: &mut String,
@@ -72,7 +72,7 @@ fn push_team(
     )
 }
 
-/// Puts a row with a number.
+/// Appends a row with a number.
 fn push_figure(alloc: Global, out: &mut String, what: &str, number: u16) -> Result<(), AllocError>
     ensures { OnOk result (string_bytes out.new ≡ string_bytes out.old ++ texts.row what.now (decimal number)) }
 {
@@ -80,7 +80,7 @@ fn push_figure(alloc: Global, out: &mut String, what: &str, number: u16) -> Resu
     push_row(out, what, text.as_str())
 }
 
-/// Puts the overs of each innings.
+/// Appends a row for the overs of each innings.
 fn push_overs(alloc: Global, out: &mut String, overs: &[u16]) -> Result<(), AllocError>
     ensures { OnOk result (string_bytes out.new ≡ string_bytes out.old ++ texts.overs_rows overs.now) }
 {
@@ -91,7 +91,7 @@ fn push_overs(alloc: Global, out: &mut String, overs: &[u16]) -> Result<(), Allo
     push_overs(alloc, out, more)
 }
 
-/// Puts the overs of a bowler, if they are limited.
+/// Appends a row for the overs of a bowler, if they are limited.
 fn push_bowler(alloc: Global, out: &mut String, overs: Option<u16>) -> Result<(), AllocError>
     ensures { OnOk result (string_bytes out.new ≡ string_bytes out.old ++ texts.bowler_row overs) }
 {
@@ -101,7 +101,7 @@ fn push_bowler(alloc: Global, out: &mut String, overs: Option<u16>) -> Result<()
     }
 }
 
-/// Puts that there are free hits, if there are.
+/// Appends a row for free hits, if there are any.
 fn push_free(out: &mut String, free_hits: bool) -> Result<(), AllocError>
     ensures { OnOk result (string_bytes out.new ≡ string_bytes out.old ++ texts.free_row free_hits) }
 {
@@ -122,7 +122,7 @@ fn push_powerplay(alloc: Global, out: &mut String, powerplay: Powerplay) -> Resu
     push_row(out, "powerplay", text.as_str())
 }
 
-/// Puts each powerplay.
+/// Appends a row for each powerplay.
 fn push_powerplays(
     alloc: Global,
     out: &mut String,
@@ -137,7 +137,7 @@ fn push_powerplays(
     push_powerplays(alloc, out, more)
 }
 
-/// Puts what a sheet limits.
+/// Appends the rows of a sheet's limits.
 fn push_limits(alloc: Global, out: &mut String, limits: &Limits) -> Result<(), AllocError>
     ensures { OnOk result (string_bytes out.new ≡ string_bytes out.old ++ texts.limits_rows limits.now) }
 {
@@ -147,7 +147,7 @@ fn push_limits(alloc: Global, out: &mut String, limits: &Limits) -> Result<(), A
     push_powerplays(alloc, out, limits.powerplays())
 }
 
-/// A sheet as it was read.
+/// Returns the rows of a sheet as it was read.
 pub fn shown_sheet(alloc: Global, sheet: &MatchSheet) -> Result<String, AllocError>
     ensures { IfOk result (λ text. string_bytes text ≡ texts.shown_sheet sheet.now) }
 {

@@ -1,4 +1,4 @@
-//! What is wrong with a side of a sheet: its name and its players.
+//! The faults of a side of a sheet, in its name and its players.
 
 ghost use Rattle.std.specs.Prelude.{◌≡◌, ◌≤◌, ◌<◌, ◌+◌, ◌^◌, ◌++◌, codes, decimal, length, option_map, string_bytes, IfOk, Some};
 ghost use Rattle.toml.specs.Data.{as_str};
@@ -13,13 +13,13 @@ use cards::SheetFault;
 use std::alloc::{AllocError, Global};
 use toml::{Table, Value};
 
-/// The most bytes of a name.
+/// The greatest length of a name in bytes.
 const LONGEST_NAME: usize = 16;
 
-/// How many players a side has.
+/// The number of players of a side.
 const PLAYERS: usize = 11;
 
-/// The place of a player.
+/// Returns where a player is in the sheet: the side, and the player's number.
 fn player_place(alloc: Global, side: &str, number: u64) -> Result<String, AllocError>
     ensures { IfOk result (λ place. string_bytes place ≡ faults.player side.now number) }
 {
@@ -29,7 +29,7 @@ fn player_place(alloc: Global, side: &str, number: u64) -> Result<String, AllocE
     Ok(place)
 }
 
-/// Puts that a player is no text, if he isn't.
+/// Appends the fault that a player isn't a text, if so.
 fn put_player_kind(
     alloc: Global,
     out: &mut Vec<Fault>,
@@ -46,7 +46,7 @@ fn put_player_kind(
     }
 }
 
-/// Puts which players from this number on are no texts.
+/// Appends a fault for each player, from this number on, that isn't a text.
 fn put_kinds(
     alloc: Global,
     out: &mut Vec<Fault>,
@@ -64,7 +64,7 @@ fn put_kinds(
     put_kinds(alloc, out, side, number + 1, more)
 }
 
-/// Puts what is wrong with a player's name, where it is a text.
+/// Appends the faults of a player's name, if it is a text.
 fn put_name(
     alloc: Global,
     out: &mut Vec<Fault>,
@@ -81,7 +81,7 @@ fn put_name(
     put_text_faults(alloc, out, LONGEST_NAME, place.as_str(), text)
 }
 
-/// Puts what is wrong with the names of the players from this number on.
+/// Appends the faults of the names of the players from this number on.
 fn put_names(
     alloc: Global,
     out: &mut Vec<Fault>,
@@ -99,7 +99,7 @@ fn put_names(
     put_names(alloc, out, side, number + 1, more)
 }
 
-/// What is told of players who aren't eleven.
+/// Returns the words for a number of players that isn't eleven.
 fn count_words(alloc: Global, count: usize) -> Result<String, AllocError>
     ensures { IfOk result (λ words. string_bytes words ≡ codes "are " ++ decimal count ++ codes ", and not 11") }
 {
@@ -109,7 +109,7 @@ fn count_words(alloc: Global, count: usize) -> Result<String, AllocError>
     Ok(words)
 }
 
-/// How many items there are.
+/// Returns the number of items.
 #[tactic(auto, using(crate::proofs::Items::count_items))]
 pub fn count_of(items: &[Value]) -> usize
     ensures { result ≡ count_of (items_view items.now) }
@@ -117,7 +117,7 @@ pub fn count_of(items: &[Value]) -> usize
     items.len()
 }
 
-/// Puts that the players aren't eleven, if they aren't.
+/// Appends the fault that there aren't eleven players, if so.
 fn put_count(
     alloc: Global,
     out: &mut Vec<Fault>,
@@ -133,7 +133,7 @@ fn put_count(
     put_unless(alloc, out, count == PLAYERS, why, place, words.as_str())
 }
 
-/// Puts what is wrong with the players of a side.
+/// Appends the faults of a side's list of players: their count, then those that aren't texts, then those of their names.
 fn put_items(
     alloc: Global,
     out: &mut Vec<Fault>,
@@ -149,7 +149,7 @@ fn put_items(
     put_names(alloc, out, side, 1, items)
 }
 
-/// Puts what is wrong with the players there.
+/// Appends the faults of the value of a side's `players`.
 fn put_players(
     alloc: Global,
     out: &mut Vec<Fault>,
@@ -168,7 +168,7 @@ fn put_players(
     }
 }
 
-/// Puts what is wrong with a side's table.
+/// Appends the faults of a side's table.
 fn put_table(
     alloc: Global,
     out: &mut Vec<Fault>,
@@ -188,7 +188,7 @@ fn put_table(
     put_players(alloc, out, side, value_in(table, "players"))
 }
 
-/// Puts what is wrong with the side there.
+/// Appends the faults of the value of a side.
 pub fn put_side(
     alloc: Global,
     out: &mut Vec<Fault>,

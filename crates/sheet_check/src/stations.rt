@@ -1,4 +1,4 @@
-//! What is wrong with a sheet's table of stations.
+//! The faults of a sheet's table of stations.
 
 ghost use Rattle.std.specs.Prelude.{◌≡◌, ◌++◌, codes, option_map, string_bytes, IfOk, Some};
 ghost use Rattle.toml.specs.Data.{as_array, as_str};
@@ -16,7 +16,7 @@ use cards::SheetFault;
 use std::alloc::{AllocError, Global};
 use toml::{Table, Value};
 
-/// How many boards a desk has at most.
+/// The greatest number of boards of a desk.
 const MOST_BOARDS: usize = 4;
 
 /// Whether the value of a key is the name of a copy.
@@ -33,7 +33,7 @@ fn is_text_key(key: &str) -> bool
     key == "a" || key == "b" || key == "key" || key == "votes" || is_copy_key(key)
 }
 
-/// Puts that the value of a key is no text, if it isn't.
+/// Appends the fault that the value of a key isn't a text, if so.
 fn put_text_key(
     alloc: Global,
     out: &mut Vec<Fault>,
@@ -49,7 +49,7 @@ fn put_text_key(
     }
 }
 
-/// Whether all of these are texts.
+/// Whether all items are texts.
 fn are_texts(items: &[Value]) -> bool
     ensures { result ≡ stations.are_texts (items_view items.now) }
 {
@@ -59,7 +59,7 @@ fn are_texts(items: &[Value]) -> bool
     }
 }
 
-/// Puts what is wrong with the boards.
+/// Appends the faults of the list of boards.
 fn put_items(alloc: Global, out: &mut Vec<Fault>, items: &[Value]) -> Result<(), AllocError>
     ensures { Puts result out.old out.new (stations.boards_faults (Some (items_view items.now))) }
 {
@@ -78,7 +78,7 @@ fn put_items(alloc: Global, out: &mut Vec<Fault>, items: &[Value]) -> Result<(),
     put_unless(alloc, out, are_few, why, place, "are more than 4")
 }
 
-/// The same, where they are a list.
+/// Appends the faults of the value of `boards`.
 fn put_boards(alloc: Global, out: &mut Vec<Fault>, value: &Value) -> Result<(), AllocError>
     ensures { Puts result out.old out.new (stations.boards_faults (as_array (view value.now))) }
 {
@@ -93,7 +93,7 @@ fn put_boards(alloc: Global, out: &mut Vec<Fault>, value: &Value) -> Result<(), 
     }
 }
 
-/// Puts what is wrong with how wide a scorer's rows are.
+/// Appends the fault of the width of a scorer's rows, which must be 60 to 200 columns.
 fn put_columns(alloc: Global, out: &mut Vec<Fault>, value: &Value) -> Result<(), AllocError>
     ensures { Puts result out.old out.new (stations.columns_faults (view value.now)) }
 {
@@ -101,7 +101,7 @@ fn put_columns(alloc: Global, out: &mut Vec<Fault>, value: &Value) -> Result<(),
     put_number(alloc, out, 60, 200, "stations, columns", words, Some(value))
 }
 
-/// What is told of a key that the table doesn't have.
+/// Returns the words for a key that the table can't have.
 fn unknown_words(alloc: Global, key: &str) -> Result<String, AllocError>
     ensures { IfOk result (λ words. string_bytes words
         ≡ letters.quoted key.now ++ codes " isn't one of a, b, boards, key, votes, copy, copy_a, copy_b, columns") }
@@ -112,7 +112,7 @@ fn unknown_words(alloc: Global, key: &str) -> Result<String, AllocError>
     Ok(words)
 }
 
-/// Puts what is wrong with a key and its value.
+/// Appends the faults of a key and its value.
 fn put_key(alloc: Global, out: &mut Vec<Fault>, key: &str, value: &Value) -> Result<(), AllocError>
     ensures { Puts result out.old out.new (stations.key_faults key.now (view value.now)) }
 {
@@ -129,7 +129,7 @@ fn put_key(alloc: Global, out: &mut Vec<Fault>, key: &str, value: &Value) -> Res
     put_kind(alloc, out, "stations", words.as_str())
 }
 
-/// Puts what is wrong with each key of the table.
+/// Appends the faults of each key of the table.
 fn put_members(alloc: Global, out: &mut Vec<Fault>, table: &Table) -> Result<(), AllocError>
     ensures { Puts result out.old out.new (stations.members_faults (table_view table.now)) }
 {
@@ -139,7 +139,7 @@ fn put_members(alloc: Global, out: &mut Vec<Fault>, table: &Table) -> Result<(),
     Ok(())
 }
 
-/// Puts what is wrong with each key, and then what stands twice.
+/// Appends the faults of each key, and then the duplicates.
 fn put_table(alloc: Global, out: &mut Vec<Fault>, table: &Table) -> Result<(), AllocError>
     ensures { Puts result out.old out.new (stations.table_faults (Some (table_view table.now))) }
 {
@@ -147,7 +147,7 @@ fn put_table(alloc: Global, out: &mut Vec<Fault>, table: &Table) -> Result<(), A
     put_all_twice(alloc, out, table)
 }
 
-/// Puts all that is wrong with the stations of a sheet's table.
+/// Appends all faults of the table of stations, if the sheet has one.
 pub fn put_stations(alloc: Global, out: &mut Vec<Fault>, table: &Table) -> Result<(), AllocError>
     ensures { Puts result out.old out.new (stations.station_faults (table_view table.now)) }
 {

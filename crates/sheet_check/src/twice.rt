@@ -1,4 +1,4 @@
-//! What stands twice in a sheet's table of stations: an address of two stations, a copy that is another of the desks' files.
+//! Duplicates in a sheet's table of stations: an address of two stations, or a copy that is another of the desks' files.
 
 ghost use Rattle.std.specs.Prelude.{◌≡◌, ◌++◌, map, option_map, string_bytes, IfOk};
 ghost use Rattle.toml.specs.View.{table_view};
@@ -13,21 +13,21 @@ use cards::SheetFault;
 use std::alloc::{AllocError, Global};
 use toml::Table;
 
-/// The text at a key of the table.
+/// Returns the text at a key of the table, if there is one.
 pub fn text_in<'a>(table: &'a Table, key: &str) -> Option<&'a str>
     ensures { option_map (λ text. text.now) result ≡ twice.text_in key.now (table_view table.now) }
 {
     value_in(table, key)?.as_str()
 }
 
-/// The address of a board in it, counted from 0.
+/// Returns the address of a board in the table, counted from 0, if there is one.
 pub fn board_in(table: &Table, index: usize) -> Option<&str>
     ensures { option_map (λ text. text.now) result ≡ twice.board_in index (table_view table.now) }
 {
     value_in(table, "boards")?.get(index)?.as_str()
 }
 
-/// Whether one of these texts is this one.
+/// Whether `text` is among these texts.
 fn is_among(text: &str, others: &[Option<&str>]) -> bool
     ensures { result ≡ twice.is_among text.now (map (λ other. option_map (λ text. text.now) other) others.now) }
 {
@@ -38,7 +38,7 @@ fn is_among(text: &str, others: &[Option<&str>]) -> bool
     }
 }
 
-/// What is told of a text.
+/// Returns the text in quotes, followed by the words.
 fn told_of(alloc: Global, text: &str, words: &str) -> Result<String, AllocError>
     ensures { IfOk result (λ told. string_bytes told ≡ letters.quoted text.now ++ words.now) }
 {
@@ -48,7 +48,7 @@ fn told_of(alloc: Global, text: &str, words: &str) -> Result<String, AllocError>
     Ok(told)
 }
 
-/// Puts that a text is one of these too, if it is.
+/// Appends the fault that a text, if there is one, is also among the others.
 fn put_twice(
     alloc: Global,
     out: &mut Vec<Fault>,
@@ -75,7 +75,7 @@ fn put_twice(
     )
 }
 
-/// Puts which stations have one address.
+/// Appends a fault for each station that has another station's address.
 fn put_addresses(alloc: Global, out: &mut Vec<Fault>, table: &Table) -> Result<(), AllocError>
     ensures { Puts result out.old out.new (twice.addresses_twice (table_view table.now)) }
 {
@@ -101,7 +101,7 @@ fn put_addresses(alloc: Global, out: &mut Vec<Fault>, table: &Table) -> Result<(
     )
 }
 
-/// The votes file of a desk: the one that is named, or else its own.
+/// Returns the votes file of a desk: the one that the table names, or else the desk's own.
 fn votes_file<'a>(named: Option<&'a str>, own: &'static str) -> Option<&'a str>
     ensures { option_map (λ text. text.now) result
         ≡ twice.votes_file (option_map (λ text. text.now) named.entry) own.now }
@@ -112,7 +112,7 @@ fn votes_file<'a>(named: Option<&'a str>, own: &'static str) -> Option<&'a str>
     }
 }
 
-/// Puts which copies are another of the desks' files.
+/// Appends a fault for each copy that is another of the desks' files.
 fn put_copies(alloc: Global, out: &mut Vec<Fault>, table: &Table) -> Result<(), AllocError>
     ensures { Puts result out.old out.new (twice.copies_twice (table_view table.now)) }
 {
@@ -135,7 +135,7 @@ fn put_copies(alloc: Global, out: &mut Vec<Fault>, table: &Table) -> Result<(), 
     )
 }
 
-/// Puts all that stands twice in the table.
+/// Appends all duplicates in the table.
 pub fn put_all_twice(alloc: Global, out: &mut Vec<Fault>, table: &Table) -> Result<(), AllocError>
     ensures { Puts result out.old out.new (twice.twice_faults (table_view table.now)) }
 {

@@ -1,4 +1,4 @@
-//! Desks on disks in memory. Where one allocation fails, the call made again gives its answer.
+//! Desks on disks in memory. If one allocation fails, making the call again gives its answer.
 ghost use Rattle.std.specs.Prelude.{◌≡◌, ◌<◌, []};
 ghost use Rattle.notation.specs.Written.{IsEntry};
 
@@ -35,7 +35,7 @@ fn empty_disk(rt: &impl Abort, alloc: Global) -> MemDisk {
     new_disk(alloc, 9000).expect(rt, "room for a disk")
 }
 
-/// Desk A of match 7 on this disk.
+/// Creates desk A of match 7 on this disk.
 fn create(rt: &impl Abort, alloc: Global, disk: MemDisk) -> Made {
     match Desk::create(alloc, disk, DeskId::A, 7, empty_book(rt, alloc)) {
         Err((NO_MEMORY, disk)) => Desk::create(alloc, disk, DeskId::A, 7, empty_book(rt, alloc)),
@@ -43,7 +43,7 @@ fn create(rt: &impl Abort, alloc: Global, disk: MemDisk) -> Made {
     }
 }
 
-/// Desk A of match 7, whose file this is.
+/// Opens desk A of match 7 from its file.
 fn open(rt: &impl Abort, alloc: Global, disk: MemDisk) -> Made {
     match Desk::open(alloc, disk, DeskId::A, 7, empty_book(rt, alloc)) {
         Err((NO_MEMORY, disk)) => Desk::open(alloc, disk, DeskId::A, 7, empty_book(rt, alloc)),
@@ -71,7 +71,7 @@ fn entry(rt: &impl Abort, line: &str) -> Entry
     }
 }
 
-/// The number of the refusal, where the line isn't penned.
+/// Returns the number of the refusal, if the line isn't penned.
 fn refused(rt: &impl Abort, desk: &mut Station, line: &str) -> Option<u8> {
     match desk.pen(&entry(rt, line)) {
         Ok(_) => None,
@@ -79,7 +79,7 @@ fn refused(rt: &impl Abort, desk: &mut Station, line: &str) -> Option<u8> {
     }
 }
 
-/// Desk A pens a line at its position, and hears desk B's vote there for this one.
+/// Pens a line at desk A's position, and then lets it hear desk B's vote for the other line there.
 fn settle(rt: &impl Abort, desk: &mut Station, line: &str, other: &str) -> What {
     let at = desk.position();
     assert!(rt; at.place < PLACES && at.round < ROUNDS);

@@ -1,4 +1,4 @@
-//! How many calls on a stream failed, which clauses alone read. It takes no memory, and has no last value.
+//! How many calls on a stream failed: a count without a maximum that takes no memory and that only clauses read.
 
 ghost use Rattle.std.specs.Prelude.{◌≡◌, suc};
 
@@ -14,7 +14,7 @@ pub enum Failures {
 impl Failures {
     ghost use Rattle.streams.specs.Failures.{failure_count};
 
-    /// These, and one more.
+    /// Returns the count with one more failed call.
     pub fn one_more(&self) -> Failures
         ensures { failure_count result ≡ suc (failure_count self.now) }
     {

@@ -1,4 +1,4 @@
-//! What bytes are read from.
+//! Readers: what bytes are read from.
 
 ghost use Rattle.std.specs.Prelude.{ℕ, List, None, Option, length};
 ghost use Rattle.std.specs.Io.{ReadsAtMost};
@@ -7,15 +7,15 @@ ghost use Rattle.streams.specs.Calls.{Answers, Call, ReadUpTo};
 
 use std::io::{self, Read};
 
-/// A reader, of which it may be known what it was asked for. Each `Read` is one.
+/// A reader whose calls may be known. Every `Read` is a `Feed`.
 pub trait Feed {
-    /// The bytes that reads will give from here on, where they are known.
+    /// The bytes that reads will give from here on, if they are known.
     ghost remaining: { Self → Option (List ℕ) };
 
-    /// What it was asked for and what it answered, the last call first; `None` where that isn't known.
+    /// The reader's calls, the last one first; `None` if they aren't known.
     ghost calls: { Self → Option (List Call) };
 
-    /// One read, as `Read` has it.
+    /// Reads once, as `Read` does.
     fn read(&mut self, buffer: &mut [u8]) -> io::Result<usize>
         ensures bound { ReadsAtMost result buffer.new }
         ensures bytes { ReadConsumes (remaining self.old) (remaining self.new) result buffer.new }

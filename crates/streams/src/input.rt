@@ -1,4 +1,4 @@
-//! The whole of an input, up to a bound.
+//! Reading an input to its end, up to a limit.
 
 ghost use Rattle.std.specs.Prelude.{◌≡◌, ◌≢◌, ◌≤◌, ◌<◌, ◌⊎◌, length, vec_len, IfOk, IfSome};
 ghost use Rattle.streams.specs.Watched.{MeetsFailure, stream_of};
@@ -12,7 +12,7 @@ use thiserror::Error;
 /// Why an input isn't read to its end.
 #[derive(Clone, Copy, Debug, Error)]
 pub enum InputFault {
-    /// Memory was refused.
+    /// Memory ran out.
     #[error("no memory")]
     NoMemory,
     /// A read failed or was interrupted, or the input is longer than 16,777,216 bytes.
@@ -30,7 +30,7 @@ impl From<AllocError> for InputFault {
     }
 }
 
-/// All bytes of a reader that ends within the bound.
+/// Reads a reader to its end. Refuses an input longer than `LONGEST_INPUT` bytes, a failed read and a lack of memory.
 pub fn read_all<R: Feed>(alloc: Global, reader: &mut Watched<R>) -> Result<Vec<u8>, InputFault>
     ensures whole { IfOk result (λ input.
         IfSome (R.remaining (stream_of reader.old)) (λ bytes. input.items ≡ bytes)) }

@@ -1,4 +1,4 @@
-//! Streams: readers and writers that remember how the calls on them ended, and reading to the end within a limit.
+//! Streams: readers and writers that remember whether a call on them failed, and reading to the end within a limit.
 #![tactic(auto)]
 
 mod failures;

@@ -1,4 +1,4 @@
-//! How much is read from the machine.
+//! How much may be read from the machine.
 
-/// The most bytes that one input or one file may have.
+/// The greatest length of an input or a file, in bytes.
 pub const LONGEST_INPUT: usize = 16_777_216;

@@ -1,4 +1,4 @@
--- The text of some words, one behind the other.
+-- The text of words: their parts, one after another.
 use Rattle.std.specs.Prelude.{ℕ, List, ◌++◌, codes, decimal}
 use Rattle.cards.specs.declared.{dismissals.Words.Words, results.ResultWords.ResultWords}
 use Rattle.cards.specs.declared.results.ResultWords.TheVariants.{Plain, Counted}

@@ -1,4 +1,4 @@
--- Where the over that is on begins among what stands.
+-- Where the over in progress begins among the items that stand.
 use Rattle.std.specs.Prelude.{◌≡◌, ℕ, ◌≤◌, Bool, true, false, List, [], ◌∷◌, take, drop, length}
 use Rattle.notation.specs.declared.entry.Plain.{Plain}
 use Rattle.ball_laws.specs.History.{History, open_over, last_called_over}
@@ -6,7 +6,7 @@ use Rattle.corrections.specs.declared.placed.Placed.{Placed}
 use Rattle.corrections.specs.CleanList.{history}
 use Rattle.corrections.specs.Overs.{with_balls}
 
--- no delivery before the item is of an over with one behind it
+-- no over has deliveries both before and after the item
 abbrev pub parts_overs : Plain → Bool
 parts_overs Plain.Over = true
 parts_overs (Plain.Innings side) = true
@@ -23,7 +23,7 @@ abbrev pub is_parted : History → Bool
 is_parted [] = true
 is_parted (x ∷ h) = parts_overs x
 
--- the items from this place on add to the over before it, and part none
+-- the items from this index on only add deliveries to the over that is open before it, and part no overs
 pub record AddFrom (items : List Placed) (from : ℕ) : Type 0 where
   pub within : from ≤ length items
   pub this : with_balls (open_over (history (take from items))) (drop from items) ≡ open_over (history items)

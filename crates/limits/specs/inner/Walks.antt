@@ -1,4 +1,4 @@
--- A walk over what stands, an item at a time.
+-- A walk over the items that stand, one item at a time.
 use Rattle.std.specs.Prelude.{ℕ, ◌+◌, false, ◌||◌, nat_eq, List, [], ◌∷◌}
 use Rattle.notation.specs.declared.entry.Plain.{Plain}
 use Rattle.ball_laws.specs.History.{History, open_over, called_overs}
@@ -7,12 +7,12 @@ use Rattle.ball_laws.specs.Sums.{count_of, one_if}
 use Rattle.corrections.specs.declared.placed.Placed.{Placed}
 use Rattle.limits.specs.declared.bowling.Bowled.{Bowled}
 
--- from a state on, by what each item makes of it
+-- the state after a walk over items: each item makes one step
 abbrev pub walk : {S : Type 0} → (Plain → S → S) → S → List Placed → S
 walk step s [] = s
 walk step s (x ∷ xs) = walk step (step x.item s) xs
 
--- what a history makes of a state, its oldest item first
+-- the state after a history, its oldest item first
 abbrev pub along : {S : Type 0} → (Plain → S → S) → S → History → S
 along step s [] = s
 along step s (x ∷ h) = step x (along step s h)
@@ -20,7 +20,7 @@ along step s (x ∷ h) = step x (along step s h)
 abbrev pub none_bowled : Bowled
 none_bowled = record { called = 0; this = false }
 
--- of a player: in how many called overs he bowled, and whether in the open one
+-- a player's count after one more item: in how many called overs the player bowled, and whether in the open one
 abbrev pub bowled_after : ℕ → Plain → Bowled → Bowled
 bowled_after p (Plain.Ball b) s = record { called = s.called; this = nat_eq b.bowler p || s.this }
 bowled_after p Plain.Over s = record { called = s.called + one_if s.this; this = false }

@@ -1,5 +1,5 @@
-//! A board behind a window hears both votes of each place, whatever the network loses, repeats and reorders: what came and
-//! wasn't given is asked for again.
+//! A board behind a window hears both votes of each place, whatever the network loses, repeats and reorders: votes that
+//! came but weren't given are asked for again.
 ghost use Rattle.std.specs.Prelude.{◌≡◌, ◌<◌};
 
 use super::*;
@@ -8,13 +8,13 @@ use std::mem;
 use tests_support::{entry_in, vote_of};
 use wire::{MessageBytes, message_of};
 
-/// For how many places both desks have votes.
+/// The number of places that both desks have votes for.
 const LENGTH: usize = 192;
 
-/// How many votes that are.
+/// The number of votes.
 const VOTES: usize = 2 * LENGTH;
 
-/// How many blocks of 64 places they have.
+/// The number of blocks of 64 places that the votes make.
 const BLOCKS: usize = VOTES / 64;
 
 /// What both desks answer to asks, and which votes are on their way, desk A's first.
@@ -22,21 +22,21 @@ const BLOCKS: usize = VOTES / 64;
 struct Network {
     random: u64,
     on_its_way: [bool; VOTES],
-    /// Which blocks were answered.
+    /// Which blocks have been answered.
     is_answered: [bool; BLOCKS],
-    /// One datagram in so many is lost.
+    /// One datagram in this many is lost.
     lost: Option<u64>,
 }
 
 impl Network {
-    /// The next number of Knuth's generator for MMIX, but for its lowest bits.
+    /// Returns the next number of Knuth's MMIX generator, without its lowest bits.
     fn random(&mut self) -> u64 {
         let next = self.random.wrapping_mul(6_364_136_223_846_793_005);
         self.random = next.wrapping_add(1_442_695_040_888_963_407);
         self.random >> 33
     }
 
-    /// Whether this happens, one time in so many.
+    /// Whether an event happens that happens one time in `times`.
     fn happens(&mut self, times: u64) -> bool {
         self.random().checked_rem(times) == Some(0)
     }
@@ -48,14 +48,14 @@ impl Network {
         }
     }
 
-    /// A vote is on its way, or no more.
+    /// Marks whether a vote is on its way.
     fn set(&mut self, vote: usize, is_on_its_way: bool) {
         if let Some(it) = self.on_its_way.get_mut(vote) {
             *it = is_on_its_way;
         }
     }
 
-    /// Whether this vote's block was answered before. From now on it was.
+    /// Whether this vote's block was answered before; from now on it counts as answered.
     fn answers_again(&mut self, vote: usize) -> bool {
         match self.is_answered.get_mut(vote / 64) {
             Some(it) => mem::replace(it, true),
@@ -63,8 +63,8 @@ impl Network {
         }
     }
 
-    /// A desk answers an ask for a place: by its votes for this one and those behind it in its block, or, where it did so
-    /// before, by this one alone.
+    /// Lets a desk answer an ask for a place, with its votes for this place and those behind it in its block or, if it
+    /// has answered the block before, for this place alone.
     fn answer(&mut self, desk: usize, place: u32) {
         let place = place as usize;
         if place >= LENGTH {
@@ -83,7 +83,7 @@ impl Network {
         }
     }
 
-    /// An ask comes to a desk, or is lost.
+    /// Brings an ask to a desk, or loses it.
     fn ask(&mut self, desk: usize, bytes: &MessageBytes) {
         if let Ok(Message::Ask(ask)) = message_of(7, bytes.as_slice())
             && desk < 2
@@ -93,7 +93,7 @@ impl Network {
         }
     }
 
-    /// One of the votes on their way, of which one in eight comes once more.
+    /// Returns one of the votes on their way; one vote in eight comes once more.
     fn next(&mut self) -> Option<usize> {
         let from = self.random() as usize;
         for behind in 0..VOTES {
@@ -117,7 +117,7 @@ struct Line {
 }
 
 impl Line {
-    /// A vote as it comes, in the front of a buffer.
+    /// Puts a vote that comes into the front of a buffer.
     fn bring(&mut self, vote: usize, buffer: &mut DatagramBuffer) -> bool
         ensures { self.new.log ≡ self.old.log }
     {
@@ -177,7 +177,7 @@ impl PeerLink for Line {
     }
 }
 
-/// A board: the place that it is at, and of which desks it has the votes for it.
+/// A board: the place that it is at, and the desks whose votes for that place it has.
 #[derive(Drop)]
 struct Board {
     place: u32,
@@ -192,7 +192,7 @@ impl Board {
         }
     }
 
-    /// A datagram came. With both votes of its place the board is at the next one, for which it asks.
+    /// Hears a datagram. With both votes of its place the board goes on to the next place, and asks for it.
     fn hear(&mut self, bytes: &DatagramBuffer, window: &mut Window<Line, Hand<'_>>) {
         if let Ok(Message::Vote(vote)) = message_of(7, &bytes[..48])
             && vote.place == self.place
@@ -210,7 +210,7 @@ impl Board {
         }
     }
 
-    /// A turn: at most eight datagrams.
+    /// Takes a turn: at most eight datagrams.
     fn turn(&mut self, window: &mut Window<Line, Hand<'_>>) {
         for _ in 0..8 {
             let mut buffer = [0; 64];
@@ -223,7 +223,7 @@ impl Board {
     }
 }
 
-/// Whether within so many turns of 10 ms a board has all, which asks every half second unasked.
+/// Whether a board that asks by itself every half second has all votes within `most` turns of 10 ms.
 fn hears(alloc: Global, seed: u64, lost: Option<u64>, most: u64) -> bool {
     let now = Cell::new(0);
     let network = Network {
@@ -254,15 +254,15 @@ fn hears(alloc: Global, seed: u64, lost: Option<u64>, most: u64) -> bool {
     board.place as usize >= LENGTH
 }
 
-/// All is heard whatever the network does.
+/// All votes are heard, whatever the network does.
 fn all_is_heard(rt: &impl Abort, alloc: Global, lost: Option<u64>, most: u64) {
     for seed in 0..20 {
         assert!(rt; hears(alloc, seed, lost, most), "{seed}");
     }
 }
 
-// Each of 384 votes is one of the eight of a turn twice at most, as it comes early and as it is given, and one in eight comes
-// once more: 108 turns, beside what is waited for. By its own asks alone, one each half second, a board would take 9,600.
+// A turn takes eight votes, and each of the 384 votes takes at most two: it comes early, and it is given. One in eight comes
+// once more. That makes 108 turns, plus the waiting. By its own asks alone, one every half second, a board would take 9,600.
 #[test]
 fn all_is_heard_where_nothing_is_lost(rt: HostRuntime) {
     all_is_heard(&rt, rt.alloc(), None, 250);

@@ -1,4 +1,4 @@
-//! A window over a carrier in memory, by a clock of the test's.
+//! A window over a carrier in memory, with a clock that the test sets.
 ghost use Rattle.std.specs.Prelude.{◌<◌};
 
 use super::*;
@@ -15,19 +15,19 @@ const KEY: &[u8] = b"a key of sixteen";
 
 const SHEET: [u8; 32] = [9; 32];
 
-/// What time it is, what the carrier brings next, and what it was handed.
+/// The time, what the carrier brings next, and what it was handed.
 #[derive(Drop)]
 struct World {
     now: Cell<u64>,
     peer: Cell<usize>,
-    /// To which peer alone a datagram was sent last.
+    /// The peer that a datagram was last sent to alone.
     to: Cell<usize>,
     brings: Cell<Option<SealedBytes>>,
-    /// How many datagrams were sent to all, and how many back, and the last of them.
+    /// How many datagrams were sent to all and how many back, and the last of them.
     sent: Cell<usize>,
     back: Cell<usize>,
     last: Cell<TaggedMessage>,
-    /// How long the last datagram was waited for.
+    /// How long the last take waited.
     waited: Cell<u64>,
 }
 
@@ -50,7 +50,7 @@ impl World {
     }
 }
 
-/// A carrier that brings what the world has.
+/// A carrier that brings the world's datagram.
 #[derive(Drop)]
 struct Post<'a> {
     world: &'a World,
@@ -118,12 +118,12 @@ fn windowed<'a>(rt: &impl Abort, alloc: Global, world: &'a World) -> Windowed<'a
     Window::new(alloc, Sealed::new(post, ring, receipts), hand, 7)
 }
 
-/// The match's seal.
+/// Returns the match's seal.
 fn seal() -> Seal {
     Seal::new(KEY, &SHEET)
 }
 
-/// A vote for a position.
+/// Returns a vote for a position.
 fn over(rt: &impl Abort, desk: DeskId, place: u32, round: u32) -> MessageBytes
     requires place { place < PLACES }
     requires round { round < ROUNDS }
@@ -131,25 +131,25 @@ fn over(rt: &impl Abort, desk: DeskId, place: u32, round: u32) -> MessageBytes
     vote(rt, desk, place, round, "over")
 }
 
-/// What is given where this comes, sealed.
+/// Brings this message, sealed, and returns what is given.
 fn given(window: &mut Windowed<'_>, world: &World, message: &MessageBytes) -> Taken {
     world.brings.set(Some(seal().sealed(message)));
     window.take(&mut [0; 64], 0)
 }
 
-/// It is given as it comes.
+/// Checks that the message is given as it comes.
 fn is_given(rt: &impl Abort, window: &mut Windowed<'_>, world: &World, message: &MessageBytes) {
     assert_eq!(rt; given(window, world, message), Taken::Datagram(48));
 }
 
-/// A desk's first vote for a place comes, and is given.
+/// Brings a desk's first vote for a place, which must be given.
 fn hears(rt: &impl Abort, window: &mut Windowed<'_>, world: &World, desk: DeskId, place: u32)
     requires { place < PLACES }
 {
     is_given(rt, window, world, &over(rt, desk, place, 0));
 }
 
-/// The message that is given where nothing comes.
+/// Returns the message that is given although nothing comes.
 fn kept(window: &mut Windowed<'_>) -> Option<MessageBytes> {
     let mut buffer = [0; 64];
     match window.take(&mut buffer, 250) {
@@ -162,39 +162,39 @@ fn kept(window: &mut Windowed<'_>) -> Option<MessageBytes> {
     }
 }
 
-/// Where nothing comes, nothing is given.
+/// Checks that nothing is given if nothing comes.
 fn is_silent(rt: &impl Abort, window: &mut Windowed<'_>) {
     assert!(rt; kept(window).is_none());
 }
 
-/// Where nothing comes, this is given.
+/// Checks that this message is given if nothing comes.
 fn gives(rt: &impl Abort, window: &mut Windowed<'_>, message: &MessageBytes) {
     assert!(rt; kept(window).as_ref() == Some(message));
 }
 
-/// So many datagrams were sent to all.
+/// Checks how many datagrams were sent to all.
 fn has_sent(rt: &impl Abort, world: &World, sent: usize) {
     assert_eq!(rt; world.sent.get(), sent);
 }
 
-/// And so many back.
+/// Checks how many datagrams were sent back.
 fn has_sent_back(rt: &impl Abort, world: &World, back: usize) {
     assert_eq!(rt; world.back.get(), back);
 }
 
-/// Where nothing comes at this time, nothing is given, and it was waited for so long.
+/// Checks that nothing is given if nothing comes at this time, and for how long the window waited.
 fn rests(rt: &impl Abort, window: &mut Windowed<'_>, world: &World, now: u64, waited: u64) {
     world.now.set(now);
     is_silent(rt, window);
     assert_eq!(rt; world.waited.get(), waited, "{now}");
 }
 
-/// The last datagram was this one.
+/// Checks that this was the last datagram.
 fn has_said(rt: &impl Abort, world: &World, message: &MessageBytes) {
     assert!(rt; form_for(0, &world.last.get()).as_slice() == seal().sealed(message).as_slice());
 }
 
-/// A board's ask for a place is given, and desk A answers it.
+/// Brings a board's ask for a place, which must be given, and lets desk A answer it.
 fn is_answered(rt: &impl Abort, window: &mut Windowed<'_>, world: &World, place: u32)
     requires { place < PLACES }
 {
@@ -202,7 +202,7 @@ fn is_answered(rt: &impl Abort, window: &mut Windowed<'_>, world: &World, place:
     window.reply(&over(rt, DeskId::A, place, 0));
 }
 
-/// An ask for a place is given unasked, and desk A answers it to peer 2.
+/// Checks that an ask for a place is given although nothing comes, and lets desk A answer it to peer 2.
 fn goes_on(rt: &impl Abort, window: &mut Windowed<'_>, world: &World, place: u32)
     requires { place < PLACES }
 {
@@ -224,15 +224,15 @@ fn an_ask_stands_for_those_behind_it(rt: HostRuntime) {
     is_silent(&rt, &mut window);
     has_sent(&rt, &world, 0);
     has_sent_back(&rt, &world, 64);
-    // within a block that was asked for so the same peer's ask stands for itself alone, in the next for others
+    // in that block the same peer's ask now stands for itself alone, in the next block for others too
     world.peer.set(2);
     is_answered(&rt, &mut window, &world, 5);
     is_silent(&rt, &mut window);
     is_answered(&rt, &mut window, &world, 64);
     gives(&rt, &mut window, &ask_at(Asker::Board, 65, 0));
-    // without an answer it ends
+    // without an answer the ask stands for no more
     is_silent(&rt, &mut window);
-    // and it stands for no more than its block has
+    // and it stands for no more places than its block has
     is_answered(&rt, &mut window, &world, 190);
     goes_on(&rt, &mut window, &world, 191);
     is_silent(&rt, &mut window);
@@ -253,7 +253,7 @@ fn a_block_may_be_asked_for_again_after_half_a_second(rt: HostRuntime) {
     gives(&rt, &mut window, &ask_at(Asker::Board, 63, 0));
 }
 
-// An ask every 10 ms, each of another block, so that it may stand for those behind it: 130 do, and one more every 100 ms.
+// An ask every 10 ms, each for another block, so that it may stand for those behind it: 130 do, and one more every 100 ms.
 #[test]
 fn a_peer_has_so_many_windows(rt: HostRuntime) {
     let world = World::new();
@@ -275,7 +275,7 @@ fn early_votes_come_again_when_the_board_is_there(rt: HostRuntime) {
     window.send(&ask_at(Asker::Board, 0, 0));
     let one = over(&rt, DeskId::A, 1, 0);
     let other = over(&rt, DeskId::B, 1, 0);
-    // each as it comes, by which a board sees whether the desks told it different lines
+    // each vote is given as it comes, so that a board sees whether a desk has told it different lines
     for early in [one, one, other] {
         is_given(&rt, &mut window, &world, &early);
     }
@@ -287,7 +287,7 @@ fn early_votes_come_again_when_the_board_is_there(rt: HostRuntime) {
     gives(&rt, &mut window, &one);
     gives(&rt, &mut window, &other);
     is_silent(&rt, &mut window);
-    // what a board lacks is asked for
+    // a board asks for the votes that it lacks
     hears(&rt, &mut window, &world, DeskId::A, 2);
     world.now.set(4);
     window.send(&ask_at(Asker::Board, 2, 0));
@@ -309,13 +309,13 @@ fn a_second_round_comes_in_its_turn(rt: HostRuntime) {
     window.send(&ask_at(Asker::A, 4, 0));
     gives(&rt, &mut window, &next);
     has_sent(&rt, &world, 1);
-    // what a station passed is of no use
+    // votes for a place that the station has passed are of no use
     hears(&rt, &mut window, &world, DeskId::B, 5);
     window.send(&over(&rt, DeskId::A, 6, 0));
     is_silent(&rt, &mut window);
 }
 
-/// Bytes that don't open come at this time, in place of desk A's vote for a place.
+/// Brings bytes that don't open, instead of desk A's vote for a place.
 fn is_unopened(rt: &impl Abort, window: &mut Windowed<'_>, world: &World, place: u32)
     requires { place < PLACES }
 {
@@ -332,7 +332,7 @@ fn what_is_far_ahead_or_forged_is_not_kept(rt: HostRuntime) {
     window.send(&ask_at(Asker::B, 0, 0));
     hears(&rt, &mut window, &world, DeskId::A, 2_049);
     hears(&rt, &mut window, &world, DeskId::A, 2_048);
-    // bytes that don't open change nothing of when an ask is said
+    // bytes that don't open don't change when an ask is said
     world.now.set(19);
     is_unopened(&rt, &mut window, &world, 0);
     is_unopened(&rt, &mut window, &world, 1);
@@ -355,7 +355,7 @@ fn an_ask_is_said_again_where_later_votes_are_here(rt: HostRuntime) {
     has_sent(&rt, &world, 1);
     hears(&rt, &mut window, &world, DeskId::A, 1);
     rests(&rt, &mut window, &world, 5, 15);
-    // to the desk whose vote it is, after twice as long each time
+    // the ask goes to the desk whose vote is lacking, each time after twice as long
     for (now, back, waited) in [
         (20, 1, 40),
         (59, 1, 1),
@@ -367,11 +367,11 @@ fn an_ask_is_said_again_where_later_votes_are_here(rt: HostRuntime) {
         has_sent_back(&rt, &world, back);
     }
     has_sent(&rt, &world, 1);
-    // at last for what may stand behind the later vote too
+    // the last ask is for what may stand behind the later vote too
     has_said(&rt, &world, &ask_at(Asker::B, 2, 0));
 }
 
-/// Hands down an ask, or not, at this time.
+/// Sends an ask at this time, and checks how many datagrams were sent to all by then.
 fn asks(
     rt: &impl Abort,
     window: &mut Windowed<'_>,
@@ -398,8 +398,8 @@ fn an_answer_is_waited_for_a_round_trip_and_a_half(rt: HostRuntime) {
     }
 }
 
-// What is asked for brings the votes of its block: an ask for one of these waits until nothing that is lacking came for a pause,
-// or later votes show that its own were lost.
+// An ask brings the votes of its block. Another ask for that block waits until no lacking vote has come for a pause, or until
+// later votes show that its own votes were lost.
 #[test]
 fn an_ask_waits_for_what_was_asked_before(rt: HostRuntime) {
     let world = World::new();
@@ -410,21 +410,21 @@ fn an_ask_waits_for_what_was_asked_before(rt: HostRuntime) {
     let ask = ask_at(Asker::B, 1, 0);
     asks(&rt, &mut window, &world, 50, &ask, 1);
     hears(&rt, &mut window, &world, DeskId::A, 3);
-    // places 1 and 2, and twice as long after
+    // asks for places 1 and 2, and again after twice as long
     for (now, back, waited) in [(50, 2, 90), (139, 2, 1), (140, 4, 180), (141, 4, 179)] {
         rests(&rt, &mut window, &world, now, waited);
         has_sent_back(&rt, &world, back);
     }
     has_said(&rt, &world, &ask_at(Asker::B, 2, 0));
     hears(&rt, &mut window, &world, DeskId::A, 4);
-    // the ask for 0 brings the votes of 0 to 63, that for 64 those of 64 to 127
+    // the ask for 0 brings the votes of 0 to 63, and the ask for 64 those of 64 to 127
     asks(&rt, &mut window, &world, 141, &ask_at(Asker::B, 63, 0), 1);
     asks(&rt, &mut window, &world, 141, &ask_at(Asker::B, 64, 0), 2);
     asks(&rt, &mut window, &world, 141, &ask_at(Asker::B, 127, 0), 2);
     asks(&rt, &mut window, &world, 141, &ask_at(Asker::B, 128, 0), 3);
 }
 
-/// Where nothing comes at this time, nothing is given, so many datagrams were sent to all, and this was the last.
+/// Checks that nothing is given if nothing comes at this time, how many datagrams were sent to all, and which was the last.
 fn is_heard(
     rt: &impl Abort,
     window: &mut Windowed<'_>,
@@ -438,7 +438,7 @@ fn is_heard(
     has_said(rt, world, last);
 }
 
-// Whoever has nothing to say unasked asks for its position every two seconds, and waits for datagrams as long as ever.
+// A station with nothing else to say asks for its position every two seconds, and waits for datagrams as long as ever.
 #[test]
 fn a_silent_station_asks(rt: HostRuntime) {
     let world = World::new();

@@ -1,4 +1,4 @@
-//! What a board with keys for each pair hands back to a desk, over a carrier in memory.
+//! What a board hands back to a desk if each pair of stations has its own key, over a carrier in memory.
 
 use super::*;
 use links::{Link, Receivers, Taken};
@@ -9,7 +9,7 @@ use seal::{
 
 const SHEET: [u8; 32] = [9; 32];
 
-/// What the carrier brings, of so many bytes, and what it was handed last.
+/// The datagram that the carrier brings, its length, and the last message that it was handed.
 #[derive(Drop)]
 struct Mail {
     brings: Cell<SealedBuffer>,
@@ -31,7 +31,7 @@ impl Mail {
     }
 }
 
-/// A carrier that brings what the mail has.
+/// A carrier that brings the mail's datagram.
 #[derive(Drop)]
 struct Carrier<'a> {
     mail: &'a Mail,
@@ -69,7 +69,7 @@ impl SealedCarrier for Carrier<'_> {
     }
 }
 
-/// The seal of both desks, and those of desk A and desk B with a board.
+/// The seal of both desks, and the seals of desk A and desk B with a board.
 fn of_desks() -> Seal {
     Seal::new(b"the key of both desks", &SHEET)
 }
@@ -90,7 +90,7 @@ fn ring_of_a(is_of_pairs: bool) -> Ring {
     )
 }
 
-/// Board 1, over the mail.
+/// Returns board 1, over the mail.
 fn board<'a>(rt: &impl Abort, alloc: Global, mail: &'a Mail) -> Sealed<Carrier<'a>> {
     let ring = Ring::new(
         Asker::Board,
@@ -107,7 +107,7 @@ fn board<'a>(rt: &impl Abort, alloc: Global, mail: &'a Mail) -> Sealed<Carrier<'
     Sealed::new(carrier, ring, receipts)
 }
 
-/// This comes at the board, and is taken so.
+/// Brings this datagram to the board, which must take it as wanted.
 fn comes(
     rt: &impl Abort,
     board: &mut Sealed<Carrier<'_>>,
@@ -123,7 +123,7 @@ fn comes(
     assert_eq!(rt; board.take(&mut [0; 64], 0), wanted);
 }
 
-/// What the board sends back last.
+/// Returns what the board sends back for this message.
 fn sent_back(board: &mut Sealed<Carrier<'_>>, mail: &Mail, message: &MessageBytes) -> SealedForm {
     board.reply(message);
     form_for(0, &mail.last.get())
@@ -142,7 +142,7 @@ fn a_desks_vote_has_a_receipt_for_boards(rt: HostRuntime) {
     let form = form_for(2, &tagged);
     assert_eq!(&rt; form.len(), 80);
     assert!(&rt; form.as_slice().starts_with(alone.as_slice()));
-    // an ask has none, and neither has a vote where all stations have one key
+    // an ask has no receipt, and neither has a vote if all stations share one key
     let ask = ring_of_a(true).tagged(&ask_at(Asker::A, 0, 0));
     assert_eq!(&rt; form_for(2, &ask).len(), 64);
     assert_eq!(&rt; form_for(2, &ring_of_a(false).tagged(&vote)).len(), 64);
@@ -153,14 +153,14 @@ fn a_board_hands_back_the_desks_tag(rt: HostRuntime) {
     let mail = Mail::new();
     let mut board = board(&rt, rt.alloc(), &mail);
     let vote = vote(&rt, DeskId::A, 0, 0, "in 1");
-    // what it seals itself opens at no desk as the desk's own vote
+    // a vote that the board seals itself doesn't open at a desk as the desk's own vote
     assert!(&rt; !opens_at_a(sent_back(&mut board, &mail, &vote).as_slice()));
     let form = form_for(1, &ring_of_a(true).tagged(&vote));
     comes(&rt, &mut board, &mail, form.as_slice(), Taken::Datagram(48));
     let back = sent_back(&mut board, &mail, &vote);
     assert!(&rt; back.as_slice() == of_desks().sealed(&vote).as_slice());
     assert!(&rt; opens_at_a(back.as_slice()));
-    // for another vote of that desk for the same position it has none
+    // the board has no receipt for another vote of that desk at the same position
     let other = super::vote(&rt, DeskId::A, 0, 0, "in 2");
     assert!(&rt; !opens_at_a(sent_back(&mut board, &mail, &other).as_slice()));
 }

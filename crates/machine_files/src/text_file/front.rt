@@ -1,29 +1,29 @@
-//! What a file begins with.
+//! How a file begins.
 
 use std::fs::File;
 use std::io::{self, Read};
 
-/// What each votes file begins with.
+/// The bytes with which every votes file begins.
 const VOTES: &[u8] = b"CBVOTES";
 
-/// What a board's state begins with.
+/// The bytes with which a board's state begins.
 const STATE: &[u8] = b"{\"format\":\"yermudosh board ";
 
-/// What the same as a script begins with.
+/// The bytes with which a board's state begins as a script.
 const SCRIPT: &[u8] = b"window.yermudosh = {\"format\":\"yermudosh board ";
 
-/// What the lines of a board's text behind the first begin with.
+/// How the lines of a board's text begin, from the second line on.
 const LINES: [&[u8]; 5] = [b"Overs ", b"Striker ", b"Other ", b"Target ", b"Result "];
 
-/// How many bytes are looked at: more than a board's six lines have.
+/// How many bytes are looked at: more than the six lines of a board have.
 const ROOM: usize = 1024;
 
-/// What a file begins as.
+/// The kind of file that a beginning shows.
 #[derive(Clone, Copy)]
 pub enum Front {
-    /// It has no byte.
+    /// An empty file.
     Nothing,
-    /// A board's text, its state, or that as a script.
+    /// A board's text, its state, or its state as a script.
     Text,
     /// A desk's votes.
     Votes,
@@ -37,13 +37,13 @@ fn agree(one: &[u8], other: &[u8]) -> bool {
     one[..both] == other[..both]
 }
 
-/// What is left behind the first end of a line, if there is one.
+/// Returns the bytes behind the first newline, if there is one.
 fn behind_line(bytes: &[u8]) -> Option<&[u8]> {
     let end = bytes.iter().position(|byte| *byte == b'\n')?;
     Some(&bytes[end + 1..])
 }
 
-/// Whether these are a board's six lines, as far as they go: the second one is known at least.
+/// Whether these are a board's six lines, as far as they go; at least the second line is recognized.
 fn is_board_text(bytes: &[u8]) -> bool {
     let mut rest = match behind_line(bytes) {
         Some(rest) if rest.starts_with(LINES[0]) => rest,
@@ -61,7 +61,7 @@ fn is_board_text(bytes: &[u8]) -> bool {
     rest.is_empty()
 }
 
-/// What these bytes, the first of a file, begin as.
+/// Returns the kind of a file with these first bytes.
 fn judged(bytes: &[u8]) -> Front {
     if bytes.is_empty() {
         Front::Nothing
@@ -74,7 +74,7 @@ fn judged(bytes: &[u8]) -> Front {
     }
 }
 
-/// What a file of so many bytes begins as.
+/// Returns the kind of a file of `len` bytes.
 pub fn front_of(file: &mut File, len: u64) -> io::Result<Front> {
     let mut buffer = [0; ROOM];
     let count = len.min(ROOM as u64) as usize;

@@ -18,7 +18,7 @@ bowling_table_of h i = record {
   order = from_front 11 (bowling_order h i);
 }
 
--- the bowler's row with a delivery more
+-- the bowler's row after one more delivery
 abbrev pub row_with_ball : Ball → BowlingRow → BowlingRow
 row_with_ball b row = record row {
   balls = row.balls + one_if (counts b);
@@ -28,8 +28,8 @@ row_with_ball b row = record row {
   noballs = row.noballs + noballs_of b;
 }
 
--- the row of who bowled an over alone, once it is called: its counting deliveries are an over, and no
--- more balls
+-- the row of the one bowler who bowled all of an over, once it is called: its counting deliveries become an over and
+-- are no longer balls
 abbrev pub row_with_over : OverNow → BowlingRow → BowlingRow
 row_with_over over row = record row {
   overs = row.overs + 1;
@@ -37,7 +37,7 @@ row_with_over over row = record row {
   maidens = row.maidens + one_if (over.debit == 0);
 }
 
--- each number of a row has room for one entry more
+-- each number of a row has room for one more entry
 pub record IsSmallBowlingRow (row : BowlingRow) : Type 0 where
   pub overs : row.overs < 2 ^ 28
   pub balls : row.balls < 2 ^ 28

@@ -1,4 +1,4 @@
--- Reading the 24 bytes of an entry, which may be the code of no entry: then the entry's code is another.
+-- Decoding 24 bytes. They may be no entry's code: then the code of the decoded entry, if any, differs from them.
 use Rattle.std.specs.Prelude.{ℕ, ◌==◌, ◌&&◌, nat_le, List, [], ◌∷◌, if◌then◌else◌, Option, Some, None, slice_index}
 use Rattle.std.specs.Int.{w32, from_be_bytes}
 use Rattle.notation.specs.declared.{entry.Bound.Bound, entry.Out.Out, entry.Ball.Ball, entry.Plain.Plain, entry.Entry.Entry, words.First.First}
@@ -11,7 +11,7 @@ abbrev pub ◌>>=◌ : {A B : Type 0} → Option A → (A → Option B) → Opti
 (Some x) >>= f = f x
 None >>= f = None
 
--- the first of these values that has the code
+-- the first of these values with this code
 abbrev pub find_code : {W : Type 0} → (W → ℕ) → List W → ℕ → Option W
 find_code code [] n = None
 find_code code (w ∷ ws) n = if n == code w then Some w else find_code code ws n
@@ -41,7 +41,7 @@ out_from how who fielder crossed = if how == 0 then Some None else do
   f ← in_range 0 12 fielder
   Some (Some (record { how = h; who = w; fielder = f; crossed = crossed == 1 }))
 
--- a byte of the code
+-- the byte at this index of the code
 abbrev pub at : List ℕ → ℕ → ℕ
 at bytes i = slice_index bytes i
 
@@ -90,7 +90,7 @@ body_from First.End bytes = do
 body_from First.Close bytes = Some Plain.Close
 body_from First.Void bytes = Some Plain.Void
 
--- the place that the bytes 2 to 5 say
+-- the place in bytes 2 to 5
 abbrev pub place_from : List ℕ → ℕ
 place_from bytes = from_be_bytes w32 (at bytes 2 ∷ at bytes 3 ∷ at bytes 4 ∷ at bytes 5 ∷ [])
 

@@ -1,4 +1,4 @@
--- Reading tokens from the left: a value and the tokens after it, or the first fault.
+-- Reading tokens from the left: gives a value and the tokens after it, or the first fault.
 use Rattle.std.specs.Prelude.{◌≡◌, ℕ, List, [], ◌∷◌, codes, Bool, true, false, if◌then◌else◌, Option, Some, None, Result, Ok, Err}
 use Rattle.std.specs.Str.{bytes_eq}
 use Rattle.std.specs.Str.Parse.{digits_value}
@@ -23,13 +23,13 @@ first_text First.End = codes "end"
 first_text First.Close = codes "close"
 first_text First.Void = codes "void"
 
--- each word that may stand in a place
+-- all first words of plain entries
 abbrev pub all_firsts : List First
 all_firsts =
     First.Innings ∷ First.Come ∷ First.Ball ∷ First.Gone ∷ First.Over ∷ First.Penalty
     ∷ First.Swap ∷ First.End ∷ First.Close ∷ First.Void ∷ []
 
--- the first of these words that the token is
+-- the first of these values whose word is the token
 abbrev pub find_word : {W : Type 0} → (W → Token) → List W → Token → Option W
 find_word text [] t = None
 find_word text (w ∷ ws) t = if bytes_eq t (text w) then Some w else find_word text ws t
@@ -47,7 +47,7 @@ unfoldable pub number_at : ℕ → ℕ → List Token → Result (ℕ × List To
 number_at low high [] = Err Missing
 number_at low high (t ∷ ts) = if is_number low high t then Ok (digits_value 10 t, ts) else Err BadNumber
 
--- whether the word stands next, and the tokens after it where it does
+-- whether the next token is this word, and the tokens left once the word is skipped
 unfoldable pub skip : Token → List Token → Bool × List Token
 skip word [] = (false, [])
 skip word (t ∷ ts) = if bytes_eq t word then (true, ts) else (false, t ∷ ts)
@@ -98,7 +98,7 @@ ball_at ts = do
     out.1,
   )
 
--- what follows the first word
+-- reads what follows the first word of a plain entry
 unfoldable pub after_first : First → List Token → Result (Plain × List Token) LineFault
 after_first First.Innings ts = do
   side ← word_at side_text all_sides ts
@@ -131,7 +131,7 @@ plain_at ts = do
   first ← word_at first_text all_firsts ts
   after_first first.0 first.1
 
--- a place, and what is entered for it
+-- reads a place, and the plain entry for it
 unfoldable pub placed_at : List Token → Result ((ℕ × Plain) × List Token) LineFault
 placed_at ts = do
   place ← number_at 0 8191 ts
@@ -159,7 +159,7 @@ alone e = ends e.0 e.1
 unfoldable pub all_of : List Token → Result Entry LineFault
 all_of ts = entry_at ts >>= alone
 
--- What a reading function answered, and the tokens that it left.
+-- the function's result, and the tokens that it left, are what this reading gives
 abbrev pub Reads :
     {X : Type 0} → Result X LineFault → List Token → Result (X × List Token) LineFault → Type 0
 Reads (Ok x) left read = read ≡ Ok (x, left)

@@ -1,9 +1,9 @@
-//! How many device calls a desk's calls make, and that a failing one is told.
+//! How many device calls a desk's calls make, and that a failing one is reported.
 ghost use Rattle.std.specs.Prelude.{◌≤◌};
 
 use super::*;
 
-/// A file of two votes, the second one pending, after a pen of which no device call failed but the n-th, if at all.
+/// Returns the file of a desk that settled a vote and penned a second, with the n-th device call of that pen failing.
 fn file_of_two(rt: &impl Abort, alloc: Global, n: u32) -> MemDisk
     requires { 1 ≤ n }
 {
@@ -18,7 +18,7 @@ fn file_of_two(rt: &impl Abort, alloc: Global, n: u32) -> MemDisk
     disk
 }
 
-// A pen makes four device calls. The vote isn't in the file where one of the first three failed.
+// A pen makes four device calls. The vote isn't in the file if one of the first three failed.
 #[test]
 fn calls_that_fail(rt: HostRuntime) {
     for n in 1..6 {
@@ -28,7 +28,7 @@ fn calls_that_fail(rt: HostRuntime) {
     }
 }
 
-/// Whether a desk is made on a disk that fails. Only that is a cause to refuse it.
+/// Whether a desk is made on a disk that fails. It may be refused only for the disk.
 fn is_made(rt: &impl Abort, answer: Made) -> bool {
     match answer {
         Ok(_) => true,
@@ -39,8 +39,8 @@ fn is_made(rt: &impl Abort, answer: Made) -> bool {
     }
 }
 
-// A create makes three: the length, a write and a sync. An open of two votes makes four: a sync, the length, the header and
-// a page.
+// Creating a desk makes three device calls: the length, a write and a sync. Opening one with two votes makes four: a sync,
+// the length, the header and a page.
 #[test]
 fn desks_that_are_not_made(rt: HostRuntime) {
     for n in 1..9 {
@@ -53,7 +53,7 @@ fn desks_that_are_not_made(rt: HostRuntime) {
     }
 }
 
-// An ask for the last of 129 votes at place 0 makes two: it reads both pages of the file.
+// An ask for the last of 129 votes at place 0 makes two device calls: it reads both pages of the file.
 #[test]
 fn an_ask_reads_two_pages(rt: HostRuntime) {
     let ask = Ask {

@@ -1,5 +1,5 @@
 //! Writers that fail.
-//! What takes memory is done again where an allocation failed, so that the tests pass with any one refused.
+//! A call that takes memory is made again if an allocation fails, so that the tests pass with any one allocation refused.
 
 use cards::{
     MatchSheet, SheetFault, batting_card, board_lines, book_page, bowling_card, read_sheet,
@@ -15,7 +15,7 @@ const SHEET: &str = "title = \"T\"\nnumber = 7\ninnings = 2\nother = 1\n\
     home = {name = \"Alder\", players = [\"H1\", \"H2\", \"H3\", \"H4\", \"H5\", \"H6\", \"H7\", \"H8\", \"H9\", \"H10\", \"H11\"]}\n\
     [away]\nname = \"Birch\"\nplayers = [\"A1\", \"A2\", \"A3\", \"A4\", \"A5\", \"A6\", \"A7\", \"A8\", \"A9\", \"A10\", \"A11\"]\n";
 
-/// The sheet, or the fault, of a text.
+/// Reads the sheet of a text, or its fault.
 fn read(alloc: Global, text: &[u8]) -> Result<MatchSheet, SheetFault> {
     match read_sheet(alloc, text) {
         Err(SheetFault::NoMemory) => read_sheet(alloc, text),
@@ -31,7 +31,7 @@ const LINES: [&str; 5] = [
     "fix 3 ball 7 bat 2",
 ];
 
-/// The book of the lines.
+/// Returns the book of the lines.
 fn lines_entered(rt: &impl Abort, alloc: Global) -> Result<Book, AllocError> {
     let mut book = Book::new(alloc, 2)?;
     for line in LINES {
@@ -62,7 +62,7 @@ enum Call {
 
 const CALLS: [Call; 4] = [Call::Batting, Call::Bowling, Call::Page, Call::Board];
 
-/// Prints one text of a book in which an innings has begun.
+/// Prints one of the texts of a book in which an innings has begun.
 fn print<W: Sink>(
     rt: &impl Abort,
     call: Call,
@@ -80,7 +80,7 @@ fn print<W: Sink>(
     }
 }
 
-/// How many of the writes of a text fail it, each in turn: a fault tells that the writer failed.
+/// Returns how many writes printing a text makes. Each write that fails, in turn, is reported as a failed writer.
 fn failures(rt: &impl Abort, call: Call, sheet: &MatchSheet, book: &Book) -> usize {
     for calls in 0..1000 {
         let mut out = Watched::new(Failing { calls });
@@ -95,7 +95,7 @@ fn failures(rt: &impl Abort, call: Call, sheet: &MatchSheet, book: &Book) -> usi
     1000
 }
 
-/// Each text has more than two lines, or figures that are written one by one.
+/// Each text has more than two lines, or has figures that are written one by one.
 #[test]
 fn writes_that_fail(rt: HostRuntime) {
     let sheet = read(rt.alloc(), SHEET.as_bytes()).expect(&rt, "a sheet");
@@ -106,7 +106,7 @@ fn writes_that_fail(rt: HostRuntime) {
     }
 }
 
-/// A flush reaches the writer, and what failed is told from then on.
+/// A flush reaches the writer, and a failed flush is reported from then on.
 #[test]
 fn a_flush_that_fails(rt: HostRuntime) {
     let mut out = Watched::new(Failing { calls: 2 });

@@ -4,7 +4,7 @@ use Rattle.std.proofs.lemmas.Nat.{mod_below}
 use Rattle.limits.specs.Rates.{hundredths}
 use Rattle.limits.proofs.rates.hundredths_are_nearest.Goals as goal
 
--- a product and a rest below twice d
+-- if a product p and a rest r below twice d make a + d, then p is within d of a
 within : (p r a d : ℕ) → p + r ≡ a + d → r < 2 * d → (p ≤ a + d) × (a < p + d)
 within p r a d e less = (omega (arith, e, less), omega (arith, e, less))
 

@@ -5,7 +5,7 @@ use Rattle.limits.specs.Reading.{◌>>=◌}
 use Rattle.limits.proofs.ListItems.{onto}
 use Rattle.limits.proofs.reading.each_powerplay.Given as goal
 
--- what all items are read as is the powerplays so far, and then what is left
+-- all items are read as the powerplays so far, followed by those of the items that are left
 abbrev pub invariant-loop-item : goal.invariant-loop-item
 invariant-loop-item l =
     reads.each_powerplay (array_view l.items)

@@ -5,7 +5,7 @@ use Rattle.limits.specs.Reading.{◌>>=◌}
 use Rattle.limits.proofs.ListItems.{onto}
 use Rattle.limits.proofs.reading.numbers_of.Given as goal
 
--- what all items are read as is the numbers so far, and then what is left
+-- all items are read as the numbers so far, followed by those of the items that are left
 abbrev pub invariant-loop-item : goal.invariant-loop-item
 invariant-loop-item l =
     reads.numbers_of (array_view l.items) ≡ (reads.numbers_of (items_view (drop l.item-index l.items.items)) >>= onto l.numbers.items)

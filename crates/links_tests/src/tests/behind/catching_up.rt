@@ -1,9 +1,9 @@
-//! What a station that is behind asks for ahead of its place, and asks for again.
+//! What a station that is behind asks for ahead of its place, and what it asks for again.
 ghost use Rattle.std.specs.Prelude.{◌+◌, ◌<◌};
 
 use super::*;
 
-/// A board has both votes of a place, and asks for the next.
+/// Brings both votes of a place to a board, which asks for the next place.
 fn agrees(rt: &impl Abort, window: &mut Windowed<'_>, world: &World, place: u32)
     requires { place + 1 < PLACES }
 {
@@ -12,7 +12,7 @@ fn agrees(rt: &impl Abort, window: &mut Windowed<'_>, world: &World, place: u32)
     window.send(&ask_at(Asker::Board, place + 1, 0));
 }
 
-// So many places are asked for ahead as came, and no more than a block behind them where a round trip is short.
+// A station asks ahead for as many places as votes came, and for at most one block behind them if a round trip is short.
 #[test]
 fn what_is_ahead_is_asked_for_as_votes_come(rt: HostRuntime) {
     let world = World::new();
@@ -36,7 +36,7 @@ fn what_is_ahead_is_asked_for_as_votes_come(rt: HostRuntime) {
     has_sent(&rt, &world, 1);
 }
 
-// Where many votes on end are lacking their ask was lost: it is said again for the first of them.
+// If many votes in a row are lacking, their ask was lost: it is said again for the first of them.
 #[test]
 fn a_lost_block_is_asked_for_as_one(rt: HostRuntime) {
     let world = World::new();
@@ -49,7 +49,7 @@ fn a_lost_block_is_asked_for_as_one(rt: HostRuntime) {
     for place in 35..48 {
         hears(&rt, &mut window, &world, DeskId::A, place);
     }
-    // of 48 to 127 nothing came: once they are late 48 and 64 are asked for
+    // nothing of 48 to 127 has come: once they are late, 48 and 64 are asked for
     has_sent_back(&rt, &world, 1);
     for (now, back) in [(4, 2), (12, 3), (28, 6)] {
         world.now.set(now);

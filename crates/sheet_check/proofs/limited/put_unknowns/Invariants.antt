@@ -4,7 +4,7 @@ use Rattle.sheet_check.specs.Limits.{unknown_faults}
 use Rattle.sheet_check.specs.Reports.{faults_in}
 use Rattle.sheet_check.proofs.limited.put_unknowns.Given as goal
 
--- what is put so far, and what the keys from here on are told of
+-- the faults appended so far and those of the keys from here on are all faults
 abbrev pub invariant-loop-key : goal.invariant-loop-key
 invariant-loop-key l =
     faults_in l.out ++ unknown_faults (members_view l.key-iterator)
