@@ -2,7 +2,7 @@
 
 /// What may be run and loaded in the page: its own style and script, and what it asks of its station.
 pub const POLICY: &[u8] =
-    b"default-src 'none'; script-src 'sha256-BBOe++ig9DHFaLQr5DHUS/ah+pcWD7KOzct0uIvze5E='; style-src 'sha256-fG+D0r1ggOak2xF6bZb012y2J1FY5fn76VrsA2XuLZs='; connect-src 'self'; img-src data:; base-uri 'none'; form-action 'none'; frame-ancestors 'none'";
+    b"default-src 'none'; script-src 'sha256-d8ZsyKjDbx14r2/25H+FDf81CO6Hq3EaB5PHCBGZKmg='; style-src 'sha256-fG+D0r1ggOak2xF6bZb012y2J1FY5fn76VrsA2XuLZs='; connect-src 'self'; img-src data:; base-uri 'none'; form-action 'none'; frame-ancestors 'none'";
 
 /// The page.
 pub const PAGE: &[u8] = b"<!DOCTYPE html>
@@ -1576,10 +1576,10 @@ const isBowledOff = () => state.board.now.overs_left === 0 && aheadLines().lengt
 
 function batterAsked() {
   const { striker, other: far } = state.board.now;
-  const options = people(batting(), comers());
-  if (options.length === 0 || innings().wickets === 10 || isBowledOff()) return { head: \"The innings ends?\", answers: some(endings(), endInnings, askEnding) };
-  const isFirst = innings().batting.length === 0 && aheadLines().length === 0;
-  const isSecond = innings().batting.length === 1 && striker !== null && far === null;
+  const options = people(batting(), comers()), bats = innings();
+  if (options.length === 0 || bats && bats.wickets === 10 || isBowledOff()) return { head: \"The innings ends?\", answers: some(endings(), endInnings, askEnding) };
+  const came = (bats ? bats.batting.length : 0) + aheadLines().filter(line => line.startsWith(\"in \")).length;
+  const isFirst = came === 0, isSecond = bats && bats.batting.length === 1 && striker !== null && far === null;
   return { head: isFirst ? \"Who takes strike?\" : isSecond ? \"Who is at the other end?\" : \"Who comes in?\", answers: some(options, comeIn, askComer) };
 }
 
