@@ -18,6 +18,11 @@ from read_export import CREDITED, OUTCOME, Card, Wrong, balls_penned, boundary, 
 FILES = ("sheet.toml", "a.votes", "b.votes")
 RESULTS = {"draw": "drawn", "tie": "tied", "no result": "no result"}
 PENALTY_RUNS = "penalty runs"
+EXTRAS = ("wides", "noballs", "byes", "legbyes", "penalty")
+# the columns of a delivery
+DELIVERY = (
+    "innings", "team", "number", "over", "ball", "fielding", "striker", "non_striker", "bowler", "runs_off_bat", *EXTRAS, "total", "boundary", "counts",
+)
 # how a batter is out who isn't out by a delivery
 OUT_BETWEEN = {"timedout": "timed out", "retiredout": "retired out", "runout": "run out"}
 
@@ -28,7 +33,7 @@ class LeftOut(Exception):
 
 @dataclass
 class Match:
-    """A match's row of `matches`, and its rows of each other table."""
+    """A match's row of `matches`, and its rows of each other table, by table and columns."""
 
     row: dict
     tables: dict = field(default_factory=dict)
@@ -39,7 +44,11 @@ class Match:
         return self.row["number"], self.row["home"], self.row["away"]
 
     def add(self, table, **row):
-        self.tables.setdefault(table, []).append(row)
+        self.add_rows(table, tuple(row), [tuple(row.values())])
+
+    def add_rows(self, table, columns, rows):
+        """Adds rows of a table: what each has in these columns."""
+        self.tables.setdefault((table, columns), []).extend(rows)
 
 
 def paths_of(folder):
@@ -198,8 +207,7 @@ def result_of(outcome):
 
 def add_innings(match, exported, card):
     """The rows of each innings."""
-    penned = balls_penned(exported)
-    lines = lines_of_innings(exported)
+    penned, lines = balls_penned(exported), lines_of_innings(exported)
     for number, innings in enumerate(exported["innings"]):
         Innings(match, exported, number, penned[number], lines[number], card.innings[number]).add()
 
@@ -228,6 +236,8 @@ class Innings:
         self.most_overs = overs_of(exported, number)
         self.by_print = {name[:16].rstrip(): name for names in players.values() for name in names}
         self.deliveries = list(zip(deliveries_of(innings), penned, strict=True))
+        # whether each counts in the over
+        self.counted = [int(counts(*delivery)) for delivery in self.deliveries]
 
     def add(self):
         self.add_itself()
@@ -245,19 +255,22 @@ class Innings:
         ended = next((words[1] for words in self.lines if words[0] == "end"), None)
         self.match.add(
             "innings", **self.at, fielding=self.fielding, runs=self.card.runs, wickets=self.card.wickets, overs=self.card.overs,
-            balls=sum(counts(*delivery) for delivery in self.deliveries), byes=byes, legbyes=legbyes, wides=wides, noballs=noballs,
+            balls=sum(self.counted), byes=byes, legbyes=legbyes, wides=wides, noballs=noballs,
             penalty=penalty, target=self.innings.get("target", {}).get("runs"), most_overs=self.most_overs, ended=ended,
         )
 
     def add_deliveries(self):
         places = [(over["over"], ball) for over in self.innings["overs"] for ball, _ in enumerate(over["deliveries"], 1)]
-        for number, ((over, ball), (delivery, words)) in enumerate(zip(places, self.deliveries, strict=True), 1):
-            extras = {kind: delivery.get("extras", {}).get(kind, 0) for kind in ("wides", "noballs", "byes", "legbyes", "penalty")}
-            self.match.add(
-                "deliveries", **self.at, number=number, over=over, ball=ball, fielding=self.fielding, striker=delivery["batter"],
-                non_striker=delivery["non_striker"], bowler=delivery["bowler"], runs_off_bat=delivery["runs"]["batter"], **extras,
-                total=delivery["runs"]["total"], boundary=boundary(words) or None, counts=int(counts(delivery, words)),
-            )
+        numbered = enumerate(zip(places, self.deliveries, self.counted, strict=True), 1)
+        self.match.add_rows("deliveries", DELIVERY, [self.delivery_row(number, *it) for number, it in numbered])
+
+    def delivery_row(self, number, place, delivered, counted):
+        delivery, words = delivered
+        extras, runs = delivery.get("extras", {}), delivery["runs"]
+        return (
+            *self.at.values(), number, *place, self.fielding, delivery["batter"], delivery["non_striker"], delivery["bowler"], runs["batter"],
+            *[extras.get(kind, 0) for kind in EXTRAS], runs["total"], boundary(words) or None, counted,
+        )
 
     def add_batters(self):
         for place, (name, how, (runs, balls, fours, sixes)) in enumerate(self.card.batters, 1):
@@ -269,7 +282,7 @@ class Innings:
     def add_bowlers(self):
         for place, (name, _, (maidens, runs, wickets, wides, noballs)) in enumerate(self.card.bowlers, 1):
             player = self.by_print[name]
-            balls = sum(counts(*delivery) for delivery in self.deliveries if delivery[0]["bowler"] == player)
+            balls = sum(counted for (delivery, _), counted in zip(self.deliveries, self.counted) if delivery["bowler"] == player)
             self.match.add(
                 "bowlers", innings=self.at["innings"], team=self.fielding, place=place, player=player,
                 balls=balls, maidens=maidens, runs=runs, wickets=wickets, wides=wides, noballs=noballs,

@@ -139,17 +139,18 @@ class Reading:
         self.put(first)
 
     def put(self, match):
-        self.insert("matches", [match.row])
+        self.insert("matches", tuple(match.row), [tuple(match.row.values())])
         (number,) = self.season.execute("SELECT last_insert_rowid()").fetchone()
-        for table, rows in match.tables.items():
-            self.insert(table, rows if table == "players" else [dict(row, match=number) for row in rows])
+        for (table, columns), rows in match.tables.items():
+            if table == "players":
+                self.insert(table, columns, rows)
+            else:
+                self.insert(table, ("match", *columns), [(number, *row) for row in rows])
 
-    def insert(self, table, rows):
+    def insert(self, table, columns, rows):
         """Puts rows into a table. A player is known by side and name, and may be there already."""
-        columns = ", ".join(rows[0])
-        marks = ", ".join(f":{column}" for column in rows[0])
         word = "INSERT OR IGNORE" if table == "players" else "INSERT"
-        self.season.executemany(f"{word} INTO {table} ({columns}) VALUES ({marks})", rows)
+        self.season.executemany(f"{word} INTO {table} ({', '.join(columns)}) VALUES ({', '.join('?' * len(columns))})", rows)
 
     def note_left_out(self, folders):
         """Notes what isn't taken; of a match that is in from before this is told too."""
@@ -159,7 +160,7 @@ class Reading:
         self.season.execute("DELETE FROM left_out")
         for folder in folders:
             if folder in self.left_out:
-                self.insert("left_out", [{"folder": folder, "why": self.left_out[folder]}])
+                self.insert("left_out", ("folder", "why"), [(folder, self.left_out[folder])])
                 print(f"{folder}: left out: {self.left_out[folder]}")
         print(", ".join(f"{count} {name}" for name, count in [*self.sums.items(), ("left out", len(self.left_out))]))
 
