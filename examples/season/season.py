@@ -67,7 +67,10 @@ def read_each(program, hashes):
     count = min(os.cpu_count(), len(folders))
     processes = [begun(program, {folder: hashes[folder] for folder in folders[at::count]}) for at in range(count)]
     for at, _ in enumerate(folders):
-        found = processes[at % count].recv()
+        try:
+            found = processes[at % count].recv()
+        except EOFError:
+            raise Refused("a process that read matches was ended: begin again") from None
         if isinstance(found, OSError):
             raise found
         yield found
