@@ -2,7 +2,7 @@
 
 /// What may be run and loaded in the page: its own style and script, and what it asks of its station.
 pub const POLICY: &[u8] =
-    b"default-src 'none'; script-src 'sha256-d8ZsyKjDbx14r2/25H+FDf81CO6Hq3EaB5PHCBGZKmg='; style-src 'sha256-fG+D0r1ggOak2xF6bZb012y2J1FY5fn76VrsA2XuLZs='; connect-src 'self'; img-src data:; base-uri 'none'; form-action 'none'; frame-ancestors 'none'";
+    b"default-src 'none'; script-src 'sha256-yzwafWOZan3xgKzpqqO4f0vcSdbT/j3OEQtLQcabGWQ='; style-src 'sha256-fG+D0r1ggOak2xF6bZb012y2J1FY5fn76VrsA2XuLZs='; connect-src 'self'; img-src data:; base-uri 'none'; form-action 'none'; frame-ancestors 'none'";
 
 /// The page.
 pub const PAGE: &[u8] = b"<!DOCTYPE html>
@@ -598,7 +598,7 @@ function follow(row) {
   else if (row === \"the other desk isn't heard\") told.isHeard = false;
   else if (row === \"the other desk is heard again\") told.isHeard = true;
   else if (row.startsWith(\"this file lacks lines that \")) told.doubts = row;
-  else if (row.startsWith(\"this desk goes on \") || row.startsWith(\"the other desk is where this one is\")) told.doubts = null;
+  else if (row.startsWith(\"this desk goes on \") || row.startsWith(\"the other desk is at the same place\")) told.doubts = null;
   else if (row.startsWith(\"dropped \") && THEIRS.test(told.rows[told.rows.length - 2])) told.differs.dropped = row;
 }
 
