@@ -17,7 +17,7 @@ pub record HavePlaces (game : ℕ) (a b : List ℕ) (n m : ℕ) : Type 0 where
 
 abbrev pub ends_line : List ℕ → List ℕ → ℕ → List ℕ
 ends_line short long places =
-    short ++ codes " ends " ++ decimal places ++ codes " places before " ++ long ++ codes ": compare" ++ codes "\n"
+    short ++ codes " ends " ++ decimal places ++ codes " places before " ++ long ++ codes ": compare them" ++ codes "\n"
 
 -- what is told of two files with n and m places: nothing if they differ by at most one, a vote that the other desk still lacks
 abbrev pub ends_text : List ℕ → List ℕ → ℕ → ℕ → List ℕ

@@ -30,7 +30,10 @@ fn print_line<W: Sink>(
     ensures text { OnOk result (Prints W.contents out.old out.new (ends.ends_line short.now long.now places)) }
     ensures failed { TellsFailure result out.old out.new }
 {
-    writeln!(out, "{short} ends {places} places before {long}: compare")
+    writeln!(
+        out,
+        "{short} ends {places} places before {long}: compare them"
+    )
 }
 
 /// Prints which of two files, with these numbers of places, ends before the other, if by two places or more.

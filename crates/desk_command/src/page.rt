@@ -181,7 +181,10 @@ impl<'p, E> PageSquares<'p, E> {
 impl<E: Write> Squares for PageSquares<'_, E> {
     fn show(&mut self, word: PageWord) {
         if self.page.scorers().is_none() {
-            let _ = writeln!(self.errors, "page: this desk has none, without --serve");
+            let _ = writeln!(
+                self.errors,
+                "page: this desk has none: start it with --serve"
+            );
             return;
         }
         self.page.tell(self.rt, word, &mut self.errors);

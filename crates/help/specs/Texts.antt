@@ -18,27 +18,27 @@ rows Help =
     codes "ground: the book of a cricket match, kept by two scorers. Its words:" ∷
     codes "" ∷
     codes "  start    keeps a match at one laptop: both desks, a board and their pages" ∷
-    codes "  desk     a scorer's desk, which agrees what is typed with the other desk" ∷
+    codes "  desk     a scorer's desk, which agrees each line with the other desk" ∷
     codes "  board    a board, which shows what both scorers have written" ∷
     codes "  key      writes a new key, for both desks and their boards" ∷
     codes "  sheet    prints a match sheet, or all that is wrong with it" ∷
     codes "  check    reads lines, says which aren't taken and why, and shows the score" ∷
     codes "  card     prints the cards and the whole book of a match" ∷
     codes "  export   prints a match as JSON, for an archive" ∷
-    codes "  page     prints a match as one HTML page, to be looked at or printed" ∷
-    codes "  lines    prints a match as lines, to begin it anew where a file is lost" ∷
+    codes "  page     prints a match as one HTML page, for a browser or for paper" ∷
+    codes "  lines    prints a match as lines, to begin it anew after a file is lost" ∷
     codes "  compare  tells where the votes files of both desks differ" ∷
-    codes "  match    has two desks and a board agree a book, all on this machine" ∷
+    codes "  match    lets two desks and a board agree a book, all on this machine" ∷
     codes "  replay   plays a schedule of what desks and boards write, send and lose" ∷
     codes "  migrate  moves a desk's votes from a file of version 1 to a new one" ∷
-    codes "  typing   a desk's terminal, at which the line that is typed is edited" ∷
-    codes "  help     this; or what one of these words does, as: ./ground help desk" ∷
+    codes "  typing   edits the line that a scorer types at a desk's terminal" ∷
+    codes "  help     prints this, or what one word does: ./ground help desk" ∷
     codes "" ∷
-    codes "With no word at all it does what check does." ∷ []
+    codes "Without a word it does what check does." ∷ []
 rows Desk =
     codes "desk: a scorer's desk. What you type stands once the other scorer has typed the" ∷
-    codes "same. Typed there, help has the forms of lines, and quit ends it. After a stop" ∷
-    codes "the same command goes on where it was." ∷
+    codes "same. At the desk, help shows the forms of lines, and quit ends it. After a" ∷
+    codes "crash or a power cut the same command resumes where it was." ∷
     codes "" ∷
     codes "  ./ground desk --sheet sheet.toml --desk a --file a.votes --key key.txt \\" ∷
     codes "    --at 127.0.0.1:4711 --other 127.0.0.1:4712 --board 127.0.0.1:4713" ∷
@@ -46,16 +46,16 @@ rows Desk =
     codes "  --sheet S          the sheet of the match, the same at all desks and boards" ∷
     codes "  --desk a|b         which of the two desks this is" ∷
     codes "  --file F           where its votes are kept" ∷
-    codes "  --copy C           a second file of its votes, as on a stick; or left out" ∷
+    codes "  --copy C           a second file of its votes, perhaps on a stick; optional" ∷
     codes "  --at ADDR:PORT     its own address" ∷
     codes "  --other ADDR:PORT  the other desk's address" ∷
-    codes "  --board ADDR:PORT  a board's address; up to four times, or left out" ∷
-    codes "  --serve ADDR:PORT  where its scorer finds its page; or left out" ∷
-    codes "  --key K            the file of the key, the same everywhere; or left out" ∷
-    codes "  --columns N        how wide rows are, 60 to 200; 80 where it is left out" ∷
+    codes "  --board ADDR:PORT  a board's address; optional, up to four times" ∷
+    codes "  --serve ADDR:PORT  where its scorer opens its page; optional" ∷
+    codes "  --key K            the file of the key, the same everywhere; optional" ∷
+    codes "  --columns N        how wide its rows are, 60 to 200; 80 by default" ∷
     codes "" ∷
-    codes "Where sheet.toml has a table [stations], ./ground desk a begins desk A with it." ∷
-    codes "An option behind that wins." ∷ []
+    codes "If sheet.toml has a table [stations], ./ground desk a starts desk A with it." ∷
+    codes "Options after these words win over the table." ∷ []
 rows Board =
     codes "board: shows what both desks have agreed. It needs no scorer, and fetches what" ∷
     codes "it lacks from the desks. To end it, close its window." ∷
@@ -68,21 +68,21 @@ rows Board =
     codes "  --at ADDR:PORT      its own address" ∷
     codes "  --desk-a ADDR:PORT  the address of desk A" ∷
     codes "  --desk-b ADDR:PORT  the address of desk B" ∷
-    codes "  --text T            a file for its six lines; or left out" ∷
-    codes "  --json J            a file of all that a page shows, as JSON; or left out" ∷
-    codes "  --script C          the same, for a page opened from a folder; or left out" ∷
-    codes "  --serve ADDR:PORT   where browsers find its page; or left out" ∷
-    codes "  --key K             the file of the key, the same everywhere; or left out" ∷
+    codes "  --text T            a file for its six lines; optional" ∷
+    codes "  --json J            a file for all that a page shows, as JSON; optional" ∷
+    codes "  --script C          the same, for a page opened from a folder; optional" ∷
+    codes "  --serve ADDR:PORT   where browsers open its page; optional" ∷
+    codes "  --key K             the file of the key, the same everywhere; optional" ∷
     codes "" ∷
-    codes "Where sheet.toml has a table [stations], ./ground board 1 begins the first board" ∷
-    codes "with it. An option behind that wins." ∷ []
+    codes "If sheet.toml has a table [stations], ./ground board 1 starts the first board" ∷
+    codes "with it. Options after these words win over the table." ∷ []
 rows Key =
     codes "key: writes a new key to a file. Both desks and each board get this same file," ∷
-    codes "and nobody else. Make a new one whenever a match is begun on new files." ∷
+    codes "and nobody else. Make a new one whenever you begin a match on new files." ∷
     codes "" ∷
     codes "  ./ground key --to key.txt" ∷
     codes "" ∷
-    codes "  --to K  the file, which must not be there yet; or a folder, for a.key, b.key" ∷
+    codes "  --to K  the new file, which mustn't exist yet; or a folder, for a.key, b.key" ∷
     codes "          and board1.key to board4.key: one for each desk and board" ∷ []
 rows Check =
     codes "check: reads full lines from standard input, says which aren't taken and why," ∷
@@ -90,7 +90,7 @@ rows Check =
     codes "" ∷
     codes "  ./ground check --innings 1 <first.txt" ∷
     codes "" ∷
-    codes "  --innings 1|2  how many innings a side has; 2 where it is left out" ∷ []
+    codes "  --innings 1|2  how many innings a side has; 2 by default" ∷ []
 rows Card =
     codes "card: prints both cards of each innings, and then the book: each entry that" ∷
     codes "stands, and each correction." ∷
@@ -100,10 +100,10 @@ rows Card =
     codes "  --sheet S             the sheet of the match" ∷
     codes "  --kind both|a|b|book  from both desks' votes files, from desk A's, from desk" ∷
     codes "                        B's, or from a file of full lines" ∷
-    codes "  --from F              the file; for both, desk A's" ∷
-    codes "  --with G              desk B's file, for both alone" ∷
-    codes "  --each                of many matches, in place of these: standard input names" ∷
-    codes "                        their folders, one a line; or left out" ∷ []
+    codes "  --from F              the file; with --kind both, desk A's" ∷
+    codes "  --with G              desk B's file, only with --kind both" ∷
+    codes "  --each                instead of these, for many matches: standard input" ∷
+    codes "                        names their folders, one a line; optional" ∷ []
 rows Export =
     codes "export: prints a book as one JSON value, in the format of published archives of" ∷
     codes "matches, ball by ball." ∷
@@ -114,12 +114,13 @@ rows Export =
     codes "  --sheet S             the sheet of the match" ∷
     codes "  --kind both|a|b|book  from both desks' votes files, from desk A's, from desk" ∷
     codes "                        B's, or from a file of full lines" ∷
-    codes "  --from F              the file; for both, desk A's" ∷
-    codes "  --with G              desk B's file, for both alone" ∷
-    codes "  --each                of many matches, in place of these: standard input names" ∷
-    codes "                        their folders, one a line; or left out" ∷
-    codes "  --rows                a table of the deliveries, as CSV; or left out" ∷
-    codes "  --penalties           a table of what no delivery carries; or left out" ∷ []
+    codes "  --from F              the file; with --kind both, desk A's" ∷
+    codes "  --with G              desk B's file, only with --kind both" ∷
+    codes "  --each                instead of these, for many matches: standard input" ∷
+    codes "                        names their folders, one a line; optional" ∷
+    codes "  --rows                instead of JSON, a table of deliveries as CSV; optional" ∷
+    codes "  --penalties           instead of JSON, a table as CSV of the penalty runs that" ∷
+    codes "                        no delivery carries; optional" ∷ []
 rows Page =
     codes "page: prints a match as one HTML page, for a browser, a site or paper: cards," ∷
     codes "falls, partnerships, charts, and each ball. The page loads nothing else." ∷
@@ -129,26 +130,26 @@ rows Page =
     codes "  --sheet S             the sheet of the match" ∷
     codes "  --kind both|a|b|book  from both desks' votes files, from desk A's, from desk" ∷
     codes "                        B's, or from a file of full lines" ∷
-    codes "  --from F              the file; for both, desk A's" ∷
-    codes "  --with G              desk B's file, for both alone" ∷
-    codes "  --each                of many matches, in place of these: standard input names" ∷
-    codes "                        their folders, one a line; or left out" ∷ []
+    codes "  --from F              the file; with --kind both, desk A's" ∷
+    codes "  --with G              desk B's file, only with --kind both" ∷
+    codes "  --each                instead of these, for many matches: standard input" ∷
+    codes "                        names their folders, one a line; optional" ∷ []
 rows Lines =
-    codes "lines: prints a book as full lines, each entry as it was written, from which" ∷
-    codes "match begins it anew, as where a laptop is lost." ∷
+    codes "lines: prints a book as full lines, each entry as it was written. From these" ∷
+    codes "match begins it anew, for example after a laptop is lost." ∷
     codes "" ∷
     codes "  ./ground lines --sheet sheet.toml --from b.votes --kind b >book.txt" ∷
     codes "" ∷
     codes "  --sheet S             the sheet of the match" ∷
     codes "  --kind both|a|b|book  from both desks' votes files, from desk A's, from desk" ∷
     codes "                        B's, or from a file of full lines" ∷
-    codes "  --from F              the file; for both, desk A's" ∷
-    codes "  --with G              desk B's file, for both alone" ∷
-    codes "  --each                of many matches, in place of these: standard input names" ∷
-    codes "                        their folders, one a line; or left out" ∷ []
+    codes "  --from F              the file; with --kind both, desk A's" ∷
+    codes "  --with G              desk B's file, only with --kind both" ∷
+    codes "  --each                instead of these, for many matches: standard input" ∷
+    codes "                        names their folders, one a line; optional" ∷ []
 rows Compare =
     codes "compare: tells where the votes files of both desks differ, a line for each place" ∷
-    codes "and round, and then how many entries they agree." ∷
+    codes "and round, and then how many agree, differ, or are in one file alone." ∷
     codes "" ∷
     codes "  ./ground compare --sheet sheet.toml --a a.votes --b b.votes" ∷
     codes "" ∷
@@ -157,14 +158,14 @@ rows Compare =
     codes "  --b B      the votes file of desk B" ∷ []
 rows Match =
     codes "match: two desks and a board agree the lines of a book, all on this machine." ∷
-    codes "The votes of each desk are left in a new file, a.votes and b.votes." ∷
+    codes "Each desk leaves its votes in a new file, a.votes or b.votes." ∷
     codes "" ∷
     codes "  ./ground match --sheet sheet.toml --book innings.txt --dir whole" ∷
     codes "" ∷
     codes "  --sheet S  the sheet of the match" ∷
     codes "  --book F   a file of full lines" ∷
     codes "  --dir D    the folder for both files" ∷
-    codes "  --drop K   how many of the first datagrams are lost; none where it is left out" ∷ []
+    codes "  --drop K   how many of the first datagrams are lost; none by default" ∷ []
 rows Replay =
     codes "replay: plays a schedule of two desks and some boards, a line for each event:" ∷
     codes "who writes what, which message comes where, what stops or loses power." ∷
@@ -174,7 +175,7 @@ rows Replay =
     codes "  --sheet S     the sheet of the match" ∷
     codes "  --schedule F  the file of events" ∷
     codes "  --boards N    how many boards there are, 0 to 4" ∷
-    codes "  --old         desks begin with files of version 1; of version 2 if left out" ∷ []
+    codes "  --old         desks begin with files of version 1 instead of 2; optional" ∷ []
 rows Migrate =
     codes "migrate: writes the votes of a desk's file of version 1 to a new file of version" ∷
     codes "2. From then on use only the new one." ∷
@@ -194,24 +195,25 @@ rows Sheet =
     codes "" ∷
     codes "  --sheet S  the sheet of the match" ∷ []
 rows Typing =
-    codes "typing: the terminal of a desk, which ./ground begins with it: it edits what is" ∷
-    codes "typed, hands each line to the desk, and shows what that tells above it." ∷
+    codes "typing: a desk's terminal, which ./ground starts with the desk. It edits what is" ∷
+    codes "typed, hands each line to the desk, and shows the desk's rows above it." ∷
     codes "" ∷
     codes "  ./ground typing --lines lines.txt --told told.txt --columns 80 <keys.txt \\" ∷
     codes "    >shown.txt" ∷
     codes "" ∷
-    codes "  --lines L    where each line goes, a file or a pipe that is there" ∷
-    codes "  --told T     where the desk's rows come from, likewise" ∷
+    codes "  --lines L    where each line goes: a file or a pipe, which must exist" ∷
+    codes "  --told T     where the desk's rows come from: likewise" ∷
     codes "  --columns N  the width of the terminal, 20 to 1000" ∷ []
 rows Start =
     codes "start: keeps a match at one laptop in one window: both desks, a board and their" ∷
-    codes "pages. It asks who plays, or goes on with the match of the folder that it is" ∷
-    codes "begun in. The word is that of the script ./ground, which begins the program." ∷
+    codes "pages. It asks who plays, or resumes the match of the folder you are in. start" ∷
+    codes "lobby asks on a web page instead; start b joins from a second laptop. Only the" ∷
+    codes "script ./ground, which runs the program, has this word." ∷
     codes "" ∷
     codes "  ./ground start --rehearse" ∷
     codes "" ∷
     codes "  --rehearse  a match of two overs to learn by, in the folder rehearsal, where a" ∷
-    codes "              script is scorer B; or left out" ∷ []
+    codes "              script is scorer B; optional" ∷ []
 
 -- what is told of a word
 abbrev pub help_on : Subject → List ℕ

@@ -9,29 +9,29 @@ const HELP: &str = "\
 ground: the book of a cricket match, kept by two scorers. Its words:
 
   start    keeps a match at one laptop: both desks, a board and their pages
-  desk     a scorer's desk, which agrees what is typed with the other desk
+  desk     a scorer's desk, which agrees each line with the other desk
   board    a board, which shows what both scorers have written
   key      writes a new key, for both desks and their boards
   sheet    prints a match sheet, or all that is wrong with it
   check    reads lines, says which aren't taken and why, and shows the score
   card     prints the cards and the whole book of a match
   export   prints a match as JSON, for an archive
-  page     prints a match as one HTML page, to be looked at or printed
-  lines    prints a match as lines, to begin it anew where a file is lost
+  page     prints a match as one HTML page, for a browser or for paper
+  lines    prints a match as lines, to begin it anew after a file is lost
   compare  tells where the votes files of both desks differ
-  match    has two desks and a board agree a book, all on this machine
+  match    lets two desks and a board agree a book, all on this machine
   replay   plays a schedule of what desks and boards write, send and lose
   migrate  moves a desk's votes from a file of version 1 to a new one
-  typing   a desk's terminal, at which the line that is typed is edited
-  help     this; or what one of these words does, as: ./ground help desk
+  typing   edits the line that a scorer types at a desk's terminal
+  help     prints this, or what one word does: ./ground help desk
 
-With no word at all it does what check does.
+Without a word it does what check does.
 ";
 
 const DESK: &str = "\
 desk: a scorer's desk. What you type stands once the other scorer has typed the
-same. Typed there, help has the forms of lines, and quit ends it. After a stop
-the same command goes on where it was.
+same. At the desk, help shows the forms of lines, and quit ends it. After a
+crash or a power cut the same command resumes where it was.
 
   ./ground desk --sheet sheet.toml --desk a --file a.votes --key key.txt \\
     --at 127.0.0.1:4711 --other 127.0.0.1:4712 --board 127.0.0.1:4713
@@ -39,16 +39,16 @@ the same command goes on where it was.
   --sheet S          the sheet of the match, the same at all desks and boards
   --desk a|b         which of the two desks this is
   --file F           where its votes are kept
-  --copy C           a second file of its votes, as on a stick; or left out
+  --copy C           a second file of its votes, perhaps on a stick; optional
   --at ADDR:PORT     its own address
   --other ADDR:PORT  the other desk's address
-  --board ADDR:PORT  a board's address; up to four times, or left out
-  --serve ADDR:PORT  where its scorer finds its page; or left out
-  --key K            the file of the key, the same everywhere; or left out
-  --columns N        how wide rows are, 60 to 200; 80 where it is left out
+  --board ADDR:PORT  a board's address; optional, up to four times
+  --serve ADDR:PORT  where its scorer opens its page; optional
+  --key K            the file of the key, the same everywhere; optional
+  --columns N        how wide its rows are, 60 to 200; 80 by default
 
-Where sheet.toml has a table [stations], ./ground desk a begins desk A with it.
-An option behind that wins.
+If sheet.toml has a table [stations], ./ground desk a starts desk A with it.
+Options after these words win over the table.
 ";
 
 const BOARD: &str = "\
@@ -63,23 +63,23 @@ it lacks from the desks. To end it, close its window.
   --at ADDR:PORT      its own address
   --desk-a ADDR:PORT  the address of desk A
   --desk-b ADDR:PORT  the address of desk B
-  --text T            a file for its six lines; or left out
-  --json J            a file of all that a page shows, as JSON; or left out
-  --script C          the same, for a page opened from a folder; or left out
-  --serve ADDR:PORT   where browsers find its page; or left out
-  --key K             the file of the key, the same everywhere; or left out
+  --text T            a file for its six lines; optional
+  --json J            a file for all that a page shows, as JSON; optional
+  --script C          the same, for a page opened from a folder; optional
+  --serve ADDR:PORT   where browsers open its page; optional
+  --key K             the file of the key, the same everywhere; optional
 
-Where sheet.toml has a table [stations], ./ground board 1 begins the first board
-with it. An option behind that wins.
+If sheet.toml has a table [stations], ./ground board 1 starts the first board
+with it. Options after these words win over the table.
 ";
 
 const KEY: &str = "\
 key: writes a new key to a file. Both desks and each board get this same file,
-and nobody else. Make a new one whenever a match is begun on new files.
+and nobody else. Make a new one whenever you begin a match on new files.
 
   ./ground key --to key.txt
 
-  --to K  the file, which must not be there yet; or a folder, for a.key, b.key
+  --to K  the new file, which mustn't exist yet; or a folder, for a.key, b.key
           and board1.key to board4.key: one for each desk and board
 ";
 
@@ -89,7 +89,7 @@ and prints the six lines of a board. It has no sheet, so players are numbers.
 
   ./ground check --innings 1 <first.txt
 
-  --innings 1|2  how many innings a side has; 2 where it is left out
+  --innings 1|2  how many innings a side has; 2 by default
 ";
 
 const CARD: &str = "\
@@ -101,10 +101,10 @@ stands, and each correction.
   --sheet S             the sheet of the match
   --kind both|a|b|book  from both desks' votes files, from desk A's, from desk
                         B's, or from a file of full lines
-  --from F              the file; for both, desk A's
-  --with G              desk B's file, for both alone
-  --each                of many matches, in place of these: standard input names
-                        their folders, one a line; or left out
+  --from F              the file; with --kind both, desk A's
+  --with G              desk B's file, only with --kind both
+  --each                instead of these, for many matches: standard input
+                        names their folders, one a line; optional
 ";
 
 const EXPORT: &str = "\
@@ -117,12 +117,13 @@ matches, ball by ball.
   --sheet S             the sheet of the match
   --kind both|a|b|book  from both desks' votes files, from desk A's, from desk
                         B's, or from a file of full lines
-  --from F              the file; for both, desk A's
-  --with G              desk B's file, for both alone
-  --each                of many matches, in place of these: standard input names
-                        their folders, one a line; or left out
-  --rows                a table of the deliveries, as CSV; or left out
-  --penalties           a table of what no delivery carries; or left out
+  --from F              the file; with --kind both, desk A's
+  --with G              desk B's file, only with --kind both
+  --each                instead of these, for many matches: standard input
+                        names their folders, one a line; optional
+  --rows                instead of JSON, a table of deliveries as CSV; optional
+  --penalties           instead of JSON, a table as CSV of the penalty runs that
+                        no delivery carries; optional
 ";
 
 const PAGE: &str = "\
@@ -134,30 +135,30 @@ falls, partnerships, charts, and each ball. The page loads nothing else.
   --sheet S             the sheet of the match
   --kind both|a|b|book  from both desks' votes files, from desk A's, from desk
                         B's, or from a file of full lines
-  --from F              the file; for both, desk A's
-  --with G              desk B's file, for both alone
-  --each                of many matches, in place of these: standard input names
-                        their folders, one a line; or left out
+  --from F              the file; with --kind both, desk A's
+  --with G              desk B's file, only with --kind both
+  --each                instead of these, for many matches: standard input
+                        names their folders, one a line; optional
 ";
 
 const LINES: &str = "\
-lines: prints a book as full lines, each entry as it was written, from which
-match begins it anew, as where a laptop is lost.
+lines: prints a book as full lines, each entry as it was written. From these
+match begins it anew, for example after a laptop is lost.
 
   ./ground lines --sheet sheet.toml --from b.votes --kind b >book.txt
 
   --sheet S             the sheet of the match
   --kind both|a|b|book  from both desks' votes files, from desk A's, from desk
                         B's, or from a file of full lines
-  --from F              the file; for both, desk A's
-  --with G              desk B's file, for both alone
-  --each                of many matches, in place of these: standard input names
-                        their folders, one a line; or left out
+  --from F              the file; with --kind both, desk A's
+  --with G              desk B's file, only with --kind both
+  --each                instead of these, for many matches: standard input
+                        names their folders, one a line; optional
 ";
 
 const COMPARE: &str = "\
 compare: tells where the votes files of both desks differ, a line for each place
-and round, and then how many entries they agree.
+and round, and then how many agree, differ, or are in one file alone.
 
   ./ground compare --sheet sheet.toml --a a.votes --b b.votes
 
@@ -168,14 +169,14 @@ and round, and then how many entries they agree.
 
 const MATCH: &str = "\
 match: two desks and a board agree the lines of a book, all on this machine.
-The votes of each desk are left in a new file, a.votes and b.votes.
+Each desk leaves its votes in a new file, a.votes or b.votes.
 
   ./ground match --sheet sheet.toml --book innings.txt --dir whole
 
   --sheet S  the sheet of the match
   --book F   a file of full lines
   --dir D    the folder for both files
-  --drop K   how many of the first datagrams are lost; none where it is left out
+  --drop K   how many of the first datagrams are lost; none by default
 ";
 
 const REPLAY: &str = "\
@@ -187,7 +188,7 @@ who writes what, which message comes where, what stops or loses power.
   --sheet S     the sheet of the match
   --schedule F  the file of events
   --boards N    how many boards there are, 0 to 4
-  --old         desks begin with files of version 1; of version 2 if left out
+  --old         desks begin with files of version 1 instead of 2; optional
 ";
 
 const MIGRATE: &str = "\
@@ -213,26 +214,27 @@ each: where, and what. Look at it before the match.
 ";
 
 const TYPING: &str = "\
-typing: the terminal of a desk, which ./ground begins with it: it edits what is
-typed, hands each line to the desk, and shows what that tells above it.
+typing: a desk's terminal, which ./ground starts with the desk. It edits what is
+typed, hands each line to the desk, and shows the desk's rows above it.
 
   ./ground typing --lines lines.txt --told told.txt --columns 80 <keys.txt \\
     >shown.txt
 
-  --lines L    where each line goes, a file or a pipe that is there
-  --told T     where the desk's rows come from, likewise
+  --lines L    where each line goes: a file or a pipe, which must exist
+  --told T     where the desk's rows come from: likewise
   --columns N  the width of the terminal, 20 to 1000
 ";
 
 const START: &str = "\
 start: keeps a match at one laptop in one window: both desks, a board and their
-pages. It asks who plays, or goes on with the match of the folder that it is
-begun in. The word is that of the script ./ground, which begins the program.
+pages. It asks who plays, or resumes the match of the folder you are in. start
+lobby asks on a web page instead; start b joins from a second laptop. Only the
+script ./ground, which runs the program, has this word.
 
   ./ground start --rehearse
 
   --rehearse  a match of two overs to learn by, in the folder rehearsal, where a
-              script is scorer B; or left out
+              script is scorer B; optional
 ";
 
 /// Returns the help text of a word.

@@ -2,7 +2,7 @@
 
 /// What may be run and loaded in the page: its own style and script, and what it asks of its station.
 pub const POLICY: &[u8] =
-    b"default-src 'none'; script-src 'sha256-d8ZsyKjDbx14r2/25H+FDf81CO6Hq3EaB5PHCBGZKmg='; style-src 'sha256-fG+D0r1ggOak2xF6bZb012y2J1FY5fn76VrsA2XuLZs='; connect-src 'self'; img-src data:; base-uri 'none'; form-action 'none'; frame-ancestors 'none'";
+    b"default-src 'none'; script-src 'sha256-iTxFn10YMppUIlro7vS3MKianVQUwU2LmFBlwRXY9FY='; style-src 'sha256-fG+D0r1ggOak2xF6bZb012y2J1FY5fn76VrsA2XuLZs='; connect-src 'self'; img-src data:; base-uri 'none'; form-action 'none'; frame-ancestors 'none'";
 
 /// The page.
 pub const PAGE: &[u8] = b"<!DOCTYPE html>
@@ -262,8 +262,8 @@ form input::placeholder { color: var(--quiet); opacity: 1; }
   <div id=\"card\" role=\"dialog\" aria-modal=\"true\" aria-labelledby=\"question\">
     <div class=\"bar\"><h2 id=\"question\" tabindex=\"-1\"></h2><button type=\"button\" id=\"back\">Cancel</button></div>
     <div id=\"choices\"></div>
-    <form id=\"ask\" hidden><label for=\"answer\" class=\"unseen\">The letters and digits behind # in the link</label>
-      <input id=\"answer\" autocomplete=\"off\" autocapitalize=\"off\" autocorrect=\"off\" spellcheck=\"false\" enterkeyhint=\"done\" placeholder=\"what stands behind #\">
+    <form id=\"ask\" hidden><label for=\"answer\" class=\"unseen\">The letters and digits after # in the link</label>
+      <input id=\"answer\" autocomplete=\"off\" autocapitalize=\"off\" autocorrect=\"off\" spellcheck=\"false\" enterkeyhint=\"done\" placeholder=\"what stands after #\">
       <button>Use it</button></form>
   </div>
 </div>
@@ -598,7 +598,7 @@ function follow(row) {
   else if (row === \"the other desk isn't heard\") told.isHeard = false;
   else if (row === \"the other desk is heard again\") told.isHeard = true;
   else if (row.startsWith(\"this file lacks lines that \")) told.doubts = row;
-  else if (row.startsWith(\"this desk goes on \") || row.startsWith(\"the other desk is where this one is\")) told.doubts = null;
+  else if (row.startsWith(\"this desk goes on \") || row.startsWith(\"the other desk is at the same place\")) told.doubts = null;
   else if (row.startsWith(\"dropped \") && THEIRS.test(told.rows[told.rows.length - 2])) told.differs.dropped = row;
 }
 
@@ -852,7 +852,7 @@ function deliver() {
     return deliver();
   }
   const isSame = nextPlace() === first.place && (state.pending !== null || state.round === first.round);
-  if (first.isSent || !isSame || Date.now() - first.tapped > OLD) return dropAside(\"See what stands at the desk, and tap what isn't there again.\");
+  if (first.isSent || !isSame || Date.now() - first.tapped > OLD) return dropAside(\"See what stands at the desk, and tap again what isn't there.\");
   send(first.line, first.label, position(), first);
 }
 
@@ -1446,7 +1446,7 @@ function lostView() {
   if (state && !isLost() || mayKeep()) return null;
   if (!state && isOpen) return { kind: \"\", head: \"Waiting for the desk\", detail: \"\" };
   const why = note && note.kind === \"bad\" ? note.head + \". \" + note.detail + \"\\n\" : \"\";
-  if (isAltered) return { kind: \"bad\", head: \"What came wasn't the desk's\", detail: why + ALTERED + \" Nothing is written here until the desk is heard. Its own keyboard goes on.\" };
+  if (isAltered) return { kind: \"bad\", head: \"What came isn't from the desk\", detail: why + ALTERED + \" Nothing is written here until the desk is heard. Its own keyboard goes on.\" };
   return { kind: \"bad\", head: \"The desk isn't reached\", detail: why + \"Nothing is written here until it is back. The desk's own keyboard goes on.\" };
 }
 
@@ -1459,7 +1459,7 @@ function secretView() {
   if (secret !== null) return null;
   if (ticket !== null) return { kind: \"\", head: \"Signing in\", detail: \"\" };
   const why = note ? note.head + \". \" + note.detail + \"\\n\" : needs ? needs + \"\\n\" : \"\";
-  const detail = why + \"Type \\\"page\\\" at the desk, and point the camera at its square, or type what stands behind # below it.\";
+  const detail = why + \"Type \\\"page\\\" at the desk, and point the camera at its square, or type what stands after the # below it.\";
   return { kind: why ? \"bad\" : \"wait\", head: needs ? \"This page needs a new square\" : \"This page can't write yet\", detail, answers: [[\"Type it\", askTicket, \"\", \"main\"]] };
 }
 
@@ -1889,7 +1889,7 @@ function closeTold() {
 }
 
 function askTicket() {
-  ask(\"What stands behind # in the link\", [], () => {});
+  ask(\"What stands after # in the link\", [], () => {});
 }
 
 function useTicket(event) {

@@ -40,7 +40,7 @@ impl KeyFault {
             KeyFault::Short => "a key has 16 bytes or more",
             KeyFault::Long => "a key has 1024 bytes or fewer",
             KeyFault::Alike => "a key has 8 different bytes or more",
-            KeyFault::NoPair => "isn't as key wrote it",
+            KeyFault::NoPair => "isn't as ground key wrote it",
             KeyFault::OfDeskA => "is the key of desk a",
             KeyFault::OfDeskB => "is the key of desk b",
             KeyFault::OfBoard => "is the key of a board",

@@ -68,4 +68,4 @@ aside_text columns Aside.NoText = codes "not held: that line is no text\n"
 aside_text columns (Aside.Untaken place line) = line_at place (codes " not taken: ") line.bytes
 aside_text columns (Aside.WasHeld place line) = way_back place line.bytes
 aside_text columns (Aside.IsCast place) =
-    at_place place (codes "is cast and stays: the other writes what is right, then you type it behind again")
+    at_place place (codes "is cast and stays: the other writes what is right, then you type it after again")

@@ -34,17 +34,17 @@ is_loss evidence = false
 -- ---- what the scorer is told
 
 abbrev pub ahead_line : List ℕ
-ahead_line = codes "this file lacks lines that the other desk has: put the right file back, or say go on\n"
+ahead_line = codes "this file lacks lines that the other desk has: put the right file back, or type go on\n"
 
 abbrev pub unkept_line : List ℕ
-unkept_line = codes "this file lacks lines that a board has, or two laptops are this desk: put the right file back, or say go on\n"
+unkept_line = codes "this file lacks lines that a board has, or two laptops are this desk: put the right file back, or type go on\n"
 
 -- told when a doubt begins or ends
 abbrev pub doubt_text : Doubt → Evidence → List ℕ
 doubt_text No Ahead = ahead_line
 doubt_text No Unkept = unkept_line
 doubt_text Yes Unkept = unkept_line
-doubt_text Yes Level = codes "the other desk is where this one is: lines are written again\n"
+doubt_text Yes Level = codes "the other desk is at the same place: this desk takes lines again\n"
 doubt_text doubt evidence = []
 
 -- told when the scorer asks where the desk stands

@@ -25,7 +25,7 @@ lines_text (e ∷ es) = rows (e ∷ es) ++ many_text (length (e ∷ es))
 
 abbrev pub plan_text : Plan → List ℕ
 plan_text (Lines lines) = lines_text lines.items
-plan_text (Unnamed e) = codes "no plan: this corrects and follows no entry of the book:\n  " ++ text_of e ++ codes "\n"
+plan_text (Unnamed e) = codes "no plan: the book has no entry that this corrects or follows:\n  " ++ text_of e ++ codes "\n"
 plan_text (Against x why) = codes "no plan" ++ later_words x.place x.item why
 plan_text LongPlan = codes "no plan found: void the later entries, the last first; correct; put them back\n"
 

@@ -176,7 +176,7 @@ standing sheet innings book at own waited warned =
 
 -- a desk that doubts its file casts no vote
 abbrev pub withheld : ℕ → List ℕ
-withheld place = at_place place (codes "isn't written: this file lacks lines; put the right file back, or say go on")
+withheld place = at_place place (codes "isn't written: this file lacks lines; put the right file back, or type go on")
 
 -- what is shown for a word; nothing here for `plan`, which has `Planning`
 abbrev pub word_text : Sheet → ℕ → Position → Option Entry → Bool → Warned → List Entry → Word → List ℕ
@@ -207,7 +207,7 @@ said_text sheet innings at own other warned book (Said.Unclear unclear) =
     unclear_text sheet unclear ++ who_may sheet (history_of book) unclear
 said_text sheet innings at own other warned book (Said.SayAgain line) = again_text at line (why_full at)
 said_text sheet innings at own other warned book Said.NoneDiffers =
-    at_place at.place (codes "doesn't differ: leave out again")
+    at_place at.place (codes "doesn't differ: type the line without again")
 said_text sheet innings at own other warned book Said.Waiting = refused_text Refusal.Waiting
 said_text sheet innings at own other warned book (Said.Refused e why) = refused_entry book e why
 said_text sheet innings at own other warned book Said.Withheld = withheld at.place

@@ -207,7 +207,7 @@ fn print_of_lines<W: Sink>(
         Aside::IsCast(place) => print_at(
             out,
             *place,
-            "is cast and stays: the other writes what is right, then you type it behind again",
+            "is cast and stays: the other writes what is right, then you type it after again",
         ),
     }
 }

@@ -72,7 +72,7 @@ fn print_ahead<W: Sink>(out: &mut Watched<W>) -> Result<(), WriteFailed>
 {
     writeln!(
         out,
-        "this file lacks lines that the other desk has: put the right file back, or say go on"
+        "this file lacks lines that the other desk has: put the right file back, or type go on"
     )
 }
 
@@ -83,7 +83,7 @@ fn print_unkept<W: Sink>(out: &mut Watched<W>) -> Result<(), WriteFailed>
 {
     writeln!(
         out,
-        "this file lacks lines that a board has, or two laptops are this desk: put the right file back, or say go on"
+        "this file lacks lines that a board has, or two laptops are this desk: put the right file back, or type go on"
     )
 }
 
@@ -101,7 +101,7 @@ pub(crate) fn print_doubt<W: Sink>(
         (Doubt::No | Doubt::Yes, Evidence::Unkept) => print_unkept(out),
         (Doubt::Yes, Evidence::Level) => writeln!(
             out,
-            "the other desk is where this one is: lines are written again"
+            "the other desk is at the same place: this desk takes lines again"
         ),
         _ => Ok(()),
     }

@@ -77,12 +77,12 @@ fn print_words<W: Sink>(out: &mut Watched<W>, words: &str) -> Result<(), WriteFa
 fn print_unnamed<W: Sink>(out: &mut Watched<W>, entry: &Entry) -> Result<(), WriteFailed>
     requires { IsEntry entry.now }
     ensures text { OnOk result (Prints W.contents out.old out.new
-        (codes "no plan: this corrects and follows no entry of the book:\n  " ++ text_of entry.now ++ codes "\n")) }
+        (codes "no plan: the book has no entry that this corrects or follows:\n  " ++ text_of entry.now ++ codes "\n")) }
     ensures failed { TellsFailure result out.old out.new }
 {
     print_words(
         out,
-        "no plan: this corrects and follows no entry of the book:\n  ",
+        "no plan: the book has no entry that this corrects or follows:\n  ",
     )?;
     print_row(out, entry)
 }

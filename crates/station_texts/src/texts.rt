@@ -343,7 +343,7 @@ fn print_withheld<W: Sink>(out: &mut Watched<W>, place: u32) -> Result<(), Write
     print_at(
         out,
         place,
-        "isn't written: this file lacks lines; put the right file back, or say go on",
+        "isn't written: this file lacks lines; put the right file back, or type go on",
     )
 }
 
@@ -444,7 +444,11 @@ fn print_answer<B: BookOf, W: Sink>(
         Said::Plan(planned) => print_planned(out, sheet, planned, book),
         Said::Unclear(unclear) => print_question(out, sheet, unclear, book),
         Said::SayAgain(line) => print_again(out, both.at, line),
-        Said::NoneDiffers => print_at(out, both.at.place, "doesn't differ: leave out again"),
+        Said::NoneDiffers => print_at(
+            out,
+            both.at.place,
+            "doesn't differ: type the line without again",
+        ),
         Said::Waiting => print_refused(out, Refusal::Waiting),
         Said::Withheld => print_withheld(out, both.at.place),
         Said::Refused(entry, why) => print_refused_entry(out, book, entry, *why),

@@ -41,7 +41,7 @@ abbrev pub words_text : WordsFault → List ℕ
 words_text NotUnderstood = codes "words not understood"
 words_text NotText = codes "words not understood: one isn't UTF-8"
 words_text (Unknown word) = codes "words not understood: " ++ word.now
-words_text (TooOften option) = codes "words not understood: --" ++ option.now ++ codes " is there too often"
+words_text (TooOften option) = codes "words not understood: --" ++ option.now ++ codes " is given too often"
 words_text (NoValue option) = codes "words not understood: --" ++ option.now ++ codes " has no value"
 words_text (WrongValue option value wanted) = codes "words not understood: --" ++ option.now ++ codes " " ++ value.now ++ codes ": " ++ wanted.now
 words_text (Misplaced option wanted) = codes "words not understood: --" ++ option.now ++ codes ": " ++ wanted.now

@@ -65,7 +65,7 @@ impl fmt::Display for WordsFault<'_> {
             WordsFault::NotText => f.write_str("words not understood: one isn't UTF-8"),
             WordsFault::Unknown(word) => write!(f, "words not understood: {word}"),
             WordsFault::TooOften(option) => {
-                write!(f, "words not understood: --{option} is there too often")
+                write!(f, "words not understood: --{option} is given too often")
             }
             WordsFault::NoValue(option) => {
                 write!(f, "words not understood: --{option} has no value")

@@ -257,7 +257,7 @@ fn look_at_each<'a>(line: Line<'a, '_>) -> Result<(), WordsFault<'a>> {
 fn look_at_pairs<'a>(line: Line<'a, '_>) -> Result<(), WordsFault<'a>> {
     let is_both = value_of(line.words, "kind") == Some("both");
     let (option, wanted) = match line.name {
-        "desk" if has(line, "desk") && names_station(line) => ("desk", "not behind a letter"),
+        "desk" if has(line, "desk") && names_station(line) => ("desk", "not after a letter"),
         "export" if has(line, "rows") && has(line, "penalties") => ("penalties", "not with --rows"),
         _ if has(line, "with") && !is_both => ("with", "only with --kind both"),
         _ if is_both && !has(line, "with") => ("kind both", "only with --with"),
