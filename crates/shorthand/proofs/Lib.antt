@@ -5,4 +5,6 @@ pub mod Standing
 pub mod Bowlers
 pub mod Meant
 pub mod Numerals
+pub mod Lowered
 pub mod Marked
+pub mod Cased

@@ -4,13 +4,14 @@ use Rattle.std.proofs.Common.{◌≡◌, ℕ, ◌≤◌, List, [], ◌∷◌, le
 use Rattle.std.proofs.Common.{Result, Ok, Err, refl, inl, inr, arith, IfOk, lit≤}
 use Rattle.std.proofs.lemmas.Bool.Decides.{nat_tests}
 use Rattle.notation.specs.declared.{fault.LineFault.LineFault, entry.Entry.Entry}
-use Rattle.notation.specs.Written.{tokens, is_spaced}
+use Rattle.std.specs.Str.{str_to_ascii_lowercase}
+use Rattle.notation.specs.Written.{Token, tokens, is_spaced}
 use Rattle.notation.specs.Reading.{line_answer}
 use Rattle.notation.proofs.Found.{chosen}
 use Rattle.notation.proofs.Texts.{length-text, line_again, line_found}
 use Rattle.cards.specs.Sheet.{Sheet}
 use Rattle.shorthand.specs.Lines.{Reason, Fault, Word, joined, plus, plus_all}
-use Rattle.shorthand.specs.Full.{by_word, in_full, is_of_line, put_in_full, with_words, words_in_full}
+use Rattle.shorthand.specs.Full.{by_tokens, by_word, in_full, is_of_line, or_lower, or_unknown, put_in_full, with_words, words_in_full}
 use Rattle.shorthand.specs.Laws.{FullLinesStand, IsReadOrRefused, TakenLinesAreRead}
 use Rattle.shorthand.specs.Words.{trimmed}
 use Rattle.shorthand.proofs.Blanks.{untrimmed}
@@ -36,9 +37,20 @@ plus_all_fits line (w ∷ ws) h = plus_all_fits (plus line w) ws (grind (arith, 
 with_words_fits : (line : Result (List ℕ) Reason) → Fits line → Fits (with_words line)
 with_words_fits line h = grind (arith, common_steps)
 
+tokens_fit : (s : Sheet) (book : List Entry) (line : List ℕ) → Fits (by_tokens s book line)
+tokens_fit s book line =
+    with_words_fits (joined (words_in_full s book (tokens line))) (plus_all_fits (Ok []) (words_in_full s book (tokens line)) (lit≤ tt))
+
+or_unknown_fits : (t : Token) (lower : Result (List ℕ) Reason) → Fits lower → Fits (or_unknown t lower)
+or_unknown_fits t lower h = grind (arith, common_steps)
+
+or_lower_fits : (full lower : Result (List ℕ) Reason) → Fits full → Fits lower → Fits (or_lower full lower)
+or_lower_fits full lower h k = grind (arith, common_steps, or_unknown_fits)
+
 words_fit : (s : Sheet) (book : List Entry) (line text : List ℕ) → by_word s book line ≡ Ok text → length text ≤ 96
 words_fit s book line text e =
-    rw e at (with_words_fits (joined (words_in_full s book (tokens line))) (plus_all_fits (Ok []) (words_in_full s book (tokens line)) (lit≤ tt)))
+    let lower = str_to_ascii_lowercase line in
+    rw e at (or_lower_fits (by_tokens s book line) (by_tokens s book lower) (tokens_fit s book line) (tokens_fit s book lower))
 
 put_fits : (s : Sheet) (book : List Entry) (line text : List ℕ) (read : Result Entry LineFault) → line_answer line ≡ read
     → put_in_full s book line read ≡ Ok text → length text ≤ 96
@@ -67,3 +79,8 @@ taken_lines_are_read = record {
 pub other_fault : (line : List ℕ) (f : LineFault) → line_answer line ≡ Err f → is_spaced line ≡ false → is_of_line f ≡ true
 unfolding line_answer
 other_fault line f h apart = grind arith
+
+-- any other line is tokens with single spaces between them, in at most 96 bytes
+pub is_tokens : (line : List ℕ) (f : LineFault) → line_answer line ≡ Err f → is_of_line f ≡ false → (length line ≤ 96) × (is_spaced line ≡ true)
+unfolding line_answer
+is_tokens line f h other = grind (arith, nat_tests)

@@ -3,7 +3,7 @@
 use Rattle.std.specs.Prelude.{ℕ, ◌==◌, length, Bool, true, false, ◌||◌, ◌&&◌, if◌then◌else◌}
 use Rattle.std.specs.Prelude.{Option, Some, None, List, [], ◌∷◌, map, codes, decimal, is_some, Result, Ok, Err}
 use Rattle.std.specs.List.{before_first, after_first}
-use Rattle.std.specs.Str.{bytes_eq}
+use Rattle.std.specs.Str.{bytes_eq, str_to_ascii_lowercase}
 use Rattle.notation.specs.Written.{Token, tokens, who_text, all_whos, kind_text, all_kinds, found_number}
 use Rattle.notation.specs.Reading.{line_answer}
 use Rattle.notation.specs.declared.{fault.LineFault.LineFault, entry.Entry.Entry, entry.Side.Side}
@@ -16,9 +16,9 @@ use Rattle.shorthand.specs.declared.{names.Among.Among, names.Found.Found, full.
 use Rattle.shorthand.specs.declared.names.Among.TheVariants.{Anyone}
 use Rattle.shorthand.specs.declared.names.Found.TheVariants.{NoOne}
 use Rattle.shorthand.specs.declared.full.Belongs.TheVariants.{Last, At, After}
-use Rattle.shorthand.specs.Words.{behind_one, is_desk_word, is_how, is_line_word, is_no_ball, is_one_of, is_run_out, trimmed, two_meanings, way_of, without_fielder}
-use Rattle.shorthand.specs.Lines.{NothingStands, Reason, Fault, WhoBowls, TwoMeanings, Word, as_typed, joined, plus}
-use Rattle.shorthand.specs.Names.{player, fielder, named, number_word, colon_name, names_bowler, no_fielder, no_such_ball, unknown_word, is_colon, is_digit_first}
+use Rattle.shorthand.specs.Words.{behind_one, is_and_bowled, is_desk_word, is_hit_wicket, is_how, is_leave, is_line_word, is_no_ball, is_one_of, is_run_out, leave_apart, trimmed, two_meanings, way_of, without_fielder}
+use Rattle.shorthand.specs.Lines.{NothingStands, Reason, Fault, WhoBowls, WhoIsOut, TwoMeanings, UnknownWord, Word, as_typed, joined, known, plus}
+use Rattle.shorthand.specs.Names.{player, fielder, named, number_word, colon_name, names_bowler, no_fielder, no_such_ball, unknown_word, is_colon, is_digit_first, is_same}
 use Rattle.shorthand.specs.Marks.{mark}
 use Rattle.shorthand.specs.Points.{batters_at, point_at}
 use Rattle.shorthand.specs.Undo.{last_standing}
@@ -34,11 +34,12 @@ abbrev pub fielder_word : Sheet → Side → Option Unaided → Token → List T
 fielder_word s side (Some how) t ts = Err (no_fielder how t) ∷ []
 fielder_word s side None t ts = (fielder s side t ts).0 ∷ as_typed (fielder s side t ts).1
 
--- the fielder: 0 if none is named
-abbrev pub by_fielder : Sheet → Side → Token → List Token → List Word
-by_fielder s side how [] = Ok (codes "0") ∷ []
-by_fielder s side how (t ∷ ts) =
+-- the fielder: 0 if none is named, and the bowler b in `c & b`
+abbrev pub by_fielder : Sheet → Side → Token → Token → List Token → List Word
+by_fielder s side b how [] = Ok (codes "0") ∷ []
+by_fielder s side b how (t ∷ ts) =
     if bytes_eq t (codes "crossed") then Ok (codes "0") ∷ as_typed (t ∷ ts)
+    else if is_and_bowled how t ts then Ok b ∷ as_typed (behind_one ts)
     else fielder_word s side (refused_fielder (without_fielder how) t) t ts
 
 -- run out and obstructing the field need who is out
@@ -46,36 +47,41 @@ abbrev pub needs_who : Token → Bool
 needs_who how = is_one_of (codes "runout" ∷ codes "obstructing" ∷ []) how
 
 -- who is out, the striker if nothing is said, and the fielder
-abbrev pub who_is_out : Sheet → Side → Token → List Token → List Word
-who_is_out s side how [] = if needs_who how then [] else Ok (codes "striker") ∷ by_fielder s side how []
-who_is_out s side how (t ∷ ts) =
-    if is_one_of (map who_text all_whos) t then Ok t ∷ by_fielder s side how ts
-    else if needs_who how then as_typed (t ∷ ts)
-    else Ok (codes "striker") ∷ by_fielder s side how (t ∷ ts)
+abbrev pub who_is_out : Sheet → Side → Token → Token → List Token → List Word
+who_is_out s side b how [] = if needs_who how then [] else Ok (codes "striker") ∷ by_fielder s side b how []
+who_is_out s side b how (t ∷ ts) =
+    if is_one_of (map who_text all_whos) t then Ok t ∷ by_fielder s side b how ts
+    else if needs_who how then Err WhoIsOut ∷ []
+    else Ok (codes "striker") ∷ by_fielder s side b how (t ∷ ts)
 
 -- the way of being out, by its own word or a short one, who is out, and the fielder
-abbrev pub dismissal : Sheet → Side → List Token → List Word
-dismissal s side [] = []
-dismissal s side (t ∷ ts) = Ok (way_of t) ∷ who_is_out s side (way_of t) ts
+abbrev pub dismissal : Sheet → Side → Token → List Token → List Word
+dismissal s side b [] = []
+dismissal s side b (t ∷ ts) =
+    if bytes_eq t (codes "c&b") then Ok (codes "caught") ∷ Ok (codes "striker") ∷ Ok b ∷ as_typed ts
+    else Ok (way_of t) ∷ who_is_out s side b (way_of t) ts
 
-abbrev pub run_out : Sheet → Side → List Token → List Word
-run_out s side ts = Ok (codes "out") ∷ Ok (codes "runout") ∷ who_is_out s side (codes "runout") ts
+-- a way of being out that is said in two words
+abbrev pub out_apart : Sheet → Side → Token → Token → List Token → List Word
+out_apart s side b how ts = Ok (codes "out") ∷ Ok how ∷ who_is_out s side b how ts
 
 -- ---- [OPTIONS] [OUT]
 
 -- options stay as typed, up to the dismissal
-abbrev pub behind_runs : Sheet → Side → List Token → List Word
-behind_runs s side [] = []
-behind_runs s side (t ∷ ts) =
-    if bytes_eq t (codes "out") then Ok t ∷ dismissal s side ts
-    else if is_how t then Ok (codes "out") ∷ dismissal s side (t ∷ ts)
-    else if is_run_out t ts then run_out s side (behind_one ts)
-    else Ok t ∷ behind_runs s side ts
+abbrev pub behind_runs : Sheet → Side → Token → List Token → List Word
+behind_runs s side b [] = []
+behind_runs s side b (t ∷ ts) =
+    if bytes_eq t (codes "out") then Ok t ∷ dismissal s side b ts
+    else if is_how t then Ok (codes "out") ∷ dismissal s side b (t ∷ ts)
+    else if is_run_out t ts then out_apart s side b (codes "runout") (behind_one ts)
+    else if is_hit_wicket t ts then out_apart s side b (codes "hitwicket") (behind_one ts)
+    else Ok t ∷ behind_runs s side b ts
 
 -- the tokens begin the options or the dismissal
 abbrev pub is_behind_runs : Token → List Token → Bool
 is_behind_runs t ts =
-    is_one_of (codes "short" ∷ codes "overthrow" ∷ codes "dead" ∷ codes "out" ∷ []) t || (is_how t || is_run_out t ts)
+    is_one_of (codes "short" ∷ codes "overthrow" ∷ codes "dead" ∷ codes "out" ∷ []) t
+    || (is_how t || (is_run_out t ts || is_hit_wicket t ts))
 
 -- ---- [RUNS] [OPTIONS] [OUT]
 
@@ -85,40 +91,39 @@ has_number [] = false
 has_number (t ∷ ts) = is_digit_first t
 
 -- a kind with 0 runs unless a number follows
-abbrev pub from_none : Sheet → Side → List Token → List Word
-from_none s side ts = if has_number ts then behind_runs s side ts else Ok (codes "0") ∷ behind_runs s side ts
+abbrev pub from_none : Sheet → Side → Token → List Token → List Word
+from_none s side b ts = if has_number ts then behind_runs s side b ts else Ok (codes "0") ∷ behind_runs s side b ts
 
 -- no mark: bat 0 if no runs are named, otherwise a kind and a number as in a full line
-abbrev pub unmarked : Sheet → Side → Token → List Token → List Word
-unmarked s side t ts =
-    if is_behind_runs t ts then Ok (codes "bat") ∷ Ok (codes "0") ∷ behind_runs s side (t ∷ ts)
-    else behind_runs s side (t ∷ ts)
+abbrev pub unmarked : Sheet → Side → Token → Token → List Token → List Word
+unmarked s side b t ts =
+    if is_behind_runs t ts then Ok (codes "bat") ∷ Ok (codes "0") ∷ behind_runs s side b (t ∷ ts)
+    else behind_runs s side b (t ∷ ts)
 
 -- a kind alone: `wd`, `wide`, `nb`, `noball` and `no ball` with no run of the batters, and `lb` before a number
-abbrev pub by_kind : Sheet → Side → Token → List Token → List Word
-by_kind s side t ts =
-    if bytes_eq t (codes "wd") then Ok (codes "wide") ∷ Ok (codes "0") ∷ behind_runs s side ts
-    else if bytes_eq t (codes "wide") then Ok t ∷ from_none s side ts
-    else if is_one_of (codes "nb" ∷ codes "noball" ∷ []) t then Ok (codes "nb") ∷ from_none s side ts
-    else if is_no_ball t ts then Ok (codes "nb") ∷ from_none s side (behind_one ts)
-    else if bytes_eq t (codes "lb") && has_number ts then Ok (codes "leg") ∷ behind_runs s side ts
-    else unmarked s side t ts
+abbrev pub by_kind : Sheet → Side → Token → Token → List Token → List Word
+by_kind s side b t ts =
+    if is_one_of (codes "wd" ∷ codes "wide" ∷ []) t then Ok (codes "wide") ∷ from_none s side b ts
+    else if is_one_of (codes "nb" ∷ codes "noball" ∷ []) t then Ok (codes "nb") ∷ from_none s side b ts
+    else if is_no_ball t ts then Ok (codes "nb") ∷ from_none s side b (behind_one ts)
+    else if bytes_eq t (codes "lb") && has_number ts then Ok (codes "leg") ∷ behind_runs s side b ts
+    else unmarked s side b t ts
 
-abbrev pub marked : Sheet → Side → Option (Token × Token) → Token → List Token → List Word
-marked s side (Some m) t ts = Ok m.0 ∷ Ok m.1 ∷ behind_runs s side ts
-marked s side None t ts = by_kind s side t ts
+abbrev pub marked : Sheet → Side → Token → Option (Token × Token) → Token → List Token → List Word
+marked s side b (Some m) t ts = Ok m.0 ∷ Ok m.1 ∷ behind_runs s side b ts
+marked s side b None t ts = by_kind s side b t ts
 
 -- a letter that means two things is refused, with both meanings named
 abbrev pub unless_two : Option Letter → List Word → List Word
 unless_two (Some letter) ws = Err (TwoMeanings letter) ∷ []
 unless_two None ws = ws
 
-unfoldable pub runs_from : Sheet → Side → Token → List Token → List Word
-runs_from s side t ts = unless_two (two_meanings t) (marked s side (mark t) t ts)
+unfoldable pub runs_from : Sheet → Side → Token → Token → List Token → List Word
+runs_from s side b t ts = unless_two (two_meanings t) (marked s side b (mark t) t ts)
 
-abbrev pub runs : Sheet → Side → List Token → List Word
-runs s side [] = []
-runs s side (t ∷ ts) = runs_from s side t ts
+abbrev pub runs : Sheet → Side → Token → List Token → List Word
+runs s side b [] = []
+runs s side b (t ∷ ts) = runs_from s side b t ts
 
 -- ---- [B:] [RUNS] [OPTIONS] [OUT]
 
@@ -152,13 +157,13 @@ is_someone found = true
 abbrev pub spoken : Sheet → Side → Token → List Token → Found × List Token → List Word
 spoken s side t ts bowler =
     if has_delivery bowler.1 && is_someone bowler.0
-    then Ok (codes "ball") ∷ number_word side t bowler.0 ∷ runs s side bowler.1
+    then Ok (codes "ball") ∷ number_word side t bowler.0 ∷ runs s side (known (number_word side t bowler.0)) bowler.1
     else as_typed (t ∷ ts)
 
 -- a bowler's whole name of several words before a colon, else a name without a colon
 abbrev pub by_colon : Sheet → Side → Token → List Token → Option (ℕ × Token × List Token) → List Word
 by_colon s side t ts (Some found) =
-    Ok (codes "ball") ∷ Ok (decimal found.0) ∷ runs s side (behind_colon found.1 found.2)
+    Ok (codes "ball") ∷ Ok (decimal found.0) ∷ runs s side (decimal found.0) (behind_colon found.1 found.2)
 by_colon s side t ts None = spoken s side t ts (named (team_of s side) Anyone t ts)
 
 -- the token begins no line and is no number
@@ -173,7 +178,7 @@ by_bowler s side t ts =
 unfoldable pub by_same_bowler : Sheet → Point → Token → List Token → List Word
 by_same_bowler s at t ts =
     if begins_delivery t ts
-    then Ok (codes "ball") ∷ same_bowler at.bowler ∷ runs_from s (opponent at.batting) t ts
+    then Ok (codes "ball") ∷ same_bowler at.bowler ∷ runs_from s (opponent at.batting) (known (same_bowler at.bowler)) t ts
     else by_bowler s (opponent at.batting) t ts
 
 -- a letter that means two things is refused, whoever bowls
@@ -181,9 +186,12 @@ unfoldable pub by_letter : Sheet → Point → Token → List Token → List Wor
 by_letter s at t ts = unless_two (two_meanings t) (by_same_bowler s at t ts)
 
 -- a delivery whose bowler is named before a colon, with `more` after the colon
+abbrev pub delivery_by : Sheet → Side → Word → List Token → List Word
+delivery_by s side bowler ts = bowler ∷ runs s side (known bowler) ts
+
 unfoldable pub colon_delivery : Sheet → Side → Token → Token → List Token → List Word
 colon_delivery s side name more ts =
-    Ok (codes "ball") ∷ (player s side Anyone name []).0 ∷ runs s side (behind_colon more ts)
+    Ok (codes "ball") ∷ delivery_by s side (player s side Anyone name []).0 (behind_colon more ts)
 
 -- a delivery that doesn't begin with `ball`, or any other line
 unfoldable pub unnamed : Sheet → Point → Token → List Token → List Word
@@ -199,15 +207,20 @@ batter_first s side among (t ∷ ts) = (player s side among t ts).0 ∷ as_typed
 
 abbrev pub bowler_first : Sheet → Side → List Token → List Word
 bowler_first s side [] = []
-bowler_first s side (t ∷ ts) = (player s side Anyone t ts).0 ∷ runs s side (player s side Anyone t ts).1
+bowler_first s side (t ∷ ts) = delivery_by s side (player s side Anyone t ts).0 (player s side Anyone t ts).1
 
 -- a batter who leaves is in, unless he is timed out
 abbrev pub leavers : Token → Among → Among
 leavers t among = if bytes_eq t (codes "timedout") then Anyone else among
 
+-- how a batter leaves, in two words or in one
+abbrev pub left_by : Sheet → Side → Among → Option Token → Token → List Token → List Word
+left_by s side among (Some how) t ts = Ok how ∷ batter_first s side (leavers how among) (behind_one ts)
+left_by s side among None t ts = Ok t ∷ batter_first s side (leavers t among) ts
+
 abbrev pub left_so : Sheet → Side → Among → List Token → List Word
 left_so s side among [] = []
-left_so s side among (t ∷ ts) = Ok t ∷ batter_first s side (leavers t among) ts
+left_so s side among (t ∷ ts) = left_by s side among (leave_apart t ts) t ts
 
 -- a line other than `fix` and `late`, by who bowls, bats and is in where it belongs
 unfoldable pub item_from : Sheet → Point → Among → Token → List Token → List Word
@@ -216,6 +229,7 @@ item_from s at among t ts =
     else if bytes_eq t (codes "in") then Ok t ∷ batter_first s at.batting Anyone ts
     else if bytes_eq t (codes "gone") then Ok t ∷ left_so s at.batting among ts
     else if bytes_eq t (codes "ball") then Ok t ∷ bowler_first s (opponent at.batting) ts
+    else if is_leave t ts then Ok (codes "gone") ∷ left_so s at.batting among (t ∷ ts)
     else unnamed s at t ts
 
 abbrev pub item_at : Sheet → List Entry → Belongs → Token → List Token → List Word
@@ -304,8 +318,22 @@ is_of_line _ = false
 
 -- an entry's line is its own full form; a line that is too long, or isn't tokens with single spaces between them, has no
 -- full form; any other line is put in full word by word
+abbrev pub by_tokens : Sheet → List Entry → List ℕ → Result (List ℕ) Reason
+by_tokens s book line = with_words (joined (words_in_full s book (tokens line)))
+
+-- what a line with this unknown word comes to in lower case; a word that is unknown there too stays as typed
+abbrev pub or_unknown : Token → Result (List ℕ) Reason → Result (List ℕ) Reason
+or_unknown t (Err (UnknownWord lower)) = Err (UnknownWord t)
+or_unknown t full = full
+
+-- a line with an unknown word is read in lower case, but no `undo`: that is typed in small letters alone
+abbrev pub or_lower : Result (List ℕ) Reason → Result (List ℕ) Reason → Result (List ℕ) Reason
+or_lower (Err (UnknownWord t)) lower =
+    if is_same t (codes "undo") then Err (UnknownWord t) else or_unknown t lower
+or_lower full lower = full
+
 abbrev pub by_word : Sheet → List Entry → List ℕ → Result (List ℕ) Reason
-by_word s book line = with_words (joined (words_in_full s book (tokens line)))
+by_word s book line = or_lower (by_tokens s book line) (by_tokens s book (str_to_ascii_lowercase line))
 
 abbrev pub put_in_full : Sheet → List Entry → List ℕ → Result Entry LineFault → Result (List ℕ) Reason
 put_in_full s book line (Ok e) = Ok line

@@ -1,15 +1,16 @@
 -- A line that is written word by word: its text, or what isn't clear in it.
-use Rattle.std.specs.Prelude.{ℕ, nat_le, length, if◌then◌else◌, List, [], ◌∷◌, ◌++◌, map, Result, Ok, Err}
+use Rattle.std.specs.Prelude.{ℕ, nat_le, length, if◌then◌else◌, List, [], ◌∷◌, ◌++◌, map, codes, Result, Ok, Err}
 use Rattle.notation.specs.Written.{Token}
 use Rattle.notation.specs.declared.{fault.LineFault.LineFault, entry.Side.Side}
 use Rattle.notation.specs.declared.fault.LineFault.TheVariants.{TooLong}
 use Rattle.shorthand.specs.declared.unclear.{Letter.Letter, Unaided.Unaided, Unclear.Unclear}
 
--- what isn't clear in a line: its words, who bowls, which player of a side a name means, what `undo` undoes, which of its two
--- meanings a letter has, what a fielder has to do with a way of being out, an unknown word, or a delivery that doesn't exist
+-- what isn't clear in a line: its words, who bowls, who is out, which player of a side a name means, what `undo` undoes, which
+-- of its two meanings a letter has, what a fielder has to do with a way of being out, an unknown word, or a delivery that doesn't exist
 pub data Reason : Type 0 where
   Fault : LineFault → Reason
   WhoBowls : Reason
+  WhoIsOut : Reason
   NoSuchPlayer : Token → Reason
   WhichPlayer : Side → Token → Reason
   NothingStands : Reason
@@ -21,6 +22,7 @@ pub data Reason : Type 0 where
 abbrev pub reason_of : Unclear → Reason
 reason_of (Unclear.Fault f) = Fault f
 reason_of Unclear.WhoBowls = WhoBowls
+reason_of Unclear.WhoIsOut = WhoIsOut
 reason_of (Unclear.NoSuchPlayer t) = NoSuchPlayer t.bytes
 reason_of (Unclear.WhichPlayer side t) = WhichPlayer side t.bytes
 reason_of Unclear.NothingStands = NothingStands
@@ -32,6 +34,11 @@ reason_of (Unclear.NoSuchBall t) = NoSuchBall t.bytes
 -- a word of the line, or why there is none
 abbrev pub Word : Type 0
 Word = Result Token Reason
+
+-- the token of a word, or 0 if there is none
+abbrev pub known : Word → Token
+known (Ok t) = t
+known (Err reason) = codes "0"
 
 -- the tokens as typed
 abbrev pub as_typed : List Token → List Word

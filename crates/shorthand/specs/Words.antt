@@ -1,5 +1,5 @@
 -- What scorers type for the words of lines, and what they plainly mean by it.
-use Rattle.std.specs.Prelude.{ℕ, ◌-◌, Bool, false, if◌then◌else◌, ◌||◌, ◌&&◌, Option, Some, None, List, [], ◌∷◌, codes, length, take, map, unwrap_or}
+use Rattle.std.specs.Prelude.{ℕ, ◌-◌, Bool, false, if◌then◌else◌, ◌||◌, ◌&&◌, Option, Some, None, List, [], ◌∷◌, codes, length, take, map, is_some, unwrap_or}
 use Rattle.std.specs.Char.{is_ascii_whitespace}
 use Rattle.std.specs.List.{list_any, suffix_len}
 use Rattle.std.specs.Str.{bytes_eq}
@@ -39,8 +39,8 @@ are_two w v t ts = bytes_eq t w && has_next v ts
 -- the short word, and the way that it stands for
 abbrev pub ways : List (Token × Token)
 ways =
-    (codes "c", codes "caught") ∷ (codes "ct", codes "caught") ∷ (codes "st", codes "stumped")
-    ∷ (codes "ro", codes "runout") ∷ []
+    (codes "c", codes "caught") ∷ (codes "ct", codes "caught") ∷ (codes "c&b", codes "caught")
+    ∷ (codes "st", codes "stumped") ∷ (codes "ro", codes "runout") ∷ []
 
 -- a way of being out, by its own word or a short one
 abbrev pub way_of : Token → Token
@@ -53,12 +53,37 @@ is_how t = is_one_of (map how_text all_hows) (way_of t)
 abbrev pub is_run_out : Token → List Token → Bool
 is_run_out t ts = are_two (codes "run") (codes "out") t ts
 
+-- `hit wicket` in two words
+abbrev pub is_hit_wicket : Token → List Token → Bool
+is_hit_wicket t ts = are_two (codes "hit") (codes "wicket") t ts
+
+-- `& b`, as in `c & b`: the bowler caught it
+abbrev pub is_and_bowled : Token → Token → List Token → Bool
+is_and_bowled how t ts =
+    bytes_eq how (codes "caught")
+    && (is_one_of (codes "&" ∷ codes "and" ∷ []) t && (has_next (codes "b") ts || has_next (codes "bowled") ts))
+
 -- the ways in which no fielder has a part; a player named after them is rather the bowler
 abbrev pub without_fielder : Token → Option Unaided
 without_fielder how =
     if bytes_eq how (codes "bowled") then Some Bowled
     else if bytes_eq how (codes "lbw") then Some Lbw
     else None
+
+-- ---- ways of leaving between deliveries
+
+-- the way that two words say
+abbrev pub leave_apart : Token → List Token → Option Token
+leave_apart t ts =
+    if are_two (codes "retired") (codes "hurt") t ts then Some (codes "retiredhurt")
+    else if are_two (codes "retired") (codes "out") t ts then Some (codes "retiredout")
+    else if are_two (codes "timed") (codes "out") t ts then Some (codes "timedout")
+    else None
+
+-- the tokens begin with such a way, in one word or two
+abbrev pub is_leave : Token → List Token → Bool
+is_leave t ts =
+    is_one_of (codes "retiredhurt" ∷ codes "retiredout" ∷ codes "timedout" ∷ []) t || is_some (leave_apart t ts)
 
 -- ---- runs
 

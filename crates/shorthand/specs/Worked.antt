@@ -12,8 +12,8 @@ use Rattle.limits.specs.Limits.{no_limits}
 use Rattle.cards.specs.Sheet.{Sheet, Team, usual_columns}
 use Rattle.shorthand.specs.declared.unclear.Letter.TheVariants.{B, W}
 use Rattle.shorthand.specs.declared.unclear.Unaided.TheVariants.{Bowled, Lbw}
-use Rattle.shorthand.specs.Lines.{Reason, WhoBowls, NoSuchPlayer, WhichPlayer, NothingStands, TwoMeanings, NoFielder, NoSuchBall, joined}
-use Rattle.shorthand.specs.Full.{words_in_full}
+use Rattle.shorthand.specs.Lines.{Reason, WhoBowls, WhoIsOut, NoSuchPlayer, WhichPlayer, NothingStands, TwoMeanings, NoFielder, NoSuchBall, UnknownWord, joined}
+use Rattle.shorthand.specs.Full.{by_word, words_in_full}
 
 -- a dot ball of this bowler
 abbrev pub dot : ℕ → Plain
@@ -66,7 +66,7 @@ pub record WorkedOuts (s : Sheet) : Type 0 where
       ≡ Ok (codes "ball 10 bat 0 out runout striker 2 crossed")
   pub no_fielder : behind s two_overs (codes "runout other crossed")
       ≡ Ok (codes "ball 10 bat 0 out runout other 0 crossed")
-  pub who_is_out : behind s two_overs (codes "runout 8") ≡ Ok (codes "ball 10 bat 0 out runout 8")
+  pub who_is_out : behind s two_overs (codes "runout 8") ≡ Err WhoIsOut
   pub dead : behind s two_overs (codes "1 dead runout other 8")
       ≡ Ok (codes "ball 10 bat 1 dead out runout other 8")
 
@@ -82,6 +82,7 @@ pub record WorkedWords (s : Sheet) : Type 0 where
   pub one_wide : behind s two_overs (codes "1wd") ≡ Ok (codes "ball 10 wide 0")
   pub wide : behind s two_overs (codes "wide") ≡ Ok (codes "ball 10 wide 0")
   pub wide_in_full : behind s two_overs (codes "wide 1") ≡ Ok (codes "ball 10 wide 1")
+  pub wide_apart : behind s two_overs (codes "wd 1") ≡ Ok (codes "ball 10 wide 1")
   pub one_no_ball : behind s two_overs (codes "1nb") ≡ Ok (codes "ball 10 nb 0")
   pub no_ball : behind s two_overs (codes "no ball") ≡ Ok (codes "ball 10 nb 0")
   pub no_ball_four : behind s two_overs (codes "no ball four") ≡ Ok (codes "ball 10 nb 0 four")
@@ -91,6 +92,11 @@ pub record WorkedWords (s : Sheet) : Type 0 where
   pub run_out : behind s two_overs (codes "ro striker 8") ≡ Ok (codes "ball 10 bat 0 out runout striker 8")
   pub run_out_apart : behind s two_overs (codes "1 run out other 8")
       ≡ Ok (codes "ball 10 bat 1 out runout other 8")
+  pub hit_wicket : behind s two_overs (codes "8: hit wicket") ≡ Ok (codes "ball 8 bat 0 out hitwicket striker 0")
+  pub caught_and_bowled : behind s two_overs (codes "c & b") ≡ Ok (codes "ball 10 bat 0 out caught striker 10")
+  pub caught_and_bowled_too : behind s two_overs (codes "8: c&b") ≡ Ok (codes "ball 8 bat 0 out caught striker 8")
+  pub retired_hurt : behind s two_overs (codes "retired hurt 1") ≡ Ok (codes "gone retiredhurt 1")
+  pub gone_apart : behind s two_overs (codes "gone timed out 3") ≡ Ok (codes "gone timedout 3")
   pub byes_or_bowled : behind s two_overs (codes "b") ≡ Err (TwoMeanings B)
   pub wide_or_wicket : behind s two_overs (codes "8: w") ≡ Err (TwoMeanings W)
   pub lbw_by : behind s two_overs (codes "lbw 8") ≡ Err (NoFielder Lbw (codes "8"))
@@ -165,6 +171,9 @@ pub record WorkedNames : Type 0 where
   pub no_colon : behind sheet two_overs (codes "usher .") ≡ Ok (codes "ball 3 bat 0")
   pub no_colon_out : behind sheet two_overs (codes "usher c pike") ≡ Ok (codes "ball 3 bat 0 out caught striker 9")
   pub lbw_by : behind sheet two_overs (codes "lbw usher") ≡ Err (NoFielder Lbw (codes "usher"))
+  pub run_out : behind sheet two_overs (codes "run out usher") ≡ Err WhoIsOut
+  pub by_the_bowler : behind sheet two_overs (codes "usher caught and bowled") ≡ Ok (codes "ball 3 bat 0 out caught striker 3")
+  pub hurt : behind sheet two_overs (codes "retired hurt dean") ≡ Ok (codes "gone retiredhurt 1")
 
 -- of several players the one who is in, at the end of the book; a bowler's whole name, with a colon and without
 abbrev pub ray_in : List Entry
@@ -181,3 +190,14 @@ pub record WorkedSeveral : Type 0 where
   pub colon_and_mark : behind rays ray_in (codes "ann ray:4") ≡ Ok (codes "ball 6 bat 0 four")
   pub no_colon : behind rays ray_in (codes "ann ray 4") ≡ Ok (codes "ball 6 bat 0 four")
   pub fielder : behind rays ray_in (codes "caught ben ray") ≡ Ok (codes "ball 10 bat 0 out caught striker 7")
+
+-- a line with an unknown word, as typed and in lower case
+abbrev pub cased : List ℕ → Result (List ℕ) Reason
+cased line = by_word sheet two_overs line
+
+pub record WorkedCases : Type 0 where
+  pub lbw : cased (codes "LBW") ≡ Ok (codes "ball 10 bat 0 out lbw striker 0")
+  pub caught : cased (codes "C Owen") ≡ Ok (codes "ball 10 bat 0 out caught striker 1")
+  pub wicket : cased (codes "W") ≡ Err (TwoMeanings W)
+  pub unknown : cased (codes "LBV") ≡ Err (UnknownWord (codes "LBV"))
+  pub undo : cased (codes "Undo") ≡ Err (UnknownWord (codes "Undo"))

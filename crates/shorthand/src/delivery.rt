@@ -3,14 +3,14 @@
 ghost use Rattle.std.specs.Prelude.{◌≡◌, ◌∷◌, [], Ok};
 ghost use Rattle.cards.specs.Sheet.{team_of};
 ghost use Rattle.shorthand.specs.Lines as lines;
-ghost use Rattle.shorthand.specs.Lines.{plus, plus_all};
+ghost use Rattle.shorthand.specs.Lines.{known, plus, plus_all};
 ghost use Rattle.shorthand.specs.declared.names.Among.TheVariants.{Anyone};
 ghost use Rattle.shorthand.specs.Full as full;
 ghost use Rattle.shorthand.specs.Marks as marks;
 ghost use Rattle.shorthand.specs.Names as names;
 ghost use Rattle.shorthand.specs.Words as words;
 
-use crate::line::Line;
+use crate::line::{Line, digits};
 use crate::marks::{kind_word, mark};
 use crate::names::{
     Among, Found, colon_name, is_digit_first, named, named_bowler, number_word, player,
@@ -44,24 +44,31 @@ fn has_number(rest: &Rest<'_>) -> bool
 }
 
 /// Writes the runs of a kind, 0 if no number follows, and what follows the runs.
-fn from_none(line: &mut Line, sheet: &MatchSheet, side: Side, rest: &mut Rest<'_>)
-    ensures { line.new ≡ plus_all line.old (full.from_none sheet.now side rest.old) }
+fn from_none(line: &mut Line, sheet: &MatchSheet, side: Side, bowler: &str, rest: &mut Rest<'_>)
+    ensures { line.new ≡ plus_all line.old (full.from_none sheet.now side bowler.now rest.old) }
 {
     if !has_number(rest) {
         line.word("0");
     }
-    behind_runs(line, sheet, side, rest);
+    behind_runs(line, sheet, side, bowler, rest);
 }
 
 /// Writes a delivery's outcome, if the token is neither a mark nor another word for a kind.
-fn unmarked(line: &mut Line, sheet: &MatchSheet, side: Side, token: &str, rest: &mut Rest<'_>)
-    ensures { line.new ≡ plus_all line.old (full.unmarked sheet.now side token.now rest.old) }
+fn unmarked(
+    line: &mut Line,
+    sheet: &MatchSheet,
+    side: Side,
+    bowler: &str,
+    token: &str,
+    rest: &mut Rest<'_>,
+)
+    ensures { line.new ≡ plus_all line.old (full.unmarked sheet.now side bowler.now token.now rest.old) }
 {
     if is_behind_runs(token, rest) {
         line.word("bat");
         line.word("0");
     }
-    behind_runs_from(line, sheet, side, token, rest);
+    behind_runs_from(line, sheet, side, bowler, token, rest);
 }
 
 /// Whether the tokens are `no ball` in two words.
@@ -72,42 +79,52 @@ fn is_no_ball(token: &str, rest: &Rest<'_>) -> bool
 }
 
 /// Writes a delivery's outcome, if the token is no mark.
-fn by_kind(line: &mut Line, sheet: &MatchSheet, side: Side, token: &str, rest: &mut Rest<'_>)
-    ensures { line.new ≡ plus_all line.old (full.by_kind sheet.now side token.now rest.old) }
+fn by_kind(
+    line: &mut Line,
+    sheet: &MatchSheet,
+    side: Side,
+    bowler: &str,
+    token: &str,
+    rest: &mut Rest<'_>,
+)
+    ensures { line.new ≡ plus_all line.old (full.by_kind sheet.now side bowler.now token.now rest.old) }
 {
-    if token == "wd" {
+    if matches!(token, "wd" | "wide") {
         line.word("wide");
-        line.word("0");
-        behind_runs(line, sheet, side, rest);
-    } else if token == "wide" {
-        line.word(token);
-        from_none(line, sheet, side, rest);
+        from_none(line, sheet, side, bowler, rest);
     } else if matches!(token, "nb" | "noball") {
         line.word("nb");
-        from_none(line, sheet, side, rest);
+        from_none(line, sheet, side, bowler, rest);
     } else if is_no_ball(token, rest) {
         rest.pass_one();
         line.word("nb");
-        from_none(line, sheet, side, rest);
+        from_none(line, sheet, side, bowler, rest);
     } else if token == "lb" && has_number(rest) {
         line.word("leg");
-        behind_runs(line, sheet, side, rest);
+        behind_runs(line, sheet, side, bowler, rest);
     } else {
-        unmarked(line, sheet, side, token, rest);
+        unmarked(line, sheet, side, bowler, token, rest);
     }
 }
 
 /// Writes a delivery's outcome, if the token is no letter that means two things.
-fn marked_from(line: &mut Line, sheet: &MatchSheet, side: Side, token: &str, rest: &mut Rest<'_>)
-    ensures { line.new ≡ plus_all line.old (full.marked sheet.now side (marks.mark token.now) token.now rest.old) }
+fn marked_from(
+    line: &mut Line,
+    sheet: &MatchSheet,
+    side: Side,
+    bowler: &str,
+    token: &str,
+    rest: &mut Rest<'_>,
+)
+    ensures { line.new ≡ plus_all line.old (full.marked sheet.now side bowler.now (marks.mark token.now) token.now rest.old) }
 {
     match mark(token) {
         Some((kind, runs)) => {
             line.word(kind_word(kind));
             line.word(runs.word());
-            behind_runs(line, sheet, side, rest);
+            behind_runs(line, sheet, side, bowler, rest);
         }
-        None => by_kind(line, sheet, side, token, rest),
+        None => by_kind(line, sheet, side, bowler, token, rest),
     }
 }
 
@@ -124,21 +141,28 @@ fn two_meanings(token: &str) -> Option<Letter>
 
 /// Writes a delivery's outcome, from this token on.
 #[tactic(auto, unfolding(crate::specs::Full::runs_from))]
-fn runs_from(line: &mut Line, sheet: &MatchSheet, side: Side, token: &str, rest: &mut Rest<'_>)
-    ensures { line.new ≡ plus_all line.old (full.runs_from sheet.now side token.now rest.old) }
+fn runs_from(
+    line: &mut Line,
+    sheet: &MatchSheet,
+    side: Side,
+    bowler: &str,
+    token: &str,
+    rest: &mut Rest<'_>,
+)
+    ensures { line.new ≡ plus_all line.old (full.runs_from sheet.now side bowler.now token.now rest.old) }
 {
     match two_meanings(token) {
         Some(letter) => line.fail(Unclear::TwoMeanings(letter)),
-        None => marked_from(line, sheet, side, token, rest),
+        None => marked_from(line, sheet, side, bowler, token, rest),
     }
 }
 
 /// Writes a delivery's outcome.
-pub fn runs(line: &mut Line, sheet: &MatchSheet, side: Side, rest: &mut Rest<'_>)
-    ensures { line.new ≡ plus_all line.old (full.runs sheet.now side rest.old) }
+pub fn runs(line: &mut Line, sheet: &MatchSheet, side: Side, bowler: &str, rest: &mut Rest<'_>)
+    ensures { line.new ≡ plus_all line.old (full.runs sheet.now side bowler.now rest.old) }
 {
     if let Some(token) = rest.next() {
-        runs_from(line, sheet, side, token, rest);
+        runs_from(line, sheet, side, bowler, token, rest);
     }
 }
 
@@ -147,15 +171,16 @@ fn runs_behind_colon(
     line: &mut Line,
     sheet: &MatchSheet,
     side: Side,
+    bowler: &str,
     token: &str,
     rest: &mut Rest<'_>,
 )
-    ensures { line.new ≡ plus_all line.old (full.runs sheet.now side (full.behind_colon token.now rest.old)) }
+    ensures { line.new ≡ plus_all line.old (full.runs sheet.now side bowler.now (full.behind_colon token.now rest.old)) }
 {
     if token.is_empty() {
-        runs(line, sheet, side, rest);
+        runs(line, sheet, side, bowler, rest);
     } else {
-        runs_from(line, sheet, side, token, rest);
+        runs_from(line, sheet, side, bowler, token, rest);
     }
 }
 
@@ -191,13 +216,21 @@ fn has_delivery(rest: &Rest<'_>) -> bool
     }
 }
 
-/// Writes the number of the last delivery's bowler, or that it isn't clear who bowls.
-fn same_bowler(line: &mut Line, bowler: Option<Player>)
-    ensures { line.new ≡ plus line.old (full.same_bowler bowler) }
+/// Writes the number of the last delivery's bowler, or that it isn't clear who bowls. Returns the number, 0 if there is none.
+fn same_bowler(line: &mut Line, bowler: Option<Player>) -> &'static str
+    ensures word { line.new ≡ plus line.old (full.same_bowler bowler) }
+    ensures number { result.now ≡ known (full.same_bowler bowler) }
 {
     match bowler {
-        Some(player) => line.number(player.number()),
-        None => line.fail(Unclear::WhoBowls),
+        Some(player) => {
+            let number = digits(player.number());
+            line.word(number);
+            number
+        }
+        None => {
+            line.fail(Unclear::WhoBowls);
+            "0"
+        }
     }
 }
 
@@ -225,8 +258,8 @@ fn spoken(line: &mut Line, sheet: &MatchSheet, side: Side, token: &str, rest: &m
     let found = named(sheet, side, &Among::Anyone, token, &mut behind);
     if has_delivery(&behind) && is_someone(&found) {
         line.word("ball");
-        number_word(line, side, token, found);
-        runs(line, sheet, side, &mut behind);
+        let number = number_word(line, side, token, found);
+        runs(line, sheet, side, number, &mut behind);
     } else {
         as_typed(line, token, rest);
     }
@@ -240,8 +273,9 @@ fn by_colon(line: &mut Line, sheet: &MatchSheet, side: Side, token: &str, rest: 
     match colon_name(sheet, side, &Line::of(token), rest) {
         Some((player, more, mut behind)) => {
             line.word("ball");
-            line.number(player.number());
-            runs_behind_colon(line, sheet, side, more, &mut behind);
+            let number = digits(player.number());
+            line.word(number);
+            runs_behind_colon(line, sheet, side, number, more, &mut behind);
         }
         None => spoken(line, sheet, side, token, rest),
     }
@@ -274,8 +308,8 @@ fn by_same_bowler(line: &mut Line, sheet: &MatchSheet, at: Point, token: &str, r
     let side = opponent(at.batting);
     if begins_delivery(token, rest) {
         line.word("ball");
-        same_bowler(line, at.bowler);
-        runs_from(line, sheet, side, token, rest);
+        let number = same_bowler(line, at.bowler);
+        runs_from(line, sheet, side, number, token, rest);
     } else {
         by_bowler(line, sheet, side, token, rest);
     }
@@ -305,7 +339,7 @@ fn colon_delivery(
     ensures { line.new ≡ plus_all line.old (full.colon_delivery sheet.now side name.now more.now rest.old) }
 {
     line.word("ball");
-    player(
+    let number = player(
         line,
         sheet,
         side,
@@ -313,7 +347,7 @@ fn colon_delivery(
         name,
         &mut Rest::nothing(),
     );
-    runs_behind_colon(line, sheet, side, more, rest);
+    runs_behind_colon(line, sheet, side, number, more, rest);
 }
 
 /// Writes a delivery that doesn't begin with `ball`, or another line.

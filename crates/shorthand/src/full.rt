@@ -1,27 +1,29 @@
 //! Lines in full, by who bowls and who bats where they belong.
 
-ghost use Rattle.std.specs.Prelude.{◌≡◌, [], false, Ok, Err, IfOk, OnErr, MatchResult, unwrap_or};
+ghost use Rattle.std.specs.Prelude.{◌≡◌, ◌≤◌, [], false, true, length, Ok, Err, IfOk, OnErr, MatchResult, unwrap_or};
+ghost use Rattle.std.specs.Str.{str_to_ascii_lowercase};
 ghost use Rattle.notation.specs.Written.{IsEntry, found_number, is_spaced, text_of};
 ghost use Rattle.notation.specs.declared.entry.Side.TheVariants.{Home};
 ghost use Rattle.match_laws.specs.History.{last_side};
 ghost use Rattle.corrections.specs.CleanList.{history};
 ghost use Rattle.over_numbers.specs.Balls as balls;
-ghost use Rattle.shorthand.specs.Lines.{plus_all, reason_of};
+ghost use Rattle.shorthand.specs.Lines.{UnknownWord, plus_all, reason_of};
 ghost use Rattle.shorthand.specs.declared.names.Among.TheVariants.{Anyone};
 ghost use Rattle.shorthand.specs.Full as full;
 ghost use Rattle.shorthand.specs.Points.{history_to, is_beyond, is_corrected, batters_at, point_at};
 ghost use Rattle.shorthand.specs.Words as words;
 
 use crate::delivery::{Point, runs, unnamed};
+use crate::leaves::{batter_first, is_leave, left_from, left_so};
 use crate::line::Line;
-use crate::names::{Among, no_such_ball, player};
+use crate::names::{Among, is_same, no_such_ball, player};
 use crate::rest::Rest;
 use crate::unclear::Unclear;
 use crate::undo::last_standing;
 use cards::MatchSheet;
 use corrections::{BookOf, Placed, bowler_of, overs_among};
 use match_laws::opponent;
-use notation::{Entry, LineFault, Plain, Side, number_in, read_line};
+use notation::{Entry, LineFault, LineText, Plain, Side, number_in, read_line};
 use over_numbers::{Named, named_ball, place_of};
 use std::str;
 
@@ -58,52 +60,13 @@ impl Belongs {
     }
 }
 
-/// Writes a batter's number, and the other words as typed.
-fn batter_first(line: &mut Line, sheet: &MatchSheet, side: Side, among: &Among, rest: &mut Rest<'_>)
-    ensures { line.new ≡ plus_all line.old (full.batter_first sheet.now side among.now rest.old) }
-{
-    if let Some(token) = rest.next() {
-        player(line, sheet, side, among, token, rest);
-        line.rest(rest);
-    }
-}
-
 /// Writes a bowler's number, and the delivery's outcome.
 fn bowler_first(line: &mut Line, sheet: &MatchSheet, side: Side, rest: &mut Rest<'_>)
     ensures { line.new ≡ plus_all line.old (full.bowler_first sheet.now side rest.old) }
 {
     if let Some(token) = rest.next() {
-        player(line, sheet, side, &Among::Anyone, token, rest);
-        runs(line, sheet, side, rest);
-    }
-}
-
-/// Writes the number of a batter who leaves in this way, and the other words as typed.
-fn leaver(
-    line: &mut Line,
-    sheet: &MatchSheet,
-    side: Side,
-    among: &Among,
-    how: &str,
-    rest: &mut Rest<'_>,
-)
-    ensures { line.new
-        ≡ plus_all line.old (full.batter_first sheet.now side (full.leavers how.now among.now) rest.old) }
-{
-    if how == "timedout" {
-        batter_first(line, sheet, side, &Among::Anyone, rest);
-    } else {
-        batter_first(line, sheet, side, among, rest);
-    }
-}
-
-/// Writes how a batter leaves, his number, and the other words as typed.
-fn left_so(line: &mut Line, sheet: &MatchSheet, side: Side, among: &Among, rest: &mut Rest<'_>)
-    ensures { line.new ≡ plus_all line.old (full.left_so sheet.now side among.now rest.old) }
-{
-    if let Some(token) = rest.next() {
-        line.word(token);
-        leaver(line, sheet, side, among, token, rest);
+        let number = player(line, sheet, side, &Among::Anyone, token, rest);
+        runs(line, sheet, side, number, rest);
     }
 }
 
@@ -136,7 +99,14 @@ fn item_from(
             line.word(token);
             bowler_first(line, sheet, opponent(at.batting), rest);
         }
-        _ => unnamed(line, sheet, at, token, rest),
+        _ => {
+            if is_leave(token, rest) {
+                line.word("gone");
+                left_from(line, sheet, at.batting, among, token, rest);
+            } else {
+                unnamed(line, sheet, at, token, rest);
+            }
+        }
     }
 }
 
@@ -353,17 +323,88 @@ fn text_of(line: &[u8]) -> Result<&str, Unclear>
     }
 }
 
+/// Returns the entry of a line that is put in full as its letters are, or why it means none.
+fn by_tokens<B: BookOf>(text: &str, book: &B, sheet: &MatchSheet) -> Result<Entry, Unclear>
+    ensures value { MatchResult result
+        (λ entry. full.read_full (full.by_tokens sheet.now (B.content book.now) text.now) ≡ Ok entry)
+        (λ unclear. full.read_full (full.by_tokens sheet.now (B.content book.now) text.now) ≡ Err (reason_of unclear)) }
+    ensures entry { IfOk result (λ entry. IsEntry entry
+        × (full.by_tokens sheet.now (B.content book.now) text.now ≡ Ok (text_of entry))) }
+{
+    let mut line = Line::new();
+    words_in_full(&mut line, sheet, book, &mut Rest::of(text));
+    line.entry()
+}
+
+/// Returns the entry of a line in lower case, or why it means none.
+#[tactic(auto, using(crate::proofs::Lowered::lower_is_text))]
+fn in_lower_case<B: BookOf>(text: &str, book: &B, sheet: &MatchSheet) -> Result<Entry, Unclear>
+    requires short { length text.now ≤ 96 }
+    requires spaced { is_spaced text.now ≡ true }
+    ensures value { MatchResult result
+        (λ entry. full.read_full (full.by_tokens sheet.now (B.content book.now) (str_to_ascii_lowercase text.now)) ≡ Ok entry)
+        (λ unclear. full.read_full (full.by_tokens sheet.now (B.content book.now) (str_to_ascii_lowercase text.now))
+        ≡ Err (reason_of unclear)) }
+    ensures entry { IfOk result (λ entry. IsEntry entry
+        × (full.by_tokens sheet.now (B.content book.now) (str_to_ascii_lowercase text.now) ≡ Ok (text_of entry))) }
+{
+    let mut buffer = [0; 96];
+    let lower = &mut buffer[..text.len()];
+    lower.copy_from_slice(text.as_bytes());
+    lower.make_ascii_lowercase();
+    match str::from_utf8(lower) {
+        Ok(lower) => by_tokens(lower, book, sheet),
+        Err(_) => Err(Unclear::Fault(LineFault::Spaces)),
+    }
+}
+
+/// Returns what a line with this unknown word comes to in lower case; a word that is unknown there too stays as typed.
+#[tactic(auto, using(crate::proofs::Lowered::unknown_stays))]
+fn by_unknown<B: BookOf>(
+    text: &str,
+    book: &B,
+    sheet: &MatchSheet,
+    word: LineText,
+) -> Result<Entry, Unclear>
+    requires short { length text.now ≤ 96 }
+    requires spaced { is_spaced text.now ≡ true }
+    ensures value { MatchResult result
+        (λ entry. full.read_full (full.or_lower (Err (UnknownWord word.bytes))
+        (full.by_tokens sheet.now (B.content book.now) (str_to_ascii_lowercase text.now))) ≡ Ok entry)
+        (λ unclear. full.read_full (full.or_lower (Err (UnknownWord word.bytes))
+        (full.by_tokens sheet.now (B.content book.now) (str_to_ascii_lowercase text.now))) ≡ Err (reason_of unclear)) }
+    ensures entry { IfOk result (λ entry. IsEntry entry
+        × (full.or_lower (Err (UnknownWord word.bytes))
+        (full.by_tokens sheet.now (B.content book.now) (str_to_ascii_lowercase text.now)) ≡ Ok (text_of entry))) }
+{
+    if is_same(word.as_str().as_bytes(), b"undo".as_slice()) {
+        return Err(Unclear::UnknownWord(word));
+    }
+    match in_lower_case(text, book, sheet) {
+        Err(Unclear::UnknownWord(_)) => Err(Unclear::UnknownWord(word)),
+        read => read,
+    }
+}
+
 /// Returns the entry of a line that is put in full word by word, or why it means none.
+#[tactic(auto, using(crate::proofs::Lowered::unknown_stays))]
 fn word_by_word<B: BookOf>(text: &str, book: &B, sheet: &MatchSheet) -> Result<Entry, Unclear>
+    requires short { length text.now ≤ 96 }
+    requires spaced { is_spaced text.now ≡ true }
     ensures value { MatchResult result
         (λ entry. full.read_full (full.by_word sheet.now (B.content book.now) text.now) ≡ Ok entry)
         (λ unclear. full.read_full (full.by_word sheet.now (B.content book.now) text.now) ≡ Err (reason_of unclear)) }
     ensures entry { IfOk result (λ entry. IsEntry entry
         × (full.by_word sheet.now (B.content book.now) text.now ≡ Ok (text_of entry))) }
 {
-    let mut line = Line::new();
-    words_in_full(&mut line, sheet, book, &mut Rest::of(text));
-    line.entry()
+    let unclear = match by_tokens(text, book, sheet) {
+        Ok(entry) => return Ok(entry),
+        Err(unclear) => unclear,
+    };
+    match &unclear {
+        Unclear::UnknownWord(word) => by_unknown(text, book, sheet, *word),
+        _ => Err(unclear),
+    }
 }
 
 /// Returns a line without the blanks at its end.
@@ -377,7 +418,7 @@ fn trimmed(line: &[u8]) -> &[u8]
 /// bowls and bats where the line belongs in the book; or what isn't clear in it, or its fault.
 /// Blanks at its end don't count. A line that already is an entry's is in full as it is. A line
 /// that is no short form stays as typed: if one of its words is unknown, that word is reported.
-#[tactic(auto, unfolding(crate::specs::Full::in_full))]
+#[tactic(auto, unfolding(crate::specs::Full::in_full), using(crate::proofs::Standing::is_tokens))]
 pub fn entry_in_full<B: BookOf>(line: &[u8], book: &B, sheet: &MatchSheet) -> Result<Entry, Unclear>
     ensures value { MatchResult result
         (λ entry. full.entry_in_full sheet.now (B.content book.now) line.now ≡ Ok entry)

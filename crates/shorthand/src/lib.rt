@@ -4,6 +4,7 @@
 mod delivery;
 mod full;
 mod laws;
+mod leaves;
 mod line;
 mod marks;
 mod names;

@@ -32,7 +32,7 @@ impl Model for Line {
 
 /// Returns the digits of a player's number or of a substitute's, 0 to 12.
 #[tactic(auto, using(crate::proofs::Numerals::to_twelve))]
-fn digits(number: u8) -> &'static str
+pub fn digits(number: u8) -> &'static str
     requires { number ≤ 12 }
     ensures { result.now ≡ decimal number }
 {

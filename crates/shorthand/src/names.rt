@@ -5,11 +5,11 @@ ghost use Rattle.std.specs.List.{after_first, before_first, list_any};
 ghost use Rattle.notation.specs.Written.{tokens};
 ghost use Rattle.cards.specs.Sheet.{player_in, team_of};
 ghost use Rattle.shorthand.specs.Candidates.{has_beginning};
-ghost use Rattle.shorthand.specs.Lines.{plus, reason_of};
+ghost use Rattle.shorthand.specs.Lines.{known, plus, reason_of};
 ghost use Rattle.shorthand.specs.Names as names;
 ghost use Rattle.shorthand.specs.inner.Writing.{and_one};
 
-use crate::line::Line;
+use crate::line::{Line, digits};
 use crate::rest::Rest;
 use crate::unclear::{Unaided, Unclear};
 use arrayvec::ArrayString;
@@ -45,7 +45,7 @@ pub enum Among {
 }
 
 /// Whether the word is the token, in either case of letters.
-fn is_same(word: &[u8], token: &[u8]) -> bool
+pub fn is_same(word: &[u8], token: &[u8]) -> bool
     ensures { result ≡ names.is_same word.now token.now }
 {
     word.eq_ignore_ascii_case(token)
@@ -335,35 +335,48 @@ pub fn no_such_ball(token: &str) -> Unclear
     }
 }
 
-/// Writes the number of the player whom a token means, or why it means none.
-pub fn number_word(line: &mut Line, side: Side, token: &str, found: Found)
-    ensures { line.new ≡ plus line.old (names.number_word side token.now found) }
+/// Writes the number of the player whom a token means, or why it means none. Returns the number, 0 if there is none.
+pub fn number_word(line: &mut Line, side: Side, token: &str, found: Found) -> &'static str
+    ensures word { line.new ≡ plus line.old (names.number_word side token.now found) }
+    ensures number { result.now ≡ known (names.number_word side token.now found) }
 {
     match found {
-        Found::One(player) => line.number(player.number()),
-        Found::NoOne => line.fail(no_such_player(token)),
-        Found::Several => line.fail(which_player(side, token)),
+        Found::One(player) => {
+            let number = digits(player.number());
+            line.word(number);
+            number
+        }
+        Found::NoOne => {
+            line.fail(no_such_player(token));
+            "0"
+        }
+        Found::Several => {
+            line.fail(which_player(side, token));
+            "0"
+        }
     }
 }
 
-/// Writes a player's number, given as a number or a name, and takes the words that name him.
-pub fn player(
+/// Writes a player's number, given as a number or a name, and takes the words that name him. Returns the number, 0 if there
+/// is none.
+pub fn player<'a>(
     line: &mut Line,
     sheet: &MatchSheet,
     side: Side,
     among: &Among,
-    token: &str,
+    token: &'a str,
     rest: &mut Rest<'_>,
-)
+) -> &'a str
     ensures word { line.new ≡ plus line.old (names.player sheet.now side among.now token.now rest.old).0 }
+    ensures number { result.now ≡ known (names.player sheet.now side among.now token.now rest.old).0 }
     ensures rest { rest.new ≡ (names.player sheet.now side among.now token.now rest.old).1 }
 {
     if is_digit_first(token) {
         line.word(token);
-        return;
+        return token;
     }
     let found = named(sheet, side, among, token, rest);
-    number_word(line, side, token, found);
+    number_word(line, side, token, found)
 }
 
 /// Writes a fielder's number, given as a number, a name or `sub`, and takes the words that name him.

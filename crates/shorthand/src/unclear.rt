@@ -26,6 +26,8 @@ pub enum Unclear {
     Fault(LineFault),
     /// No bowler is named, and the open over has no delivery that tells who bowls.
     WhoBowls,
+    /// Either batter can be out so, and the line doesn't say which, as `striker` or `other`.
+    WhoIsOut,
     /// No player of the side has a name with a word that begins with this text.
     NoSuchPlayer(LineText),
     /// Several players of this side have a name with a word that begins with this text.

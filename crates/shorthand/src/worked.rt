@@ -1,7 +1,7 @@
 //! The rows of the table that scorers have, computed from the definitions.
 
 ghost use Rattle.cards.specs.Sheet.{Sheet};
-ghost use Rattle.shorthand.specs.Worked.{WorkedMarks, WorkedNames, WorkedOuts, WorkedPlaces, WorkedSeveral, WorkedWords};
+ghost use Rattle.shorthand.specs.Worked.{WorkedCases, WorkedMarks, WorkedNames, WorkedOuts, WorkedPlaces, WorkedSeveral, WorkedWords};
 
 /// What each row of the table stands for.
 pub fn table_is_worked()
@@ -11,4 +11,5 @@ pub fn table_is_worked()
     ensures names { WorkedNames }
     ensures several { WorkedSeveral }
     ensures places { (s : Sheet) → WorkedPlaces s }
+    ensures cases { WorkedCases }
 {}

@@ -35,6 +35,7 @@ way_text Unaided.Lbw = codes "lbw"
 abbrev pub unclear_text : Sheet → Unclear → List ℕ
 unclear_text sheet (Unclear.Fault fault) = fault_text fault
 unclear_text sheet Unclear.WhoBowls = codes "who bowls? begin with the bowler, as 10: .\n"
+unclear_text sheet Unclear.WhoIsOut = codes "who is out? striker or other comes first, as ro striker 8\n"
 unclear_text sheet (Unclear.NoSuchPlayer name) = codes "no such player: " ++ name.bytes ++ codes "\n"
 unclear_text sheet (Unclear.TwoMeanings letter) = meanings letter
 unclear_text sheet (Unclear.NoFielder how name) =

@@ -43,6 +43,7 @@ fn print_who_may<B: BookOf, W: Sink>(
     match unclear {
         Unclear::WhoBowls => print_limited_bowlers(out, sheet, book),
         Unclear::Fault(_) => Ok(()),
+        Unclear::WhoIsOut => Ok(()),
         Unclear::NoSuchPlayer(_) => Ok(()),
         Unclear::WhichPlayer(_, _) => Ok(()),
         Unclear::TwoMeanings(_) => Ok(()),
