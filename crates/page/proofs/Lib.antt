@@ -2,5 +2,11 @@ pub mod Causes
 pub mod Chains
 pub mod Escaping
 pub mod Growing
+pub mod Marked
+pub mod MarkedCharts
+pub mod MarkedHead
+pub mod MarkedInnings
+pub mod MarkedOvers
+pub mod MarkedPage
 pub mod Momenting
 pub mod Standing

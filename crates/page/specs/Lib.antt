@@ -11,6 +11,7 @@ pub mod Falls
 pub mod Growth
 pub mod Idle
 pub mod Innings
+pub mod Markup
 pub mod Moments
 pub mod Overs
 pub mod Page

@@ -23,5 +23,5 @@ mod stands;
 mod template;
 mod title;
 
-pub use laws::no_text_is_markup;
+pub use laws::{every_tag_is_listed, no_text_is_markup};
 pub use printing::page_of;
