@@ -1,5 +1,5 @@
 -- The frame of a match in a folder: a line about it, and then a product's text. Why a match has none, and how that is told.
-use Rattle.std.specs.Prelude.{◌≡◌, ◌<◌, ◌⊎◌, ℕ, ⊤, List, ◌++◌, length, Option, Some, None, Ok, Err, String, codes, decimal, string_bytes, if◌then◌else◌}
+use Rattle.std.specs.Prelude.{◌≡◌, ◌<◌, ◌⊎◌, ℕ, ⊤, List, ◌++◌, length, Ok, Err, String, codes, decimal, string_bytes, if◌then◌else◌}
 use Rattle.std.specs.BTreeMap.{BTreeMap}
 use Rattle.std.specs.declared.alloc.Global.{Global}
 use Rattle.notation.specs.declared.entry.Entry.{Entry}
@@ -8,10 +8,9 @@ use Rattle.toml.specs.View.{table_view}
 use Rattle.toml.specs.declared.value.Value.{Value}
 use Rattle.cards.specs.Reading.{IsReading}
 use Rattle.cards.specs.Sheet as sheets
-use Rattle.cards.specs.SheetFault.{number_of, name_of}
 use Rattle.books.specs.BothFiles.{IsBookOfBoth, WhyNoBookOfBoth}
 use Rattle.export.specs.Document.{IsDocument}
-use Rattle.setup.specs.Fault.{fault_line}
+use Rattle.setup.specs.Fault.{fault_line, worded_line}
 use Rattle.setup.specs.SheetText.{IsSheetOf}
 use Rattle.setup.specs.declared.fault.StopFault.{StopFault}
 use Rattle.setup.specs.declared.short_sheet.TheConstants.{LONGEST_SHEET}
@@ -139,17 +138,12 @@ stop_of_match (Sheet why words) = StopFault.Sheet why
 stop_of_match (HandedOn why words) = StopFault.Sheet why
 stop_of_match (Book why) = stop_of (both.Book why)
 
--- the line of a refused sheet: its number and its name, and what is wrong in words
-abbrev pub worded_line : Option ℕ → List ℕ → List ℕ → List ℕ
-worded_line (Some n) called words = codes "sheet: " ++ decimal n ++ codes " " ++ called ++ codes ": " ++ words ++ codes "\n"
-worded_line None called words = codes "no memory\n"
-
 -- what a single run tells of it, its file being at this path
 abbrev pub reason_line : List ℕ → MatchFault → List ℕ
-reason_line path (Sheet why words) = worded_line (number_of why) (name_of why) (string_bytes words)
-reason_line path (HandedOn why words) = worded_line (number_of why) (name_of why) (string_bytes words)
+reason_line path (Sheet why words) = worded_line why (string_bytes words)
+reason_line path (HandedOn why words) = worded_line why (string_bytes words)
 reason_line path fault = fault_line path (stop_of_match fault)
 
--- the same behind its folder
+-- the match's folder, and that line behind it
 abbrev pub refusal_line : List ℕ → List ℕ → MatchFault → List ℕ
 refusal_line folder path fault = folder ++ codes ": " ++ reason_line path fault

@@ -23,7 +23,7 @@ fn is_plain(byte: u8) -> bool
     byte >= 32 && byte != 127
 }
 
-/// The name of a folder that a line is, if it is one: text, without a control character.
+/// Returns a line as the name of a folder, if it is one: text, without a control character.
 fn folder_in(line: &[u8]) -> Option<&str>
     ensures { MatchOption result (¬ (IsFolder line.now)) (λ folder. (folder.now ≡ line.now) × IsFolder line.now) }
 {
@@ -88,7 +88,8 @@ fn print_match<F: Files, W: Sink, E: Sink>(
     }
 }
 
-/// The same of a line of the list.
+/// Prints the frame of the match whose folder is a line of the list, or tells why the line has none. The answer is whether it was
+/// printed.
 fn print_line<F: Files, W: Sink, E: Sink>(
     alloc: Global,
     product: Product,
@@ -111,7 +112,8 @@ fn print_line<F: Files, W: Sink, E: Sink>(
     }
 }
 
-/// The same of each line of the list, in order. The answer is whether any wasn't printed.
+/// Prints the frames of the matches in the list, in its order, and tells why a line has none. The answer is whether any line has
+/// none.
 fn print_each<F: Files, W: Sink, E: Sink>(
     alloc: Global,
     product: Product,

@@ -3,7 +3,6 @@
 ghost use Rattle.std.specs.Prelude.{◌≡◌, [], string_bytes, Err, IfErr, IfOk, OnOk};
 ghost use Rattle.agree_core.specs.Books.{AllTaken};
 ghost use Rattle.cards.specs.Reading.{IsReading};
-ghost use Rattle.cards.specs.SheetFault.{name_of, number_of};
 ghost use Rattle.corrections.specs.Refusal.{book_refusal};
 ghost use Rattle.export.specs.Document.{IsDocument};
 ghost use Rattle.streams.specs.Watched.{Prints, TellsFailure};
@@ -22,7 +21,7 @@ use books::BothFault;
 use cards::{MatchSheet, SheetFault, read_sheet};
 use corrections::{BookOf, CheckedBook};
 use export::document_of;
-use setup::{LONGEST_SHEET, StopFault, print_fault};
+use setup::{LONGEST_SHEET, StopFault, print_fault, print_in_words};
 use sheet_check::{first_line, handed_report_of, report_of};
 use std::alloc::{AllocError, Global};
 use streams::{InputFault, Sink, Watched, WriteFailed};
@@ -46,7 +45,7 @@ pub enum MatchFault {
 impl MatchFault {
     ghost use Rattle.commands.specs.Frames.{file_at_fault, stop_of_match};
 
-    /// The file that is at fault.
+    /// Returns the file that is at fault.
     pub fn file(&self) -> MatchFile
         ensures { result ≡ file_at_fault self.now }
     {
@@ -58,7 +57,7 @@ impl MatchFault {
         }
     }
 
-    /// The same fault of a single run.
+    /// Returns the fault that a single run of the match ends with.
     fn stop(&self) -> StopFault
         ensures { result ≡ stop_of_match self.now }
     {
@@ -91,7 +90,7 @@ pub struct Frame {
     pub text: String,
 }
 
-/// All bytes of a match's file.
+/// Reads all bytes of a match's file.
 fn bytes_of<F: Files>(
     alloc: Global,
     files: &F,
@@ -109,7 +108,7 @@ fn bytes_of<F: Files>(
     }
 }
 
-/// Why a sheet of this text is refused, in words.
+/// Returns why a sheet of this text is refused, in words.
 fn fault_in_words(alloc: Global, text: &[u8], why: SheetFault) -> Result<MatchFault, AllocError>
     requires { IsReading text.now (Err why) }
     ensures { IfOk result (WhyNoSheet text.now) }
@@ -119,7 +118,7 @@ fn fault_in_words(alloc: Global, text: &[u8], why: SheetFault) -> Result<MatchFa
     Ok(MatchFault::Sheet { why, words })
 }
 
-/// Why what a sheet of this text hands on is refused, in words.
+/// Returns why what a sheet of this text hands on is refused, in words.
 fn handed_in_words(alloc: Global, text: &[u8], why: SheetFault) -> Result<MatchFault, AllocError>
     requires { IsDocument text.now (Err why) }
     ensures { IfOk result (WhyNoSheet text.now) }
@@ -129,7 +128,7 @@ fn handed_in_words(alloc: Global, text: &[u8], why: SheetFault) -> Result<MatchF
     Ok(MatchFault::HandedOn { why, words })
 }
 
-/// The match sheet of a file's bytes.
+/// Reads the match sheet of a file's bytes.
 fn sheet_of(alloc: Global, text: &[u8]) -> Result<MatchSheet, MatchFault>
     ensures sheet { IfOk result (IsSheetOf text.now) }
     ensures why { IfErr result (WhyNoSheet text.now) }
@@ -144,7 +143,7 @@ fn sheet_of(alloc: Global, text: &[u8]) -> Result<MatchSheet, MatchFault>
     }
 }
 
-/// What a product takes of the document of a sheet's bytes.
+/// Returns what a product takes of the document of a sheet's bytes.
 fn document_for(alloc: Global, product: Product, text: &[u8]) -> Result<Table, MatchFault>
     ensures document { IfOk result (IsDocumentFor product text.now) }
     ensures why { IfErr result (WhyNoSheet text.now) }
@@ -159,7 +158,7 @@ fn document_for(alloc: Global, product: Product, text: &[u8]) -> Result<Table, M
     }
 }
 
-/// The text of a product of a legal book.
+/// Makes the text of a product of a legal book.
 fn product_text(
     alloc: Global,
     product: Product,
@@ -180,7 +179,7 @@ fn product_text(
     }
 }
 
-/// The frame of a match with these votes files.
+/// Makes the frame of a match with these votes files.
 fn framed(
     alloc: Global,
     product: Product,
@@ -205,7 +204,7 @@ fn framed(
     })
 }
 
-/// The frame of the match in a folder. The sheet is looked at before the votes files are read.
+/// Makes the frame of the match in a folder. The sheet is looked at before the votes files are read.
 pub fn frame_of<F: Files>(
     alloc: Global,
     product: Product,
@@ -246,21 +245,6 @@ pub fn print_frame<W: Sink>(
     write!(out, "{folder}\t{a}\t{b}\t{agreed}\t{bytes}\n{text}")
 }
 
-/// Prints why a sheet is refused, in words.
-fn print_in_words<W: Sink>(
-    out: &mut Watched<W>,
-    why: SheetFault,
-    words: &str,
-) -> Result<(), WriteFailed>
-    ensures text { OnOk result (Prints W.contents out.old out.new (texts.worded_line (number_of why) (name_of why) words.now)) }
-    ensures failed { TellsFailure result out.old out.new }
-{
-    match why.number() {
-        Some(number) => writeln!(out, "sheet: {number} {why}: {words}"),
-        None => writeln!(out, "no memory"),
-    }
-}
-
 /// Prints why a match has no frame, as a single run tells it of the file at this path.
 fn print_reason<W: Sink>(
     out: &mut Watched<W>,
@@ -278,7 +262,7 @@ fn print_reason<W: Sink>(
     }
 }
 
-/// The same, behind the match's folder.
+/// Prints the match's folder, and why it has no frame.
 pub fn print_refusal<W: Sink>(
     out: &mut Watched<W>,
     folder: &str,

@@ -21,7 +21,7 @@ pub enum MatchFile {
 impl MatchFile {
     ghost use Rattle.commands.specs.MatchFiles.{file_name};
 
-    /// Its name in the match's folder.
+    /// Returns the file's name in the match's folder.
     pub fn name(self) -> &'static str
         ensures { result.now ≡ file_name self }
     {
@@ -38,7 +38,7 @@ pub trait Files {
     /// The bytes of the file of each path, `None` where it can't be read; `None` where nothing is known of files.
     ghost known: { Self → Option (List ℕ → Option (List ℕ)) };
 
-    /// All bytes of a file that has no more than 16,777,216: one that is longer can't be read.
+    /// Reads all bytes of a file that has no more than 16,777,216: one that is longer can't be read.
     fn bytes_of(&self, alloc: Global, path: &str) -> Result<Vec<u8>, InputFault>
         ensures bytes { IfOk result (λ bytes. HasBytes (known self.now) path.now bytes.items) }
         ensures unread { result ≡ Err InputFault.Read → IsUnreadable (known self.now) path.now };
@@ -62,7 +62,7 @@ impl Files for HostRuntime {
     }
 }
 
-/// The path of a match's file in its folder.
+/// Returns the path of a match's file in its folder.
 pub fn path_of(alloc: Global, folder: &str, file: MatchFile) -> Result<String, AllocError>
     ensures { IfOk result (λ path. string_bytes path ≡ path_in folder.now file) }
 {

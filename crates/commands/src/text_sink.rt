@@ -17,7 +17,7 @@ impl TextSink {
     ghost use Rattle.std.specs.Prelude.{◌≡◌, []};
     ghost use Rattle.commands.specs.Frames.{text_in};
 
-    /// One without a byte.
+    /// Makes an empty text.
     pub fn new(alloc: Global) -> TextSink
         ensures { text_in result ≡ [] }
     {
@@ -26,7 +26,7 @@ impl TextSink {
         }
     }
 
-    /// What was printed to it.
+    /// Returns what was printed to it.
     pub fn into_text(self) -> String
         ensures { string_bytes result ≡ text_in self }
     {

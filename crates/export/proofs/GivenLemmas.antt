@@ -1,5 +1,5 @@
 -- What the export copies from a sheet's table [info], value by value.
-use Rattle.std.proofs.Common.{◌≡◌, ℕ, Bool, true, false, List, [], ◌∷◌, ◌++◌, refl, Option, Some, None, if◌then◌else◌, append_assoc, codes}
+use Rattle.std.proofs.Common.{◌≡◌, ℕ, Bool, true, false, List, [], ◌∷◌, ◌++◌, refl, Some, None, if◌then◌else◌, append_assoc, codes}
 use Rattle.toml.specs.Data.{Data, Members, no_members, member, get_member}
 use Rattle.json.specs.Json.{Json}
 use Rattle.json.specs.Token.{Token, key}

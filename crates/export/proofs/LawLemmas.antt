@@ -27,7 +27,7 @@ use Rattle.limits.specs.Limits.{overs_for}
 use Rattle.export.specs.Info.{overs_told}
 use Rattle.export.specs.Innings.{runs_before, runs_after, penalty_field, powerplay_fields, needed_in, overs_of, is_declared, is_forfeited}
 use Rattle.archive_deliveries.specs.Miscounts.{is_miscounted, miscounts}
-use Rattle.export.specs.Laws.{IsCount, TotalsAddUp, at, noted_items, member_at, total_in}
+use Rattle.export.specs.Laws.{IsCount, TotalsAddUp, at, innings_at, noted_items, member_at, total_in}
 use Rattle.export.proofs.Weights.{ball_here, gone_here, in_innings, noted_weight, weights_so_far}
 use Rattle.export.proofs.ReadLemmas.{elements-of, in_over, overs_all, totals_of, totals_read}
 
@@ -58,7 +58,7 @@ module _ (f : Begun) (i : ℕ) where
   totals_sum (x ∷ xs) = grind (arith, totals_sum xs)
 
   -- each item stands in this innings, an earlier one or a later one
-  places : (xs : List Noted) → penalties f i (items_in i xs)
+  pub places : (xs : List Noted) → penalties f i (items_in i xs)
       + (penalties f i (filter (λ x. nat_lt x.innings i) xs) + penalties f i (filter (λ x. nat_lt i x.innings) xs)) ≡ penalties f i xs
   places [] = refl
   places (x ∷ xs) = grind (arith, nat_tests, places xs)
@@ -68,7 +68,7 @@ module _ (f : Begun) (i : ℕ) where
 abbrev counts_at : History → ℕ → Award → Bool
 counts_at h i a = is_at (award_innings h a) i
 
-awards_so_far : (h : History) (i : ℕ) (g : History) (xs : List Placed) →
+pub awards_so_far : (h : History) (i : ℕ) (g : History) (xs : List Placed) →
     penalties (begun_of h) i (notes g xs) + 5 * count_of (counts_at h i) (awards g) ≡ 5 * count_of (counts_at h i) (awards (history_after g xs))
 awards_so_far h i g [] = omega arith
 awards_so_far h i g (x ∷ xs) = grind (arith, awards_so_far h i (x.item ∷ g) xs)
@@ -111,22 +111,32 @@ rest_read : (d e t m : Bool) (before after : ℕ) (runs overs : Json) (ps : List
     IsCount before (at (codes "pre") there) × IsCount after (at (codes "post") there)
 rest_read d e t m before after runs overs ps z none = grind (arith, none, eqb-true before 0, eqb-true after 0)
 
+-- the penalty runs that no delivery carries
+pub penalties_read : (s : Sheet) (book : List Entry) (i : ℕ) →
+    let f = begun_of (history_of book) in
+    let there = at (codes "penalty_runs") (innings_at s book i) in
+    IsCount (runs_before f i (noted_items book)) (at (codes "pre") there) × IsCount (runs_after f i (noted_items book)) (at (codes "post") there)
+penalties_read s book i =
+    let h = history_of book in
+    let xs = noted_items book in
+    let ys = items_in i xs in
+    let before = runs_before (begun_of h) i xs in
+    let after = runs_after (begun_of h) i xs in
+    rest_read (is_declared ys) (is_forfeited ys) (i + 1 == 2 * s.innings) (list_any is_miscounted ys) before after
+    (object_of (number_field (codes "runs") (needed_in h i) ∷ [] ++ overs_told (overs_for s.limits i))) (object_of (miscounts ys)) s.limits.powerplays (before + after == 0) (eqb-true (before + after) 0)
+
 pub totals_add_up : (s : Sheet) (n : ℕ) (book : List Entry) → IsLegalBook n book → TotalsAddUp s book
 totals_add_up s n book legal i =
     let h = history_of book in
     let xs = noted_items book in
     let f = begun_of h in
-    let ys = items_in i xs in
-    let before = runs_before f i xs in
-    let after = runs_after f i xs in
-    let (pre, post) = rest_read (is_declared ys) (is_forfeited ys) (i + 1 == 2 * s.innings) (list_any is_miscounted ys) before after
-    (object_of (number_field (codes "runs") (needed_in h i) ∷ [] ++ overs_told (overs_for s.limits i))) (object_of (miscounts ys)) s.limits.powerplays (before + after == 0) (eqb-true (before + after) 0) in record {
+    let ys = items_in i xs in record {
       totals = totals_of f i ys;
-      before = before;
-      after = after;
+      before = runs_before f i xs;
+      after = runs_after f i xs;
       each = ap (λ overs. map total_in (flat_map in_over overs)) (elements-of (overs_of s (side_of h i) f i ys))
           ∙ (ap (map total_in) (overs_all s (side_of h i) f i (carried ys) ys) ∙ totals_read s (side_of h i) f i (carried ys) ys);
-      pre = pre;
-      post = post;
+      pre = (penalties_read s book i).0;
+      post = (penalties_read s book i).1;
       sum = total_added n book legal i;
     }

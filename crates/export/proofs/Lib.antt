@@ -7,6 +7,9 @@ pub mod FallLemmas
 pub mod LineLemmas
 pub mod ReaderLemmas
 pub mod SumLemmas
+pub mod OverLemmas
+pub mod OverSums
+pub mod ExtraLemmas
 pub mod ReaderSums
 pub mod GivenLemmas
 pub mod HandedLemmas

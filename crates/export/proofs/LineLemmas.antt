@@ -35,16 +35,21 @@ abbrev pub picked : (ℕ → Bool) → (ℕ → ℕ) → List ℕ → ℕ
 picked test figure ps = tally (λ p. if test p then figure p else 0) ps
 
 module _ (test : ℕ → Bool) where
-  picked-none : (ps : List ℕ) → picked test (λ p. 0) ps ≡ 0
+  pub picked-none : (ps : List ℕ) → picked test (λ p. 0) ps ≡ 0
   picked-none [] = refl
   picked-none (p ∷ ps) = grind (arith, picked-none ps)
+
+  -- a figure that is the same for each player
+  pub picked-same : (f g : ℕ → ℕ) → ((p : ℕ) → f p ≡ g p) → (ps : List ℕ) → picked test f ps ≡ picked test g ps
+  picked-same f g same [] = refl
+  picked-same f g same (p ∷ ps) = grind (arith, picked-same f g same ps, same p)
 
   picked-push : (f : ℕ → ℕ) (ps : List ℕ) (p : ℕ) → picked test f (ps ++ p ∷ []) ≡ picked test f ps + cond (test p) (f p) 0
   picked-push f [] p = refl
   picked-push f (q ∷ ps) p = omega (arith, picked-push f ps p)
 
   -- the sum of a number that only player k has
-  picked-one : (k n : ℕ) (ps : List ℕ) → picked test (λ p. if k == p then n else 0) (named_once ps) ≡ cond (among k ps) (cond (test k) n 0) 0
+  pub picked-one : (k n : ℕ) (ps : List ℕ) → picked test (λ p. if k == p then n else 0) (named_once ps) ≡ cond (among k ps) (cond (test k) n 0) 0
   picked-one k n [] = refl
   picked-one k n (p ∷ ps) =
       let more = picked-push (λ q. if k == q then n else 0) (named_once ps) p in

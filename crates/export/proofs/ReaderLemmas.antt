@@ -1,5 +1,5 @@
 -- What a reader takes from a delivery.
-use Rattle.std.proofs.Common.{◌≡◌, ℕ, ◌+◌, ◌≤◌, ◌==◌, ◌&&◌, not, false, List, [], ◌∷◌, codes, refl, arith, eqb-true, bytes_eq}
+use Rattle.std.proofs.Common.{◌≡◌, ℕ, ◌+◌, ◌≤◌, ◌==◌, ◌<◌, ◌^◌, ◌&&◌, not, false, List, [], ◌∷◌, codes, refl, arith, eqb-true, bytes_eq}
 use Rattle.std.proofs.lemmas.Fmt.{digits_value-decimal}
 use Rattle.notation.specs.declared.entry.{Side.Side, Ball.Ball}
 use Rattle.notation.proofs.Numbers.{own}
@@ -7,7 +7,7 @@ use Rattle.ball_laws.specs.declared.{ends.Ends.Ends}
 use Rattle.ball_laws.specs.Over.{debit_of, is_wide_or_no_ball}
 use Rattle.ball_laws.specs.Runs.{split_of_ball}
 use Rattle.ball_laws.specs.Sums.{count_of, one_if}
-use Rattle.match_laws.specs.Figures.{batted_of, credit_of, credited, faced_of, noballs_of, wides_of}
+use Rattle.match_laws.specs.Figures.{batted_of, byes_of, credit_of, credited, faced_of, legs_of, noballs_of, wides_of}
 use Rattle.match_laws.proofs.Bounds.{ball-small}
 use Rattle.cards.specs.Sheet.{Sheet, player_of}
 use Rattle.json.specs.Json.{Json}
@@ -16,8 +16,8 @@ use Rattle.archive_deliveries.specs.declared.notes.Noted.{Noted}
 use Rattle.archive_deliveries.specs.Wickets.{is_gone}
 use Rattle.archive_deliveries.specs.Deliveries.{delivery_of, extra_runs, is_run}
 use Rattle.export.specs.Laws.{at, is_text}
-use Rattle.export.specs.Readers.{bat_runs, boundary_in, bowled_in, credited_in, debited_in}
-use Rattle.export.specs.Readers.{faced_in, is_credited, noballs_in, number_in}
+use Rattle.export.specs.Readers.{bat_runs, boundary_in, bowled_in, byes_in, credited_in, debited_in}
+use Rattle.export.specs.Readers.{faced_in, is_credited, legs_in, noballs_in, number_in, penalty_in}
 use Rattle.export.specs.Readers.{wides_in}
 use Rattle.export.proofs.WicketLemmas.{delivered}
 use Rattle.export.proofs.LineLemmas.{takes}
@@ -34,6 +34,11 @@ module _ (s : Sheet) (side : Side) (penalty : ℕ) (early late : List Noted) (en
   pub batter_read : (name : List ℕ) → is_text name (at (codes "batter") delivery) ≡ takes (λ p. bytes_eq name (player_of s side p)) ends.striker
   batter_read name = grind arith
 
+  pub penalty_read : penalty < 2 ^ 64 → penalty_in delivery ≡ penalty
+  penalty_read small =
+      let again = digits_value-decimal own penalty small in
+      grind (arith, again, eqb-true penalty 0, eqb-true (extra_runs (split_of_ball b) + penalty) 0)
+
   module _ (low : b.ran ≤ 20) where
     pub bat_read : bat_runs delivery ≡ batted_of b
     bat_read = number_again (batted_of b) (ball-small b low).striker
@@ -46,6 +51,18 @@ module _ (s : Sheet) (side : Side) (penalty : ℕ) (early late : List Noted) (en
         let x = split_of_ball b in
         let again = number_again x.noballs (ball-small b low).noballs in
         grind (arith, again, eqb-true x.noballs 0, eqb-true (extra_runs x + penalty) 0)
+
+    pub byes_read : byes_in delivery ≡ byes_of b
+    byes_read =
+        let x = split_of_ball b in
+        let again = number_again x.byes (ball-small b low).byes in
+        grind (arith, again, eqb-true x.byes 0, eqb-true (extra_runs x + penalty) 0)
+
+    pub legs_read : legs_in delivery ≡ legs_of b
+    legs_read =
+        let x = split_of_ball b in
+        let again = number_again x.legs (ball-small b low).legs in
+        grind (arith, again, eqb-true x.legs 0, eqb-true (extra_runs x + penalty) 0)
 
     pub faced_read : faced_in delivery ≡ faced_of b
     faced_read = rw wides_read (grind arith)

@@ -7,10 +7,10 @@ use Rattle.notation.specs.declared.entry.{Ball.Ball, Entry.Entry, Side.Side}
 use Rattle.notation.specs.Written.{IsEntry}
 use Rattle.ball_laws.specs.declared.ends.Ends.{Ends}
 use Rattle.ball_laws.specs.History.{History}
-use Rattle.ball_laws.specs.Over.{counting, counts, debit_of, is_wide_or_no_ball}
+use Rattle.ball_laws.specs.Over.{counting, counts, debit, debit_of, is_wide_or_no_ball}
 use Rattle.ball_laws.specs.Sums.{count_of, one_if, tally}
 use Rattle.match_laws.specs.History.{deliveries, innings_overs, is_at, is_of, opponent, side_of, since_call}
-use Rattle.match_laws.specs.Figures.{alone, bowler_in, batted_of, batter_runs, batting_order, bowled_by}
+use Rattle.match_laws.specs.Figures.{alone, bowler_in, batted_of, batter_runs, batting_order, bowled_by, is_maiden, maidens}
 use Rattle.match_laws.specs.Figures.{bowler_balls, bowler_noballs, bowler_overs, bowler_runs, bowler_wickets}
 use Rattle.match_laws.specs.Figures.{bowler_wides, bowling_order, counting_by, credited, faced, faced_of, fours}
 use Rattle.match_laws.specs.Figures.{fours_of, is_odd_over, named_once, noballs_of, odd_overs, of_bowler}
@@ -24,10 +24,13 @@ use Rattle.archive_deliveries.specs.Deliveries.{delivery_of, is_run}
 use Rattle.export.specs.Laws.{at, innings_at, is_text}
 use Rattle.export.specs.Readers.{BatterAddsUp, BowlerAddsUp, OversAreSixes, HasOwnName, NamesTellPlayers, bat_runs}
 use Rattle.export.specs.Readers.{boundary_in, bowled_in, credited_in, dead_ball, debited_in, faced_in, four_outrun}
-use Rattle.export.specs.Readers.{noballs_in, over_balls, six_outrun, summed, wides_in}
+use Rattle.export.specs.Readers.{is_namesakes, maidens_by, namesakes_maidens, namesakes_overs, noballs_in, open_maiden}
+use Rattle.export.specs.Readers.{open_over, over_balls, overs_by, six_outrun, summed, wides_in}
 use Rattle.export.proofs.ReaderLemmas.{bat_read, batter_read, boundary_read, bowled_read, credited_read}
 use Rattle.export.proofs.ReaderLemmas.{debited_read, faced_read, noballs_read, wides_read}
 use Rattle.export.proofs.SumLemmas.{sum_read}
+use Rattle.export.proofs.OverLemmas.{is_full, overs_read}
+use Rattle.export.proofs.OverSums.{full_maiden, of_test, overs_by_names, overs_named}
 use Rattle.export.proofs.LineLemmas.{AreNamed, bowlers_named, by_players, comers, picked, picked-own, sum_if, strikers_named, takes}
 
 -- a reader's number of each delivery is a number of its ball
@@ -65,6 +68,19 @@ balls_of h i p =
     let dead = sum_if (λ d. is_of i d && ((d.ball).bowler == p)) (λ d. counted_one d.ball) (λ d. dead_ball d.ball)
     (λ d. bowled_one d.ball) (λ d. grind arith) (deliveries h) in
     omega (arith, dead, by_overs h i p, overs_apart p (innings_overs h i))
+
+-- ---- called overs, and the open one
+
+with_true : (b : Bool) → b ≡ b && true
+with_true b = grind arith
+
+overs_and_open : (h : History) (i p : ℕ) → bowler_overs h i p + open_over h i p ≡ count_of (alone p) (since_call h i ∷ innings_overs h i)
+unfolding bowler_overs
+overs_and_open h i p = grind arith
+
+maidens_and_open : (h : History) (i p : ℕ) → maidens h i p + open_maiden h i p ≡ count_of (is_maiden p) (since_call h i ∷ innings_overs h i)
+unfolding maidens
+maidens_and_open h i p = grind arith
 
 -- ---- sums by names
 
@@ -136,6 +152,36 @@ module _ (s : Sheet) (n : ℕ) (book : List Entry) (all : All IsEntry book) (leg
       (balls_of h i) order in
       omega (arith, bowler_sum bowled_in bowled_one (bowled_read s (side_of h i)), inner, outer)
 
+  abbrev all_overs : List (List Ball)
+  all_overs = since_call h i ∷ innings_overs h i
+
+  abbrev of_namesakes : List Ball → Bool
+  of_namesakes = is_namesakes s (opponent (side_of h i)) name
+
+  bowlers_overs : overs_by name (innings_at s book i)
+      ≡ picked bowls (bowler_overs h i) (bowling_order h i) + picked bowls (open_over h i) (bowling_order h i) + namesakes_overs s h i name
+  unfolding bowling_order
+  bowlers_overs =
+      let read = overs_read s n book i (λ d. is_text name (at (codes "bowler") d)) (of_test bowls) all legal (λ penalty early late ends b low. refl) in
+      let names = overs_by_names bowls (λ over. true) (is_full (of_test bowls)) alone of_namesakes (λ over. with_true (is_full (of_test bowls) over))
+      (λ p over. with_true (alone p over)) (λ over. with_true (of_namesakes over))
+      (filter_map (bowler_in i) (deliveries h)) all_overs (overs_named h i) in
+      let both = sum_if bowls (bowler_overs h i) (open_over h i) (λ p. count_of (alone p) all_overs) (overs_and_open h i) (bowling_order h i) in
+      omega (arith, read, names, both)
+
+  bowlers_maidens : maidens_by name (innings_at s book i)
+      ≡ picked bowls (maidens h i) (bowling_order h i) + picked bowls (open_maiden h i) (bowling_order h i) + namesakes_maidens s h i name
+  unfolding bowling_order
+  bowlers_maidens =
+      let told : Ball → Bool = λ b. bowls b.bowler && (debit_of b == 0) in
+      let read = overs_read s n book i (λ d. is_text name (at (codes "bowler") d) && (debited_in d == 0)) told all legal
+      (λ penalty early late ends b low. rw (debited_read s (side_of h i) penalty early late ends b low) refl) in
+      let names = overs_by_names bowls (λ over. debit over == 0) (is_full told) is_maiden (λ over. of_namesakes over && (debit over == 0))
+      (full_maiden (of_test bowls)) (λ p over. refl) (λ over. refl)
+      (filter_map (bowler_in i) (deliveries h)) all_overs (overs_named h i) in
+      let both = sum_if bowls (maidens h i) (open_maiden h i) (λ p. count_of (is_maiden p) all_overs) (maidens_and_open h i) (bowling_order h i) in
+      omega (arith, read, names, both)
+
   pub bowler_adds_up : BowlerAddsUp s h i (innings_at s book i) name
   unfolding bowler_runs bowler_wickets bowler_wides bowler_noballs
   bowler_adds_up = record {
@@ -144,6 +190,8 @@ module _ (s : Sheet) (n : ℕ) (book : List Entry) (all : All IsEntry book) (leg
     wickets = bowler_sum credited_in credited (λ penalty early late ends b low. credited_read s (side_of h i) penalty early late ends b);
     wides = bowler_sum wides_in wides_of (wides_read s (side_of h i));
     noballs = bowler_sum noballs_in noballs_of (noballs_read s (side_of h i));
+    overs = bowlers_overs;
+    maidens = bowlers_maidens;
   }
 
 -- ---- overs of six

@@ -49,12 +49,19 @@ clean_plain book all =
     let are = recursion_from_All IsEntry book all in All-filter is_kept IsPlainItem (clean_items_from book 0 book) (items_plain book are 0 book are)
 
 -- an item noted with where it stands has its numbers in their ranges
-abbrev IsPlainNoted : Noted → Type 0
+abbrev pub IsPlainNoted : Noted → Type 0
 IsPlainNoted x = IsPlain x.item
 
 notes_plain : (h : History) (xs : List Placed) → AllByRecursion IsPlainItem xs → AllByRecursion IsPlainNoted (notes h xs)
 notes_plain h [] are = tt
 notes_plain h (x ∷ xs) are = (are.0, notes_plain (x.item ∷ h) xs are.1)
+
+-- so have those of an innings
+pub plain_items : (book : List Entry) (i : ℕ) → All IsEntry book → AllByRecursion IsPlainNoted (items_in i (noted_items book))
+plain_items book i all =
+    let noted = notes_plain [] (clean book) (recursion_from_All IsPlainItem (clean book) (clean_plain book all)) in
+    let plain = All-filter (λ x. x.innings == i) IsPlainNoted (noted_items book) (All-from_recursion IsPlainNoted (noted_items book) noted) in
+    recursion_from_All IsPlainNoted (items_in i (noted_items book)) plain
 
 -- ---- sums
 
@@ -82,9 +89,7 @@ module _ (w : Option ℕ → Ball → ℕ) where
       let side = side_of h i in
       let same : deliveries_in (innings_at s book i) ≡ all_listed s side f i (carried ys) ys =
       ap (flat_map in_over) (elements-of (overs_of s side f i ys)) ∙ overs_all s side f i (carried ys) ys in
-      let noted = notes_plain [] (clean book) (recursion_from_All IsPlainItem (clean book) (clean_plain book all)) in
-      let plain = All-filter (λ x. x.innings == i) IsPlainNoted (noted_items book) (All-from_recursion IsPlainNoted (noted_items book) noted) in
-      let listed = ap (tally g) same ∙ listed_sum s side f i g reads (carried ys) ys (recursion_from_All IsPlainNoted ys plain) in
+      let listed = ap (tally g) same ∙ listed_sum s side f i g reads (carried ys) ys (plain_items book i all) in
       let far = weights_so_far w n [] (clean book) i (scored_legal n book legal) in
       let last = ap (λ k. tally (delivery_weight w i) (deliveries k)) (history_after-clean book) in
       omega (arith, listed, in_innings w i (noted_items book), far, last)

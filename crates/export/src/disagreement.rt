@@ -1,8 +1,7 @@
-//! The line shown where the outcome in a sheet's table `[info]` has another winner than the Laws.
+//! The line shown where the outcome in a sheet's table `[info]` has another winner than the Laws, or another result where
+//! nobody won.
 
 ghost use Rattle.std.specs.Prelude.{◌≡◌, option_map, string_bytes, IfOk};
-ghost use Rattle.match_laws.specs.Result.{outcome};
-ghost use Rattle.match_laws.specs.Stands.{ForEachHistory};
 ghost use Rattle.cards.specs.Sheet.{name_of};
 ghost use Rattle.toml.specs.View.{table_view};
 ghost use Rattle.archive_deliveries.specs.Names.{told_apart};
@@ -13,7 +12,7 @@ use crate::info::outcome_at;
 use archive_deliveries::NamedSheet;
 use cards::MatchSheet;
 use corrections::BookOf;
-use match_laws::{Match, Outcome};
+use match_laws::Outcome;
 use notation::Side;
 use sheet_check::shown;
 use std::alloc::{AllocError, Global};
@@ -42,12 +41,34 @@ fn name_of<'a>(sheet: &'a NamedSheet<'_>, winner: Option<Side>) -> Option<&'a st
     }
 }
 
-/// Returns the name of the side that has won by the Laws, where one has.
-fn winner_in<'a>(sheet: &'a NamedSheet<'_>, score: &Match) -> Option<&'a str>
-    ensures { ForEachHistory score.now (λ n h. option_map (λ name. name.now) result
-        ≡ option_map (name_of sheet.now) (laws.winner_of (outcome n h))) }
+/// Returns the Laws' result of a match that is over without a winner.
+fn result_of(outcome: Outcome) -> Option<&'static str>
+    ensures { option_map (λ word. word.now) result ≡ laws.result_of outcome }
 {
-    name_of(sheet, winner_of(score.result()))
+    match outcome {
+        Outcome::Draw => Some("draw"),
+        Outcome::Tie => Some("tie"),
+        Outcome::Undecided
+        | Outcome::Runs(_, _)
+        | Outcome::Wickets(_, _)
+        | Outcome::InningsAnd(_, _)
+        | Outcome::PenaltyRuns(_) => None,
+    }
+}
+
+/// Whether a result without a winner can't be that of the Laws: "draw" or "no result" of a tied match, or "tie" of a drawn one.
+fn contradicts(word: &str, outcome: Outcome) -> bool
+    ensures { result ≡ laws.contradicts word.now outcome }
+{
+    match outcome {
+        Outcome::Tie => word == "draw" || word == "no result",
+        Outcome::Draw => word == "tie",
+        Outcome::Undecided
+        | Outcome::Runs(_, _)
+        | Outcome::Wickets(_, _)
+        | Outcome::InningsAnd(_, _)
+        | Outcome::PenaltyRuns(_) => false,
+    }
 }
 
 /// Whether the outcome says why it may differ from the Laws: it has a `method`, an `eliminator` or a `bowl_out`.
@@ -90,7 +111,7 @@ fn winner_words(alloc: Global, name: Option<&str>) -> Result<String, AllocError>
     }
 }
 
-/// Returns the line that names the sheet's winner and the Laws', or an empty text where they are the same.
+/// Returns the line that names the sheet's winner or result and the Laws', or an empty text where they are the same.
 fn difference(alloc: Global, told: Option<&str>, winner: Option<&str>) -> Result<String, AllocError>
     ensures { IfOk result (λ words. string_bytes words
         ≡ laws.difference (option_map (λ text. text.now) told.entry) (option_map (λ text. text.now) winner.entry)) }
@@ -108,24 +129,45 @@ fn difference(alloc: Global, told: Option<&str>, winner: Option<&str>) -> Result
     Ok(words)
 }
 
-/// Returns the line for a sheet's `[info]` and the name of the Laws' winner. It is empty where the outcome says why it
-/// may differ, or has neither a `winner` nor a `result`.
-fn disagreement(alloc: Global, info: &Table, winner: Option<&str>) -> Result<String, AllocError>
+/// Returns the line for a result without a winner, for the Laws' outcome and the name of its winner.
+fn result_difference(
+    alloc: Global,
+    word: &str,
+    outcome: Outcome,
+    winner: Option<&str>,
+) -> Result<String, AllocError>
     ensures { IfOk result (λ words. string_bytes words
-        ≡ laws.disagreement (table_view info.now) (option_map (λ text. text.now) winner.entry)) }
+        ≡ laws.result_difference word.now outcome (option_map (λ text. text.now) winner.entry)) }
+{
+    if contradicts(word, outcome) {
+        return difference(alloc, Some(word), result_of(outcome));
+    }
+    difference(alloc, None, winner)
+}
+
+/// Returns the line for a sheet's `[info]`, for the Laws' outcome and the name of its winner. It is empty where the sheet's
+/// outcome says why it may differ, or has neither a `winner` nor a `result`.
+fn disagreement(
+    alloc: Global,
+    info: &Table,
+    outcome: Outcome,
+    winner: Option<&str>,
+) -> Result<String, AllocError>
+    ensures { IfOk result (λ words. string_bytes words
+        ≡ laws.disagreement (table_view info.now) outcome (option_map (λ text. text.now) winner.entry)) }
 {
     if says_why(info) {
         return Ok(String::new(alloc));
     }
     match (outcome_text(info, "winner"), outcome_text(info, "result")) {
         (Some(told), _) => difference(alloc, Some(told), winner),
-        (None, Some(_)) => difference(alloc, None, winner),
+        (None, Some(word)) => result_difference(alloc, word, outcome, winner),
         (None, None) => Ok(String::new(alloc)),
     }
 }
 
-/// Returns the line for a sheet's document and a book where the document's outcome has another winner than the Laws and gives
-/// no `method`, `eliminator` or `bowl_out`. It is empty otherwise.
+/// Returns the line for a sheet's document and a book where the document's outcome has another winner than the Laws, or a
+/// result that can't be theirs where nobody won, and gives no `method`, `eliminator` or `bowl_out`. It is empty otherwise.
 pub fn disagreement_of<B: BookOf>(
     alloc: Global,
     sheet: &MatchSheet,
@@ -139,5 +181,6 @@ pub fn disagreement_of<B: BookOf>(
     let named = NamedSheet::new(alloc, sheet)?;
     let empty = Table::new(alloc);
     let info = info_or(document, &empty);
-    disagreement(alloc, info, winner_in(&named, book.score()))
+    let outcome = book.score().result();
+    disagreement(alloc, info, outcome, name_of(&named, winner_of(outcome)))
 }

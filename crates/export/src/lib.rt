@@ -24,5 +24,5 @@ pub use document::document_of;
 pub use given::info_or;
 pub use innings::{runs_after, runs_before};
 pub use laws::{escapes_read_back, exports_add_up, exports_hand_on, exports_name_two_sides};
-pub use readers::{batters_add_up, bowlers_add_up, names_tell_players};
+pub use readers::{batters_add_up, bowlers_add_up, extras_add_up, names_tell_players};
 pub use text::text_of;

@@ -30,6 +30,6 @@ pub record TellTheSame (s : Sheet) (book : List Entry) : Type 0 where
       (begun (history_of book))
   pub board : board.all_innings s (history_of book)
       ≡ up_to (λ i. innings_value s (history_of book) i (figures i) ∷ []) (begun (history_of book))
-  pub export : (i : ℕ) → TellsFigures (told_apart s) (figures i) (innings_at (told_apart s) book i)
+  pub export : (i : ℕ) → TellsFigures (told_apart s) (history_of book) i (figures i) (innings_at (told_apart s) book i)
   pub falls : falls_field (told_apart s) (history_of book)
       ≡ (codes "falls", array_of (up_to (λ i. falls_of (told_apart s) i (figures i)) (begun (history_of book))))

@@ -96,6 +96,14 @@ numbered_line what None called = codes "no memory\n"
 abbrev pub sheet_line : SheetFault → List ℕ
 sheet_line why = numbered_line (codes "sheet") (sheet.number_of why) (sheet.name_of why)
 
+-- the line of a sheet that is refused, with what is wrong in words
+abbrev pub worded : Option ℕ → List ℕ → List ℕ → List ℕ
+worded (Some n) called words = codes "sheet: " ++ decimal n ++ codes " " ++ called ++ codes ": " ++ words ++ codes "\n"
+worded None called words = codes "no memory\n"
+
+abbrev pub worded_line : SheetFault → List ℕ → List ℕ
+worded_line why words = worded (sheet.number_of why) (sheet.name_of why) words
+
 abbrev pub schedule_line : ScheduleFault → List ℕ
 schedule_line why = numbered_line (codes "schedule") (schedule.number_of why) (schedule.name_of why)
 

@@ -230,6 +230,21 @@ fn print_sheet_fault<W: Sink>(out: &mut Watched<W>, why: SheetFault) -> Result<(
     }
 }
 
+/// Prints why a sheet is refused, in words.
+pub fn print_in_words<W: Sink>(
+    out: &mut Watched<W>,
+    why: SheetFault,
+    words: &str,
+) -> Result<(), WriteFailed>
+    ensures text { OnOk result (Prints W.contents out.old out.new (texts.worded_line why words.now)) }
+    ensures failed { TellsFailure result out.old out.new }
+{
+    match why.number() {
+        Some(number) => writeln!(out, "sheet: {number} {why}: {words}"),
+        None => writeln!(out, "no memory"),
+    }
+}
+
 fn print_schedule_fault<W: Sink>(
     out: &mut Watched<W>,
     why: ScheduleFault,

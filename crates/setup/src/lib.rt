@@ -19,7 +19,7 @@ mod votes_file;
 
 pub use crate::copies::{CopiedDisk, Kept, paired_disk, tell_copies};
 pub use crate::counting::{Counting, compared};
-pub use crate::fault::{StopFault, Stopped, TURNS, print_fault, printable};
+pub use crate::fault::{StopFault, Stopped, TURNS, print_fault, print_in_words, printable};
 pub use crate::gaps::{Gaps, fill_gaps};
 pub use crate::key_fault::KeyFault;
 pub use crate::key_owner::{KEY_OWNERS, KeyOwner};

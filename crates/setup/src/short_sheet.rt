@@ -4,13 +4,14 @@
 ghost use Rattle.std.specs.Prelude.{◌≡◌, ◌≤◌, ◌<◌, IfOk, IfErr, Ok, vec_len};
 ghost use Rattle.setup.specs.SheetText.{IsSheetOf};
 
-use crate::fault::{StopFault, Stopped};
+use crate::fault::{StopFault, Stopped, print_in_words};
 use crate::opening::bytes_at;
 use crate::twins::told_sheet_of;
 use cards::{MatchSheet, SheetFault};
 use sheet_check::{faults_of, first_line, handed_report_of, report_of};
 use std::io::Write;
 use std::snapshot::Snapshot;
+use streams::Watched;
 use toml::Table;
 
 /// How many bytes the sheet of such a word has at most.
@@ -40,10 +41,10 @@ pub fn short_sheet_bytes<'a>(rt: &HostRuntime, path: &'a str) -> Result<Vec<u8>,
 
 /// Tells standard error by which number a sheet is refused, and why in words. That it can't be told is no fault.
 fn tell_fault(rt: &HostRuntime, why: SheetFault, words: &str) -> StopFault {
-    let Some(number) = why.number() else {
+    if why.number().is_none() {
         return StopFault::NoMemory;
-    };
-    let _ = writeln!(rt.stderr(), "sheet: {number} {why}: {words}");
+    }
+    let _ = print_in_words(&mut Watched::new(rt.stderr()), why, words);
     StopFault::SheetTold
 }
 
@@ -83,7 +84,7 @@ pub fn short_sheet_of<'a>(
     }
 }
 
-/// The same of a file.
+/// The match sheet in a file. One that is refused is told in words too.
 pub fn short_sheet_at<'a>(rt: &HostRuntime, path: &'a str) -> Result<MatchSheet, Stopped<'a>> {
     let text = short_sheet_bytes(rt, path)?;
     short_sheet_of(rt, path, text.as_slice())
