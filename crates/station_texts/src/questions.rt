@@ -143,7 +143,10 @@ pub(crate) fn print_unclear<W: Sink>(
     match unclear {
         Unclear::Fault(fault) => print_fault(out, *fault),
         Unclear::WhoBowls => writeln!(out, "who bowls? begin with the bowler, as 10: ."),
-        Unclear::WhoIsOut => writeln!(out, "who is out? striker or other comes first, as ro striker 8"),
+        Unclear::WhoIsOut => writeln!(
+            out,
+            "who is out? striker or other comes first, as ro striker 8"
+        ),
         Unclear::NoSuchPlayer(name) => print_no_such(out, name.as_str()),
         Unclear::TwoMeanings(letter) => print_meanings(out, *letter),
         Unclear::NoFielder(how, name) => print_no_fielder(out, *how, name.as_str()),
