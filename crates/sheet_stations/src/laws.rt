@@ -9,8 +9,8 @@ use desk_command::DeskDisk;
 use processes::{kept_desks_are_lives, woven_lives_are_a_flow};
 
 /// For all lives that `start_desk` and `start_board` answered: if they were woven into one order, each desk began on what its
-/// disk had then, and no vote opened that none of them had sealed, then the headline holds of all that happened, no board
-/// dropped a vote as one by which a file lacks lines, and while all is calm all goes on (`answered`).
+/// disk had then, and no vote opened at one of their sockets that none of them had sealed, then the headline holds of all that
+/// happened, no board dropped a vote as one by which a file lacks lines, and while all is calm all goes on (`answered`).
 ///
 /// The same holds of any lives on the disks of the program's desks, of a file alone or with a copy, from one process to the
 /// next as a scorer begins it: what a desk was kept for is a process of its life, and woven lives are a flow.
