@@ -1,8 +1,9 @@
-//! Laws on the stations that the program keeps. This function does nothing: it stands for the laws that it ensures.
+//! Laws on the stations that the program keeps. These functions do nothing: they stand for the laws that they ensure.
 
 ghost use Rattle.desk_command.specs.Disks.{faults_of, file_of, images_of};
 ghost use Rattle.processes.specs.Stations.{DeskLifeIsLife};
 ghost use Rattle.processes.specs.Weaving.{WovenLivesFlow, WovenLivesHaveHeadline, WovenLivesPartNone, WovenLivesTellNone};
+ghost use Rattle.sheet_stations.specs.InTurn.{LivesInTurnAreWoven};
 ghost use Rattle.sheet_stations.specs.Matches.{LivesHaveHeadline};
 
 use desk_command::DeskDisk;
@@ -25,3 +26,9 @@ pub fn kept_stations_agree()
     kept_desks_are_lives::<DeskDisk<'static>>();
     woven_lives_are_a_flow::<DeskDisk<'static>>();
 }
+
+/// The premise of `answered` can be met by lives of which one hears the other: one of desk A that hears no vote, and then one of
+/// desk B that hears only votes that desk A's sent, each on a file without votes.
+pub fn lives_in_turn_are_woven()
+    ensures { LivesInTurnAreWoven }
+{}
