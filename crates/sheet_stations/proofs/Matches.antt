@@ -21,7 +21,9 @@ use Rattle.processes.proofs.WeavingLaws.{woven_lives_flow, woven_lives_have_head
 use Rattle.processes.proofs.WholeLives.{woven_lives_part_none}
 use Rattle.sheet_stations.specs.Lives.{LifeOfBoard, all_stages, board_process}
 use Rattle.sheet_stations.specs.Matches.{AreDesks, IsWoven, LivesHaveHeadline, Match, file_contents, start_of}
+use Rattle.sheet_stations.proofs.Authentic.{lives_took}
 use Rattle.sheet_stations.proofs.Lives.{followed, lived_boards, lived_first, views}
+use Rattle.sheet_stations.proofs.Network.{no_seals}
 
 abbrev first_node : DeskState DeskDisk → Node DeskDisk
 first_node k = record { version = New; process = Running k; due = None }
@@ -45,9 +47,9 @@ module _ (m : Match) where
     board_none : (n : ℕ) → board_at (start_of m).boards n ≡ None → filter (is_at_board n) hs ≡ []
     board_none n none = w.boards n ∙ ap (λ (bs : List LifeOfBoard). board_happens {Disk = DeskDisk} m.innings n (map board_process bs)) (w.no_others n none)
 
-    woven : weaving.IsWoven file_of images_of faults_of m.seals file_contents m.game m.innings (start_of m) hs
+    woven : weaving.IsWoven file_of images_of faults_of no_seals file_contents m.game m.innings (start_of m) hs
     woven = record {
-      order = w.network;
+      order = lives_took m hs w;
       desks = λ desk. (all_stages (m.desks desk), (desk_lives desk (w.disks desk)).0, w.desks desk);
       boards = λ n. (map board_process (m.boards n), lived_boards m.game m.innings (m.boards n) (w.sheets n), w.boards n);
       no_others = board_none;
@@ -61,12 +63,12 @@ lives_have_headline m hs w =
     let is = woven m hs w in
     let a = (m.desks A).begun in
     let b = (m.desks B).begun in
-    let flow = woven_lives_flow file_of images_of faults_of m.seals file_contents m.game m.innings New m.count a b hs none begin is in
+    let flow = woven_lives_flow file_of images_of faults_of no_seals file_contents m.game m.innings New m.count a b hs none begin is in
     record {
       flow = flow;
-      headline = woven_lives_have_headline file_of images_of faults_of m.seals file_contents m.game m.innings New m.count a b hs none begin is;
-      whole = woven_lives_part_none file_of images_of faults_of m.seals file_contents m.game m.innings New m.count a b hs none begin is;
-      tells = woven_lives_tell_none file_of images_of faults_of m.seals file_contents m.game m.innings New m.count a b hs none begin is;
+      headline = woven_lives_have_headline file_of images_of faults_of no_seals file_contents m.game m.innings New m.count a b hs none begin is;
+      whole = woven_lives_part_none file_of images_of faults_of no_seals file_contents m.game m.innings New m.count a b hs none begin is;
+      tells = woven_lives_tell_none file_of images_of faults_of no_seals file_contents m.game m.innings New m.count a b hs none begin is;
       goes_on = λ earlier later whole quiet.
           processes_go_on file_of images_of file_contents m.game m.innings New m.count (start_of m) earlier later
           (subst (λ (gs : List (Happening DeskDisk)). IsFlow file_of images_of file_contents m.game m.innings New m.count (start_of m) gs) whole flow) quiet;

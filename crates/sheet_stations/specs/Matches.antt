@@ -7,7 +7,6 @@ use Rattle.agree_core.specs.FileView.{FileView}
 use Rattle.entry_log.specs.Format.{contents}
 use Rattle.entry_log.specs.Slots.{FileContents}
 use Rattle.vote_store.specs.View.{file_view}
-use Rattle.seal.specs.Rings.{Seals}
 use Rattle.headline.specs.declared.version.FileVersion.{FileVersion}
 use Rattle.headline.specs.declared.version.FileVersion.TheVariants.{New}
 use Rattle.headline.specs.Configurations.{Configuration, board_at, node}
@@ -20,15 +19,15 @@ use Rattle.processes.specs.Laws.{IsFlow}
 use Rattle.processes.specs.Lives.{CallsMade, board_happens, life_happens}
 use Rattle.processes.specs.Parting.{NoneIsParted, NoneTells}
 use Rattle.processes.specs.Progress.{AllQuiet, GoOn}
-use Rattle.processes.specs.Weaving.{NothingIsForged, is_at_board, is_at_desk, start}
+use Rattle.processes.specs.Weaving.{is_at_board, is_at_desk, start}
 use Rattle.sheet_stations.specs.Lives.{AllFollow, LifeOfBoard, LivesOfDesk, IsOfMatch, OpensFirst, all_stages, board_process, board_sheet, calls_of, opening_of, sheet_of}
+use Rattle.sheet_stations.specs.Network.{NothingIsForged}
 
--- a match with this number and innings a side: the seals of each pair of its stations, how many boards it has, and the lives of
--- each desk and each board, those of a board the newest first
+-- a match with this number and innings a side: how many boards it has, and the lives of each desk and each board, those of a
+-- board the newest first
 pub record Match : Type 0 where
   pub game : ℕ
   pub innings : ℕ
-  pub seals : Seals
   pub count : ℕ
   pub desks : (desk : DeskId) → LivesOfDesk desk
   pub boards : ℕ → List LifeOfBoard
@@ -54,11 +53,11 @@ module _ (m : Match) where
         (CallsMade (sheet_of (m.desks desk).first) (m.desks desk).begun (calls_of (m.desks desk).first) ∷ []) (m.desks desk).later
 
   -- All that happened, the newest first. Of the disks: each desk's lives follow one another by what its disk had. Of the
-  -- network: each vote that opened at a station had been sealed before by one of these stations, with that pair's seal. All
-  -- lives are of the match, what happened at a station is what its lives made happen, and there are no other stations.
+  -- network: what came to a life's socket and opened there as a vote had been sealed before by one of these stations, with that
+  -- seal. All lives are of the match, what happened at a station is what its lives made happen, and there are no other stations.
   pub record IsWoven (hs : List (Happening DeskDisk)) : Type 0 where
     pub disks : (desk : DeskId) → AreDesks desk
-    pub network : NothingIsForged m.seals m.game (start_of m) hs
+    pub network : NothingIsForged m.game m.desks m.boards (start_of m) hs
     pub sheets : (n : ℕ) → All (λ (b : LifeOfBoard). IsOfMatch m.game m.innings (board_sheet b)) (m.boards n)
     pub desks : (desk : DeskId) → filter (is_at_desk desk) hs ≡ life_happens m.innings desk (all_stages (m.desks desk))
     pub boards : (n : ℕ) → filter (is_at_board n) hs ≡ board_happens m.innings n (map board_process (m.boards n))

@@ -5,4 +5,4 @@ mod begin;
 mod laws;
 
 pub use crate::begin::{start_board_of, start_desk_of};
-pub use crate::laws::kept_stations_agree;
+pub use crate::laws::{kept_stations_agree, lives_in_turn_are_woven};
