@@ -1,7 +1,7 @@
 -- When a board heard its desks, and what it tells of their silence.
-use Rattle.std.specs.Prelude.{ℕ, ◌-◌, ◌/◌, ◌&&◌, ◌||◌, Bool, true, false, nat_le, is_some, Option, Some, None, Ok}
+use Rattle.std.specs.Prelude.{ℕ, ◌-◌, ◌/◌, ◌&&◌, ◌||◌, Bool, true, false, nat_le, is_some, List, [], ◌∷◌, Option, Some, None}
 use Rattle.agree_core.specs.declared.messages.{Asker.Asker, DeskId.DeskId, Message.Message}
-use Rattle.links.specs.declared.link.Arrival.{Arrival}
+use Rattle.live.specs.Hearings.{Hearing}
 use Rattle.scoreboard.specs.declared.value.LastHeard.{LastHeard}
 use Rattle.board_command.specs.declared.hearing.{HeardAt.HeardAt, News.News}
 use Rattle.board_command.specs.declared.hearing.TheConstants.{LONGEST_SILENCE}
@@ -22,10 +22,14 @@ heard_from None old now = old
 heard_from (Some DeskId.A) old now = record old { a = Some now }
 heard_from (Some DeskId.B) old now = record old { b = Some now }
 
--- the desk that sent a datagram is heard if that opens and is a message of the match; nothing else is heard
-abbrev pub heard_by : Arrival → HeardAt → ℕ → HeardAt
-heard_by (Arrival.Datagram count (Ok message)) old now = heard_from (desk_of message) old now
-heard_by arrival old now = old
+-- a board begins, and has heard no desk
+abbrev pub board_begun : ℕ → HeardAt
+board_begun now = record { begun = now; a = None; b = None }
+
+-- then these messages are heard, the oldest first, and nothing else
+abbrev pub heard_in : HeardAt → List Hearing → HeardAt
+heard_in old [] = old
+heard_in old (h ∷ later) = heard_in (heard_from (desk_of h.message) old h.at) later
 
 -- a desk was heard since the board began
 abbrev pub is_heard : HeardAt → Bool

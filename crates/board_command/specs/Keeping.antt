@@ -12,10 +12,12 @@ use Rattle.links.specs.declared.log.Log.{Log}
 use Rattle.links.specs.Logs.{passed_of}
 use Rattle.links.specs.Passed.{Passed}
 use Rattle.live.specs.Boards.{BoardLives}
+use Rattle.live.specs.HearingLogs.{hearings_of}
+use Rattle.live.specs.Hearings.{Hearing, Hears}
 use Rattle.live.specs.Runs.{untyped}
 use Rattle.live.specs.Sights.{Sight}
 use Rattle.live.specs.SightLogs.{sights_of}
-use Rattle.live.specs.declared.sight_log.SightLog.{SightLog}
+use Rattle.live.specs.declared.{hearing_log.HearingLog.HearingLog, sight_log.SightLog.SightLog}
 use Rattle.machine.specs.declared.row_log.Written.{Written}
 use Rattle.machine.specs.Screens.{text_of}
 use Rattle.seal.specs.declared.carrier.CarriedLog.{CarriedLog}
@@ -26,7 +28,7 @@ use Rattle.station_texts.specs.NoticeLogs.{notices_of}
 use Rattle.streams.specs.declared.watched.WriteFailed.{WriteFailed}
 
 -- the sheet of its match, what its link said and heard, what its socket carried for that, what was written to its screen, the
--- notices that it told, the books that it handed to its displays, and how it ended
+-- notices that it told, the books that it handed to its displays, what it told them that it heard, and how it ended
 pub record Traces : Type 0 where
   pub sheet : Sheet
   pub passed : List Passed
@@ -34,6 +36,7 @@ pub record Traces : Type 0 where
   pub told : List ℕ
   pub notices : List Notice
   pub shown : List Sight
+  pub heard : List Hearing
   pub ended : Result (Unit {0}) WriteFailed
 
 -- the entries and innings a side of a checked book
@@ -45,14 +48,15 @@ innings_in book = book.innings_a_side
 
 -- the traces that these logs hold
 abbrev pub traces_of :
-    Sheet → Log → CarriedLog → Written → NoticeLog → SightLog CheckedBook → Result (Unit {0}) WriteFailed → Traces
-traces_of sheet passed carried told notices shown ended = record {
+    Sheet → Log → CarriedLog → Written → NoticeLog → SightLog CheckedBook → HearingLog → Result (Unit {0}) WriteFailed → Traces
+traces_of sheet passed carried told notices shown heard ended = record {
   sheet = sheet;
   passed = passed_of passed;
   carried = carried_of carried;
   told = text_of told;
   notices = notices_of notices;
   shown = sights_of entries_in innings_in shown;
+  heard = hearings_of heard;
   ended = ended;
 }
 
@@ -67,7 +71,7 @@ pub record IsFresh (sheet : Sheet) (board : MatchBoard) : Type 0 where
   pub innings : innings_in (book_of board) ≡ sheet.innings
 
 -- A board was kept, from before anything had passed or was told, until exactly this had passed at its socket, been written to
--- its screen, been told and been shown, and it ended so.
+-- its screen, been told and been shown, and it ended so. Its displays were told exactly what it heard of what passed.
 pub record WasKept (traces : Traces) : Type 0 where
   pub begun : MatchBoard
   pub last : MatchBoard
@@ -78,3 +82,4 @@ pub record WasKept (traces : Traces) : Type 0 where
   pub carried : WasCarried traces.passed traces.carried
   pub lives : BoardLives entries_in innings_in traces.sheet begun last (untyped [] before (Some []))
       (untyped traces.passed after (Some traces.told)) turns [] traces.notices [] traces.shown traces.ended
+  pub hears : Hears traces.sheet.game [] traces.passed before after [] traces.heard

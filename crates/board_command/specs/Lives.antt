@@ -9,4 +9,4 @@ sheet_path_of life = life.sheet_path.now
 
 -- what the board's process left to be seen
 abbrev pub traces_in : BoardLife → Traces
-traces_in life = traces_of (life.sheet).value (life.passed).value (life.carried).value life.told (life.notices).value (life.shown).value life.ended
+traces_in life = traces_of (life.sheet).value (life.passed).value (life.carried).value life.told (life.notices).value (life.shown).value (life.heard).value life.ended

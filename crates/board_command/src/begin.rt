@@ -5,13 +5,14 @@ ghost use Rattle.board_command.specs.Keeping.{IsFresh};
 ghost use Rattle.board_command.specs.Lives.{sheet_path_of, traces_in};
 
 use crate::files::{Displays, Files, Kept};
-use crate::hearing::{Listening, Silence};
+use crate::hearing::{Hearings, Silence};
 use crate::life::{BoardLife, keep_on};
 use crate::page::Page;
 use agree_core::Asker;
 use board::{Board, Witness};
 use cards::MatchSheet;
 use corrections::CheckedBook;
+use links::Clock;
 use live::Scoreboard;
 use machine::{MonotonicClock, Pieces, StandardStream};
 use machine_files::{Cause, Name, TextFile, WholeText, WriteFault};
@@ -183,21 +184,20 @@ pub fn start_board<'a>(
         Shared::of(&errors),
     )?;
     let link = sealing.link_over(rt.alloc(), MonotonicClock::new(rt), sealed);
-    let link = Listening::over(link, MonotonicClock::new(rt), page.hearing());
     let _ = sealing.tell_fingerprints(&mut Shared::of(&errors));
     page.tell(rt, &mut Shared::of(&errors));
+    let mut clock = MonotonicClock::new(rt);
     let state = Displays {
         files,
         page: page.panes(rt.alloc(), &errors),
         errors: &errors,
         audience: page.audience(),
-        heard: page.hearing().get(),
+        heard: Hearings::begun(clock.millis()),
         silence: Silence::NOTHING,
     };
     let lines = Watched::new(output);
     let scoreboard = Scoreboard { lines, state };
     let told = Shared::of(&errors);
-    let mut clock = MonotonicClock::new(rt);
     let life = keep_on(source, board, witness, link, &mut clock, scoreboard, told);
     let answer = answer_of(life.ended());
     Ok(Ended { life, answer })

@@ -14,9 +14,10 @@ ghost use Rattle.board_command.specs.inner.Due.{AreMade, IsMadeWhere, IsText};
 ghost use Rattle.board_command.specs.declared.files.TheConstants.{FOREVER};
 ghost use Rattle.board_command.specs.declared.times.TheConstants.{LONGEST_STATE_AGE};
 
-use crate::hearing::{HeardAt, Silence};
+use crate::hearing::{HeardAt, Hearings, Silence};
 use crate::page::Audience;
 use crate::times::{FILE_RETRY_WAIT, LONGEST_STATE_AGE, SHORTEST_FILE_AGE};
+use agree_core::Message;
 use board::{Trouble, Why};
 use cards::{MatchSheet, board_lines};
 use corrections::BookOf;
@@ -433,34 +434,40 @@ pub struct Displays<'e, 'v, 'a, F, P> {
     pub page: P,
     pub errors: &'e RefCell<Errors<'a>>,
     pub audience: Audience<'v>,
-    /// When the desks were heard, as last read, and what was told of their silence.
-    pub heard: HeardAt,
+    /// When the desks were heard, and what was told of their silence.
+    pub heard: Hearings,
     pub silence: Silence,
-}
-
-/// Serves a page's viewers, if there is a page, and sends them what it shows now.
-fn attend(audience: Audience<'_>, now: u64) {
-    if let Some(page) = audience.page
-        && let Ok(mut page) = page.try_borrow_mut()
-    {
-        page.attend(audience.called.get(), now);
-        audience.called.set(false);
-    }
 }
 
 impl<'a, T: Replaces, P: Replaces, E: Sink, B: BookOf + Drop> Shows<B>
     for Displays<'_, '_, 'a, Files<'a, T, E, B>, Files<'a, P, E, B>> {
+    ghost use Rattle.std.specs.Prelude.{◌∷◌, ◌++◌, []};
+    ghost use Rattle.live.specs.HearingLogs.{hearings_of};
+    ghost use Rattle.live.specs.Hearings.{hearing_of};
     ghost use Rattle.live.specs.SightLogs.{sights_of};
     ghost use Rattle.board_command.specs.Files.{FilesGoOn};
+    ghost use Rattle.board_command.specs.Hearing.{desk_of, heard_from};
+    ghost use Rattle.board_command.specs.Hearings.{times_of};
 
     ghost seen = { λ displays. sights_of B.content B.innings_a_side displays.files.log };
 
+    ghost heard = { λ displays. hearings_of displays.heard.log };
+
     ghost goes_on = { λ old sight now new.
-        FilesGoOn T.given new.heard old.files sight now new.files
-        × FilesGoOn P.given new.heard old.page sight now new.page };
+        FilesGoOn T.given (times_of new.heard) old.files sight now new.files
+        × FilesGoOn P.given (times_of new.heard) old.page sight now new.page };
 
     /// A file that can't be written ends no board.
     ghost failed = { λ _. false };
+
+    fn hear(&mut self, message: &Message, now: u64)
+        ensures told { hearings_of self.new.heard.log ≡ hearings_of self.old.heard.log ++ hearing_of message.now now ∷ [] }
+        ensures times { times_of self.new.heard ≡ heard_from (desk_of message.now) (times_of self.old.heard) now }
+        ensures files { self.new.files ≡ self.old.files }
+        ensures page { self.new.page ≡ self.old.page }
+    {
+        self.heard.hear(message, now);
+    }
 
     fn show(
         &mut self,
@@ -470,8 +477,7 @@ impl<'a, T: Replaces, P: Replaces, E: Sink, B: BookOf + Drop> Shows<B>
         now: u64,
     ) -> Result<(), WriteFailed> {
         retry(self.errors);
-        let heard = self.audience.hearing.get();
-        self.heard = heard;
+        let heard = self.heard.at();
         self.silence.tell(heard, now, &mut Shared::of(self.errors));
         let moment = Moment {
             entries: book.len(),
@@ -483,17 +489,11 @@ impl<'a, T: Replaces, P: Replaces, E: Sink, B: BookOf + Drop> Shows<B>
         let made = texts_due(self.files.alloc, sheet, book, moment, wanted);
         self.page.show(sheet, book, moment, &made);
         self.files.show(sheet, book, moment, &made);
-        attend(self.audience, now);
+        self.audience.attend(now);
         Ok(())
     }
 
     fn longest_wait(&self) -> u64 {
-        match self.audience.page {
-            Some(page) => match page.try_borrow() {
-                Ok(page) => page.longest_wait(),
-                Err(_) => u64::MAX,
-            },
-            None => u64::MAX,
-        }
+        self.audience.longest_wait()
     }
 }

@@ -1,15 +1,15 @@
-//! When a board heard its desks: a link that notes the times, and what is told of silence.
+//! When a board heard its desks, and what is told of silence.
 
 ghost use Rattle.std.specs.Prelude.{◌≡◌, ◌-◌, nat_le};
 ghost use Rattle.board_command.specs.Hearing as laws;
+ghost use Rattle.board_command.specs.Hearing.{board_begun, heard_in};
 ghost use Rattle.board_command.specs.declared.hearing.TheConstants as constants;
+ghost use Rattle.live.specs.HearingLogs.{hearings_of};
 
 use agree_core::{Asker, DeskId, Message};
-use links::{Arrival, Clock, DatagramBuffer, Link, Taken};
+use live::HearingLog;
 use scoreboard::LastHeard;
-use std::cell::Cell;
 use std::io::Write;
-use wire::MessageBytes;
 
 /// The time in milliseconds without word from either desk after which a board says so. A desk says something at least every two
 /// seconds, so many datagrams were lost, or nobody is there.
@@ -73,7 +73,9 @@ fn seconds_since(at: Option<u64>, now: u64) -> Option<u64>
 
 impl HeardAt {
     /// A board that begins at this time, and has heard no desk yet.
-    pub fn begun(now: u64) -> HeardAt {
+    pub fn begun(now: u64) -> HeardAt
+        ensures { result ≡ laws.board_begun now }
+    {
         HeardAt {
             begun: now,
             a: None,
@@ -95,16 +97,6 @@ impl HeardAt {
                 ..self
             },
             None => self,
-        }
-    }
-
-    /// Notes the desk that is heard by this arrival, if it is a message of one.
-    fn heard_by(self, arrival: &Arrival, now: u64) -> HeardAt
-        ensures { result ≡ laws.heard_by arrival.now self now }
-    {
-        match arrival {
-            Arrival::Datagram(_, Ok(message)) => self.heard_from(desk_of(message), now),
-            _ => self,
         }
     }
 
@@ -133,72 +125,44 @@ impl HeardAt {
     }
 }
 
-/// A link that works as another does, and notes and shows when its messages let a desk be heard.
+/// When a board heard its desks, by what it was told that it heard: a log of that, which only contracts read.
 #[derive(Drop)]
-pub struct Listening<'h, L, C> {
-    link: L,
-    clock: C,
+pub struct Hearings {
     at: HeardAt,
-    shown: &'h Cell<HeardAt>,
+    log: HearingLog,
+    ghost follows: { at ≡ heard_in (board_begun at.begun) (hearings_of log) },
 }
 
-impl<'h, L: Link, C: Clock> Listening<'h, L, C> {
-    /// Makes a link over this one, with this clock, that shows the times in `shown`. The board begins now.
-    pub fn over(link: L, clock: C, shown: &'h Cell<HeardAt>) -> Listening<'h, L, C>
-        ensures { result.link ≡ link }
+impl Hearings {
+    ghost use Rattle.std.specs.Prelude.{◌∷◌, ◌++◌, []};
+    ghost use Rattle.board_command.specs.Hearings.{times_of};
+    ghost use Rattle.live.specs.Hearings.{hearing_of};
+
+    /// A board that begins at this time, and has heard nothing yet.
+    pub fn begun(now: u64) -> Hearings
+        ensures told { hearings_of result.log ≡ [] }
+        ensures times { times_of result ≡ laws.board_begun now }
     {
-        let mut clock = clock;
-        let at = HeardAt::begun(clock.millis());
-        shown.set(at);
-        Listening {
-            link,
-            clock,
-            at,
-            shown,
+        Hearings {
+            at: HeardAt::begun(now),
+            log: HearingLog::Empty,
         }
     }
 
-    /// Returns the link itself.
-    pub fn link(&self) -> &L
-        ensures { result.now ≡ self.now.link }
+    /// Notes that this message is heard now.
+    pub fn hear(&mut self, message: &Message, now: u64)
+        ensures told { hearings_of self.new.log ≡ hearings_of self.old.log ++ hearing_of message.now now ∷ [] }
+        ensures times { times_of self.new ≡ laws.heard_from (laws.desk_of message.now) (times_of self.old) now }
     {
-        &self.link
-    }
-}
-
-impl<L: Link, C: Clock> Link for Listening<'_, L, C> {
-    ghost use Rattle.std.specs.Prelude.{◌≡◌, ℕ};
-    ghost use Rattle.board_command.specs.Hearing.{heard_by};
-    ghost use Rattle.links.specs.Passed.{IsRead};
-
-    ghost log = { λ listening. L.log listening.link };
-
-    fn send(&mut self, bytes: &MessageBytes) {
-        self.link.send(bytes);
+        self.at = self.at.heard_from(desk_of(message), now);
+        self.log = self.log.heard(message, now);
     }
 
-    fn send_message(&mut self, game: u64, message: &Message, bytes: &MessageBytes) {
-        self.link.send_message(game, message, bytes);
-    }
-
-    fn reply(&mut self, bytes: &MessageBytes) {
-        self.link.reply(bytes);
-    }
-
-    // no message is read here, and so no desk is heard
-    fn take(&mut self, buffer: &mut DatagramBuffer, wait: u64) -> Taken {
-        self.link.take(buffer, wait)
-    }
-
-    fn take_message(&mut self, game: u64, buffer: &mut DatagramBuffer, wait: u64) -> Arrival
-        ensures log { IsRead game result buffer.new (L.log self.old.link) (L.log self.new.link) }
-        ensures heard { (now : ℕ) × (self.new.at ≡ heard_by result self.old.at now) }
+    /// Returns when each desk was last heard.
+    pub fn at(&self) -> HeardAt
+        ensures { result ≡ times_of self.now }
     {
-        let arrival = self.link.take_message(game, buffer, wait);
-        let now = self.clock.millis();
-        self.at = self.at.heard_by(&arrival, now);
-        self.shown.set(self.at);
-        arrival
+        self.at
     }
 }
 

@@ -5,15 +5,16 @@ ghost use Rattle.setup.specs.SheetText.{IsSheetOf};
 ghost use Rattle.machine.specs.Screens.{written_of};
 ghost use Rattle.streams.specs.Watched.{stream_of};
 ghost use Rattle.board_command.specs.Keeping.{IsFresh, WasKept, entries_in, innings_in, traces_of};
+ghost use Rattle.live.specs.HearingLogs.{hearings_of};
 ghost use Rattle.live.specs.SightLogs.{sights_of};
 
-use crate::hearing::Listening;
 use crate::notes::Notes;
+use agree_core::Message;
 use board::{Board, Trouble, Witness};
 use cards::MatchSheet;
 use corrections::CheckedBook;
 use links::{Clock, Log};
-use live::{Scoreboard, Shows, SightLog, keep_board};
+use live::{HearingLog, Scoreboard, Shows, SightLog, keep_board};
 use machine::{Outlet, Screen, Written};
 use seal::CarriedLog;
 use setup::{SheetFile, StationLink};
@@ -24,7 +25,7 @@ use streams::{Sink, WriteFailed};
 
 /// The life of a board: the path of its sheet, and how it ended. Only clauses read the rest: the bytes of its sheet and the
 /// sheet read from them, what its link said and heard, what its socket carried for that, what was written to its screen, the
-/// notices that it told, and the books that it handed to its displays.
+/// notices that it told, the books that it handed to its displays, and what it told them that it heard.
 #[derive(Drop)]
 pub struct BoardLife<'a> {
     sheet_path: &'a str,
@@ -36,8 +37,9 @@ pub struct BoardLife<'a> {
     told: Written,
     notices: Snapshot<NoticeLog>,
     shown: Snapshot<SightLog<CheckedBook>>,
+    heard: Snapshot<HearingLog>,
     pub ghost read: { ∥ IsSheetOf text.value.items sheet.value ∥₁ },
-    pub ghost kept: { ∥ WasKept (traces_of sheet.value passed.value carried.value told notices.value shown.value ended) ∥₁ },
+    pub ghost kept: { ∥ WasKept (traces_of sheet.value passed.value carried.value told notices.value shown.value heard.value ended) ∥₁ },
 }
 
 impl BoardLife<'_> {
@@ -49,19 +51,28 @@ impl BoardLife<'_> {
     }
 }
 
-/// The displays of a board's book, with a log of the books that were handed to them.
+/// The displays of a board's book, with a log of the books that were handed to them, and one of what they were told was heard.
 #[derive(Drop)]
-struct Noted<S> {
+struct Noted<S: Shows<CheckedBook>> {
     shows: S,
     log: SightLog<CheckedBook>,
+    heard: HearingLog,
+    ghost told: { S.heard shows ≡ hearings_of heard },
 }
 
 impl<S: Shows<CheckedBook>> Shows<CheckedBook> for Noted<S> {
     ghost seen = { λ noted. sights_of entries_in innings_in noted.log };
 
+    ghost heard = { λ noted. S.heard noted.shows };
+
     ghost goes_on = { λ old sight now new. S.goes_on old.shows sight now new.shows };
 
     ghost failed = { λ noted. S.failed noted.shows };
+
+    fn hear(&mut self, message: &Message, now: u64) {
+        self.shows.hear(message, now);
+        self.heard = self.heard.heard(message, now);
+    }
 
     fn show(
         &mut self,
@@ -87,7 +98,6 @@ pub fn keep_on<
     'a,
     E: Sink + Drop,
     M: Write + Drop,
-    N: Clock + Drop,
     C: Clock,
     O: Outlet + Drop,
     S: Shows<CheckedBook> + Drop,
@@ -95,7 +105,7 @@ pub fn keep_on<
     source: SheetFile<'a>,
     board: Board<CheckedBook>,
     witness: Witness,
-    link: Listening<'_, StationLink<'_, '_, M>, N>,
+    link: StationLink<'_, '_, M>,
     clock: &mut C,
     scoreboard: Scoreboard<Screen<O>, S>,
     errors: E,
@@ -103,7 +113,8 @@ pub fn keep_on<
     requires fresh { IsFresh source.sheet board }
     requires read { IsSheetOf (source.text).value.items source.sheet }
     requires witness { witness ≡ [] }
-    requires unsaid { (link.link).above ≡ [] }
+    requires unsaid { link.above ≡ [] }
+    requires unheard { S.heard scoreboard.state ≡ [] }
     requires untold { written_of (stream_of scoreboard.lines) ≡ [] }
     ensures sheet { result.sheet_path.now ≡ source.entry.path.now }
 {
@@ -123,6 +134,7 @@ pub fn keep_on<
         state: Noted {
             shows,
             log: SightLog::Empty,
+            heard: HearingLog::Empty,
         },
     };
     let mut watch = Notes::watching(witness, errors);
@@ -141,10 +153,11 @@ pub fn keep_on<
         ended,
         text,
         sheet: Snapshot::of(&sheet),
-        passed: Snapshot::of(link.link().passed()),
-        carried: Snapshot::of(link.link().link().carrier().passed()),
+        passed: Snapshot::of(link.passed()),
+        carried: Snapshot::of(link.link().carrier().passed()),
         told: lines.into_inner().written(),
         notices: Snapshot::of(watch.notices.log()),
         shown: Snapshot::of(&state.log),
+        heard: Snapshot::of(&state.heard),
     }
 }

@@ -2,7 +2,6 @@
 
 use crate::begin::Told;
 use crate::files::{Files, Kept};
-use crate::hearing::HeardAt;
 use crate::pane::{Kind, Pane, copy_of};
 use crate::waiting::{LINES, waiting_state};
 use cards::MatchSheet;
@@ -33,18 +32,38 @@ struct Served<'a> {
 #[derive(Drop)]
 pub struct Page<'a> {
     served: Option<Served<'a>>,
-    /// When the board's link heard the desks.
-    hearing: Cell<HeardAt>,
     /// Whether a viewer came or asks at the page: true at first.
     called: Cell<bool>,
 }
 
-/// The page, if there is one; when the board's link heard the desks; and whether a viewer came or asks at the page.
+/// The page, if there is one, and whether a viewer came or asks at the page.
 #[derive(Clone, Copy)]
 pub struct Audience<'v> {
     pub page: Option<&'v RefCell<BoardPage>>,
-    pub hearing: &'v Cell<HeardAt>,
     pub called: &'v Cell<bool>,
+}
+
+impl Audience<'_> {
+    /// Serves the page's viewers, if there is a page, and sends them what it shows now.
+    pub fn attend(self, now: u64) {
+        if let Some(page) = self.page
+            && let Ok(mut page) = page.try_borrow_mut()
+        {
+            page.attend(self.called.get(), now);
+            self.called.set(false);
+        }
+    }
+
+    /// Returns for how many milliseconds the page needs nothing, since it was last attended to.
+    pub fn longest_wait(self) -> u64 {
+        match self.page {
+            Some(page) => match page.try_borrow() {
+                Ok(page) => page.longest_wait(),
+                Err(_) => u64::MAX,
+            },
+            None => u64::MAX,
+        }
+    }
 }
 
 impl<'a> Page<'a> {
@@ -53,7 +72,6 @@ impl<'a> Page<'a> {
         let Some(at) = at else {
             return Ok(Page {
                 served: None,
-                hearing: Cell::new(HeardAt::begun(0)),
                 called: Cell::new(true),
             });
         };
@@ -66,7 +84,6 @@ impl<'a> Page<'a> {
                         ends,
                         page: RefCell::new(BoardPage::new(viewers)),
                     }),
-                    hearing: Cell::new(HeardAt::begun(0)),
                     called: Cell::new(true),
                 })
             }
@@ -74,21 +91,15 @@ impl<'a> Page<'a> {
         }
     }
 
-    /// Returns the cell in which the board's link notes when it heard the desks.
-    pub fn hearing(&self) -> &Cell<HeardAt> {
-        &self.hearing
-    }
-
     /// Returns the cell that says whether a viewer came or asks at the page.
     pub fn called(&self) -> &Cell<bool> {
         &self.called
     }
 
-    /// Returns the page, if there is one, with both cells.
+    /// Returns the page, if there is one, with the cell that says whether a viewer came or asks at it.
     pub fn audience(&self) -> Audience<'_> {
         Audience {
             page: self.shown(),
-            hearing: &self.hearing,
             called: &self.called,
         }
     }

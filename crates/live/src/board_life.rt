@@ -4,8 +4,9 @@ ghost use Rattle.std.specs.Prelude.{◌≡◌, ◌⊎◌, ◌∷◌, ◌++◌, [
 ghost use Rattle.corrections.specs.CleanList.{history_of};
 ghost use Rattle.cards.specs.Board.{board as board_text};
 ghost use Rattle.streams.specs.Watched.{Prints, has_failed, stream_of};
-ghost use Rattle.board.specs.Board.{book_of};
+ghost use Rattle.board.specs.Board.{book_of, game_of};
 ghost use Rattle.live.specs.Boards.{BoardLives, sight_at};
+ghost use Rattle.live.specs.Hearings.{Hears};
 ghost use Rattle.live.specs.Runs.{untyped};
 
 use crate::board_loop::run_board;
@@ -31,6 +32,7 @@ fn begin<B: BookOf, W: Sink, S: Shows<B>>(
     ensures seen { (S.seen scoreboard.new.state ≡ S.seen scoreboard.old.state ++ sight_at B.content B.innings_a_side sheet.now board.now None ∷ [])
         ⊎ ((S.seen scoreboard.new.state ≡ S.seen scoreboard.old.state) × IsErr result) }
     ensures failed { OnErr result (has_failed scoreboard.new.lines ≡ true ⊎ S.failed scoreboard.new.state ≡ true) }
+    ensures heard { S.heard scoreboard.new.state ≡ S.heard scoreboard.old.state }
 {
     let Scoreboard { lines, state } = scoreboard;
     board_lines(sheet, board.shown(), lines)?;
@@ -55,6 +57,8 @@ pub fn keep_board<B: BookOf, L: Link, C: Clock, N: Notices, W: Sink, S: Shows<B>
         (untyped (L.log link.new) (C.readings clock.new) (W.contents (stream_of scoreboard.new.lines))) turns
         (N.told watch.old.notices) (N.told watch.new.notices) (S.seen scoreboard.old.state) (S.seen scoreboard.new.state) result }
     ensures failed { OnErr result (has_failed scoreboard.new.lines ≡ true ⊎ S.failed scoreboard.new.state ≡ true) }
+    ensures hears { Hears (game_of board.old) (L.log link.old) (L.log link.new) (C.readings clock.old) (C.readings clock.new)
+        (S.heard scoreboard.old.state) (S.heard scoreboard.new.state) }
 {
     begin(board, sheet, clock.millis(), scoreboard)?;
     run_board(board, sheet, link, clock, watch, scoreboard, turns)

@@ -13,6 +13,7 @@ ghost use Rattle.board.specs.Rounds.{recalled, with_round};
 ghost use Rattle.live.specs.Boards as laws;
 ghost use Rattle.live.specs.Boards.{BoardGoes, BoardRuns, IsApart, Memory, PartsNothing, at_turn, grown, in_turn, memory_of, unheard};
 ghost use Rattle.station_texts.specs.Notices.{is_stopped, notices_unopened, telling_unopened, with_trouble};
+ghost use Rattle.live.specs.Hearings.{Hearing, Hears};
 ghost use Rattle.live.specs.Paces.{ticking_of};
 ghost use Rattle.live.specs.Runs.{Logs, untyped};
 ghost use Rattle.live.specs.Sights.{Sight};
@@ -31,7 +32,7 @@ use crate::hearing::promises_more;
 use crate::later::{Later, desk_later};
 use crate::pace::Pace;
 use crate::scoreboard::Scoreboard;
-use crate::shows::Shows;
+use crate::shows::{Shows, tell_heard};
 use crate::watch::Watch;
 use agree_core::{Heard, Message, Vote};
 use board::{Board, BoardRefusal, Round, Witness};
@@ -65,6 +66,8 @@ fn say<B: BookOf, L: Link, C: Clock>(
         (in_turn B.content board.now turns had taken memory (ticking_of pace.new) notices seen)
         (untyped (L.log link.old) (C.readings clock.old) shown) (untyped (L.log link.new) (C.readings clock.new) shown) }
     ensures looked { IsSome (ticking_of pace.new).looked }
+    ensures hears { (told : List Hearing) →
+        Hears (game_of board.now) (L.log link.old) (L.log link.new) (C.readings clock.old) (C.readings clock.new) told told }
 {
     let now = clock.millis();
     let is_due = pace.take_due(now);
@@ -157,6 +160,7 @@ fn give<B: BookOf, N: Notices>(
         (in_turn B.content board.new turns had (taken + 1) (memory_of between.new.telling watch.new.witness between.new.later) (ticking_of between.new.pace) (N.told watch.new.notices) seen)
         logs (record logs { passed = logs.passed ++ Came bytes ∷ [] }) }
     ensures ticking { ticking_of between.new.pace ≡ ticking_of between.old.pace }
+    ensures game { game_of board.new ≡ game_of board.old }
 {
     let at = board.position();
     let round = board.round_with(entry_in(read));
@@ -202,6 +206,7 @@ fn hear_on<B: BookOf, N: Notices>(
         (in_turn B.content board.new turns had (taken + 1) (memory_of between.new.telling watch.new.witness between.new.later) (ticking_of between.new.pace) (N.told watch.new.notices) seen)
         logs (record logs { passed = logs.passed ++ Came bytes ∷ [] }) }
     ensures ticking { ticking_of between.new.pace ≡ ticking_of between.old.pace }
+    ensures game { game_of board.new ≡ game_of board.old }
 {
     if between.telling.is_stopped() {
         return;
@@ -228,6 +233,7 @@ fn recall<B: BookOf, L: Link, N: Notices>(
         (in_turn B.content board.now turns had (taken + 1) (memory_of between.new.telling watch.new.witness between.new.later) (ticking_of between.new.pace) (N.told watch.new.notices) seen)
         logs (record logs { passed = L.log link.new }) }
     ensures ticking { ticking_of between.new.pace ≡ ticking_of between.old.pace }
+    ensures hears { (times : List ℕ) (told : List Hearing) → Hears (game_of board.now) (L.log link.old) (L.log link.new) times times told told }
 {
     hand_back(link, board.game(), own);
     if let Some(place) = parting(between.telling, read) {
@@ -252,6 +258,8 @@ fn hear<B: BookOf, L: Link, N: Notices>(
         (in_turn B.content board.new turns had (taken + 1) (memory_of between.new.telling watch.new.witness between.new.later) (ticking_of between.new.pace) (N.told watch.new.notices) seen)
         logs (record logs { passed = L.log link.new }) }
     ensures ticking { ticking_of between.new.pace ≡ ticking_of between.old.pace }
+    ensures game { game_of board.new ≡ game_of board.old }
+    ensures hears { (times : List ℕ) (told : List Hearing) → Hears (game_of board.old) (L.log link.old) (L.log link.new) times times told told }
 {
     match recalled(&watch.witness, read) {
         Some(own) => recall(board, read, own, link, watch, between),
@@ -272,12 +280,13 @@ fn pass_over<N: Notices>(watch: &mut Watch<N>, between: &mut Between)
 }
 
 /// Says what is due, and takes the next datagram. The first one of a turn is waited for until something is due, but
-/// `longest_wait` milliseconds at most. Returns whether a datagram was taken.
-fn take_next<B: BookOf, L: Link, C: Clock, N: Notices>(
+/// `longest_wait` milliseconds at most. A message is told to what shows the board's book. Returns whether a datagram was taken.
+fn take_next<B: BookOf, L: Link, C: Clock, N: Notices, S: Shows<B>>(
     board: &mut Board<B>,
     link: &mut L,
     clock: &mut C,
     watch: &mut Watch<N>,
+    state: &mut S,
     between: &mut Between,
     longest_wait: u64,
 ) -> bool
@@ -294,6 +303,11 @@ fn take_next<B: BookOf, L: Link, C: Clock, N: Notices>(
         (in_turn B.content board.new turns had taken (memory_of between.new.telling watch.new.witness between.new.later) (ticking_of between.new.pace) (N.told watch.new.notices) seen)
         (untyped (L.log link.old) (C.readings clock.old) shown) (untyped (L.log link.new) (C.readings clock.new) shown) }
     ensures looked { IsSome (ticking_of between.new.pace).looked }
+    ensures game { game_of board.new ≡ game_of board.old }
+    ensures hears { Hears (game_of board.old) (L.log link.old) (L.log link.new) (C.readings clock.old) (C.readings clock.new)
+        (S.heard state.old) (S.heard state.new) }
+    ensures seen { S.seen state.new ≡ S.seen state.old }
+    ensures failed { S.failed state.new ≡ S.failed state.old }
 {
     let wait = say(board, link, clock, &mut between.pace);
     let mut buffer = [0; ROOM];
@@ -301,6 +315,7 @@ fn take_next<B: BookOf, L: Link, C: Clock, N: Notices>(
     match link.take_message(board.game(), &mut buffer, longest) {
         Arrival::Datagram(_, read) => {
             let now = clock.millis();
+            tell_heard(state, &read, now);
             hear(board, &read, link, watch, between, now);
             true
         }
@@ -313,11 +328,12 @@ fn take_next<B: BookOf, L: Link, C: Clock, N: Notices>(
 }
 
 /// Takes the datagrams of a turn. The first one is waited for, `longest_wait` milliseconds at most.
-fn take_all<B: BookOf, L: Link, C: Clock, N: Notices>(
+fn take_all<B: BookOf, L: Link, C: Clock, N: Notices, S: Shows<B>>(
     board: &mut Board<B>,
     link: &mut L,
     clock: &mut C,
     watch: &mut Watch<N>,
+    state: &mut S,
     between: &mut Between,
     longest_wait: u64,
 )
@@ -327,10 +343,14 @@ fn take_all<B: BookOf, L: Link, C: Clock, N: Notices>(
         (in_turn B.content board.new turns had taken (memory_of between.new.telling watch.new.witness between.new.later) (ticking_of between.new.pace) (N.told watch.new.notices) seen)
         (untyped (L.log link.old) (C.readings clock.old) shown) (untyped (L.log link.new) (C.readings clock.new) shown) }
     ensures looked { IsSome (ticking_of between.new.pace).looked }
+    ensures hears { Hears (game_of board.old) (L.log link.old) (L.log link.new) (C.readings clock.old) (C.readings clock.new)
+        (S.heard state.old) (S.heard state.new) }
+    ensures seen { S.seen state.new ≡ S.seen state.old }
+    ensures failed { S.failed state.new ≡ S.failed state.old }
 {
     between.pace.set_waits(true);
     for taken in 0..MOST_TAKEN {
-        if !take_next(board, link, clock, watch, between, longest_wait) {
+        if !take_next(board, link, clock, watch, state, between, longest_wait) {
             break;
         }
     }
@@ -419,11 +439,13 @@ fn turn<B: BookOf, L: Link, C: Clock, N: Notices, W: Sink, S: Shows<B>>(
         × OnOk result (runs.last ≡ at_turn B.content board.new (turns + 1)
         (memory_of between.new.telling watch.new.witness between.new.later) (ticking_of between.new.pace) (N.told watch.new.notices) (S.seen scoreboard.new.state)) }
     ensures failed { OnErr result (has_failed scoreboard.new.lines ≡ true ⊎ S.failed scoreboard.new.state ≡ true) }
+    ensures hears { Hears (game_of board.old) (L.log link.old) (L.log link.new) (C.readings clock.old) (C.readings clock.new)
+        (S.heard scoreboard.old.state) (S.heard scoreboard.new.state) }
 {
     let Scoreboard { lines, state } = scoreboard;
     let before = board.book().len();
     let longest_wait = state.longest_wait();
-    take_all(board, link, clock, watch, between, longest_wait);
+    take_all(board, link, clock, watch, state, between, longest_wait);
     let now = clock.millis();
     look_apart(board, watch, between, now);
     between.pace.end_turn();
@@ -436,7 +458,7 @@ fn turn<B: BookOf, L: Link, C: Clock, N: Notices, W: Sink, S: Shows<B>>(
 /// what keeps it from going on.
 /// This is a run by the definitions of a board: its datagrams are exactly those that passed at the link, its times those that
 /// its clock showed, its texts those that were written, its notices those that were told, and its sights those handed over to
-/// be shown.
+/// be shown. What shows the book is told each message that is heard, as it comes, and when.
 pub fn run_board<B: BookOf, L: Link, C: Clock, N: Notices, W: Sink, S: Shows<B>>(
     board: &mut Board<B>,
     sheet: &MatchSheet,
@@ -452,6 +474,8 @@ pub fn run_board<B: BookOf, L: Link, C: Clock, N: Notices, W: Sink, S: Shows<B>>
         (untyped (L.log link.new) (C.readings clock.new) (W.contents (stream_of scoreboard.new.lines))) 0 turns
         unheard unticked (N.told watch.old.notices) (N.told watch.new.notices) (S.seen scoreboard.old.state) (S.seen scoreboard.new.state) result }
     ensures failed { OnErr result (has_failed scoreboard.new.lines ≡ true ⊎ S.failed scoreboard.new.state ≡ true) }
+    ensures hears { Hears (game_of board.old) (L.log link.old) (L.log link.new) (C.readings clock.old) (C.readings clock.new)
+        (S.heard scoreboard.old.state) (S.heard scoreboard.new.state) }
 {
     let mut between = Between {
         pace: Pace::new(),

@@ -11,6 +11,7 @@ mod desk_life;
 mod desk_loop;
 mod ends;
 pub mod hearing;
+mod hearing_log;
 mod later;
 mod laws;
 mod lost_lines;
@@ -29,6 +30,7 @@ pub use board_life::keep_board;
 pub use board_loop::run_board;
 pub use desk_life::{LifeEnd, keep_desk, run_desk};
 pub use ends::{DeskEnd, end_at};
+pub use hearing_log::HearingLog;
 pub use laws::{
     both_lines_are_told, nothing_is_asked_in_vain, reminders_come_once, splits_are_told,
     stations_are_never_silent, the_other_is_hidden,

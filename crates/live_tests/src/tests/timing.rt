@@ -3,7 +3,7 @@
 use super::*;
 use board::{Board, Trouble, Witness};
 use corrections::BookOf;
-use live::{Scoreboard, Shows, SightLog, Watch, run_board};
+use live::{HearingLog, Scoreboard, Shows, SightLog, Watch, run_board};
 use station_texts::{Notice, NoticeLog, Notices};
 use streams::WriteFailed;
 use wire::SIZE;
@@ -24,21 +24,33 @@ impl Notices for Notes {
     }
 }
 
-/// The states that a board has shown.
+/// The states that a board has shown; and what it has heard: how many messages, and when the last one came.
 #[derive(Drop)]
 struct States {
     log: SightLog<Book>,
+    heard: HearingLog,
+    messages: u32,
+    last: u64,
 }
 
 impl Shows<Book> for States {
     ghost use Rattle.std.specs.Prelude.{⊤, false};
+    ghost use Rattle.live.specs.HearingLogs.{hearings_of};
     ghost use Rattle.live.specs.SightLogs.{sights_of};
 
     ghost seen = { λ states. sights_of ⟦<Book as BookOf>⟧.content ⟦<Book as BookOf>⟧.innings_a_side states.log };
 
+    ghost heard = { λ states. hearings_of states.heard };
+
     ghost goes_on = { λ _ _ _ _. ⊤ };
 
     ghost failed = { λ states. false };
+
+    fn hear(&mut self, message: &Message, now: u64) {
+        self.heard = self.heard.heard(message, now);
+        self.messages = self.messages.saturating_add(1);
+        self.last = now;
+    }
 
     fn show(
         &mut self,
@@ -56,8 +68,8 @@ impl Shows<Book> for States {
     }
 }
 
-/// Runs a board for some turns.
-fn show(rt: &impl Abort, alloc: Global, world: &World, link: &mut Timed<'_>, turns: u64) {
+/// Runs a board for some turns. Returns what it has shown and heard.
+fn show(rt: &impl Abort, alloc: Global, world: &World, link: &mut Timed<'_>, turns: u64) -> States {
     let sheet = sheet(rt, alloc);
     let mut board = Board::new(7, empty_book(rt, alloc));
     let mut clock = Hand::new(world);
@@ -71,6 +83,9 @@ fn show(rt: &impl Abort, alloc: Global, world: &World, link: &mut Timed<'_>, tur
         lines: Watched::new(Screen::new(alloc, world)),
         state: States {
             log: SightLog::Empty,
+            heard: HearingLog::Empty,
+            messages: 0,
+            last: 0,
         },
     };
     let answer = run_board(
@@ -83,6 +98,7 @@ fn show(rt: &impl Abort, alloc: Global, world: &World, link: &mut Timed<'_>, tur
         turns,
     );
     assert!(rt; answer.is_ok());
+    scoreboard.state
 }
 
 /// Checks that a desk sends at these times, in this many turns, while its scorer types these lines and these datagrams come;
@@ -108,7 +124,7 @@ fn sends(
 fn asks(rt: &impl Abort, alloc: Global, brings: &[Bring], turns: u64, times: &[u64]) {
     let world = World::new();
     let mut link = Timed::new(alloc, &world, brings);
-    show(rt, alloc, &world, &mut link, turns);
+    let _states = show(rt, alloc, &world, &mut link, turns);
     assert_eq!(rt; link.sends.as_slice(), times);
     assert!(rt; !world.was_held.get());
 }
@@ -168,6 +184,23 @@ fn a_new_position_of_a_board(rt: HostRuntime) {
         once(10, void(&rt, 0, 0)),
     ];
     asks(&rt, rt.alloc(), &votes, 3, &[0, 10, 30]);
+}
+
+// A board hears each message as it comes, also an old one, but no other bytes.
+#[test]
+fn what_a_board_hears(rt: HostRuntime) {
+    let alloc = rt.alloc();
+    let brings = [
+        once(10, void(&rt, 0, 0)),
+        once(30, ask(Asker::A, 0, 0)),
+        once(70, void(&rt, 0, 0)),
+        once(90, [0; SIZE]),
+    ];
+    let world = World::new();
+    let mut link = Timed::new(alloc, &world, &brings);
+    let states = show(&rt, alloc, &world, &mut link, 10);
+    assert_eq!(rt; states.messages, 3);
+    assert_eq!(rt; states.last, 70);
 }
 
 // While lines are typed ahead, the desk waits for nothing.

@@ -1,7 +1,7 @@
 use Rattle.std.proofs.Common.{◌∙◌, Some, ap, refl, subst, sym}
 use Rattle.cards.specs.Sheet.{Sheet}
 use Rattle.links.specs.Logs.{passed_of}
-use Rattle.links.specs.Windows.{Windowed}
+use Rattle.live.specs.HearingLogs.{hearings_of}
 use Rattle.live.specs.SightLogs.{sights_of}
 use Rattle.machine.specs.Screens.{written_of}
 use Rattle.seal.specs.declared.carrier.CarriedLog.{CarriedLog}
@@ -10,6 +10,7 @@ use Rattle.seal.specs.Opening.{opening}
 use Rattle.setup.specs.SheetText.{IsSheetOf}
 use Rattle.station_screens.proofs.CarriedLemmas.{was_carried}
 use Rattle.station_texts.specs.NoticeLogs.{notices_of}
+use Rattle.board_command.proofs.HeardLemmas.{hears_so}
 use Rattle.board_command.proofs.KeepingLemmas.{lives_so}
 use Rattle.board_command.specs.Keeping.{IsFresh, entries_in, innings_in}
 use Rattle.board_command.proofs.life.keep_on.Goals as goal
@@ -20,21 +21,23 @@ invariant_of-result-clause-read g c =
 
 pub invariant_of-result-clause-kept : goal.invariant_of-result-clause-kept
 invariant_of-result-clause-kept g c =
-    let ring = c.link-3.result.now.ring in
+    let ring = c.link.result.now.ring in
     let said = ap passed_of c.of-2.ensures ∙ c.passed.ensures in
     let below = ap (λ (log : CarriedLog). opening ring (carried_of log)) (c.of-3.ensures ∙ c.passed-2.ensures) in
+    let kept = c.keep_board-ended in
     ∣ record {
       begun = c.args.board;
-      last = c.keep_board-ended.new.board;
+      last = kept.new.board;
       before = _;
       after = _;
       turns = _;
       fresh = subst (λ (sheet : Sheet). IsFresh sheet c.args.board) (sym c.of.ensures) c.requires.fresh;
-      carried = was_carried _ ring (said ∙ ap (λ (w : Windowed). w.above) (c.link.ensures ∙ sym c.link-2.ensures))
-          (below ∙ rw c.carrier.ensures c.link-3.ensures.log) c.link-3.ensures.faithful;
-      lives = lives_so c.of.ensures (sym c.requires.unsaid) (said ∙ ap (λ (w : Windowed). w.above) c.link.ensures)
+      carried = was_carried _ ring said (below ∙ rw c.carrier.ensures c.link.ensures.log) c.link.ensures.faithful;
+      lives = lives_so c.of.ensures (sym c.requires.unsaid) said
           (ap Some (sym c.requires.untold)) (ap Some (c.written.ensures ∙ ap written_of c.into_inner.ensures))
           (sym c.watching-watch.ensures.untold) (ap notices_of (c.of-4.ensures ∙ c.log.ensures))
           refl (ap (sights_of entries_in innings_in) c.of-5.ensures)
-          c.keep_board-ended.ensures.lives;
+          kept.ensures.lives;
+      hears = hears_so (ap (λ (sheet : Sheet). sheet.game) c.of.ensures ∙ sym c.requires.fresh.game) (sym c.requires.unsaid) said
+          (sym c.requires.unheard) (ap hearings_of c.of-6.ensures ∙ sym kept.new.scoreboard.state.told) kept.ensures.hears;
     } ∣₁

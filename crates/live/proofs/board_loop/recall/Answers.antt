@@ -1,4 +1,4 @@
-use Rattle.std.proofs.Common.{◌≡◌, ◌∙◌, ◌++◌, ◌∷◌, [], ℕ, List, ap, refl, subst, sym}
+use Rattle.std.proofs.Common.{◌≡◌, ◌∙◌, ◌++◌, ◌∷◌, [], ℕ, List, ap, append-nil, refl, subst, sym}
 use Rattle.std.specs.Prelude.{Some}
 use Rattle.agree_core.specs.declared.messages.{Message.Message}
 use Rattle.board.specs.Board.{game_of}
@@ -14,6 +14,7 @@ use Rattle.wire.specs.Layout.{written}
 use Rattle.wire.specs.Reading.{Reads}
 use Rattle.wire.proofs.MessageLemmas.{place_of}
 use Rattle.live.proofs.BoardLemmas.{gone_back, parted}
+use Rattle.live.proofs.HearingLemmas.{hears_none}
 use Rattle.live.proofs.RoundLemmas.{ok_same, two_passed}
 use Rattle.live.proofs.board_loop.recall.Goals as goal
 
@@ -42,3 +43,11 @@ returns-in_default-clause-goes g c = λ bytes sheet logs seen turns had taken re
     gone_back bytes back own.0 c.args.between.now.pace.in_time few (subst (Reads game bytes) own.1 reads)
     (c.in_default.ensures.none refl own.0 own.1) (c.args.own, own.2, ap (λ (n : ℕ). written n (Message.Vote c.args.own)) c.game.ensures)
     (two_passed logs.passed bytes back (c.hand_back.ensures ∙ ap (λ (log : List Passed). log ++ Sent ToOne back ∷ []) came))
+
+pub returns-in-Some-clause-hears : goal.returns-in-Some-clause-hears
+returns-in-Some-clause-hears g c = λ times told.
+    hears_none (game_of c.args.board.now) ToOne (Message.Vote c.args.own ∷ []) [] (rw c.game.ensures at c.hand_back.ensures) (rw append-nil)
+
+pub returns-in_default-clause-hears : goal.returns-in_default-clause-hears
+returns-in_default-clause-hears g c = λ times told.
+    hears_none (game_of c.args.board.now) ToOne (Message.Vote c.args.own ∷ []) [] (rw c.game.ensures at c.hand_back.ensures) (rw append-nil)
