@@ -8,7 +8,7 @@ abbrev pub help : List ℕ
 help = codes "innings S       S: home away\nin n            n: 1 to 11\nball b K r [short s] [B] [dead] [out H W f [crossed]]\n  K: bat bye leg wide nb nbbye nbleg    B: four six overthrow\n  H: bowled caught lbw stumped hitwicket hittwice obstructing runout\n  W: striker other    f: 0 none, 12 a substitute\ngone L n        L: timedout retiredout retiredhurt runout\nover            ends the over; over n [S i]: the entries of the n-th one\npenalty S x y   by Law x.y\nswap\nend C           C: allout nobatter declared forfeited overs\nclose, void     the match is over; nothing, in place of what is struck out\nfix p E         place p, or the ball 9.2, is to read E, any line above\nlate p E        E, any line above, belongs after place p\nagain [E]       E, or what you wrote before, where you two differ\nundo            takes back the line held last; none held: voids the last entry\nlist [n], a b   the last n entries, 12 left out; those of the places a to b\nscore, card [n] this over and the total; both cards of this innings or the n-th\nplayers, who    both sides; who isn't out or in; an empty line: where you stand\nbowlers         who may bowl the next ball\nplan E, E ..    how to enter fix and late lines that are legal only together\nhelp [word]     this, or more on one of these words; short: short lines\nquit, exit      ends; the same command goes on\n"
 
 abbrev pub help_short : List ℕ
-help_short = codes "A delivery:  [B:] [RUNS] [OPTIONS] [OUT]   at least one of the last three\nB: bowls, as 10: or usher:   Left out: who bowled the last ball of this over, so\n   the first of each over names the bowler.\nRUNS: letters and a figure with no space, as 1 or lb4\n   none bat       .0 0\n   b    bye       1  1\n   lb   leg       2  2\n   wd   wide      3  3\n   nb   nb        4  0 four\n   nbb  nbbye     5  5\n   nblb nbleg     6  0 six\n   wd is wide 0, and nb is nb 0.   nb 4 is four all run, and nb4 a four.\n   K r stands as in a full line: bat 4 is four all run.   Left out: bat 0\n   Also wide, no ball, dot, four, six, 1b to 4b, 1lb to 4lb, 1wd, 1nb, lb 1\nOPTIONS: short s, overthrow, dead\nOUT: [out] H [W] [f] [crossed]   H also c, ct, st, ro, run out\n   W left out is striker, never for runout and obstructing\n   f left out is 0; it is a number, a name or sub\n/  is over.\nNames, in any case, for n, b, B: and f: the whole name, the last word of one\n   player's name, or how a word in the name of one player begins.\nfix p, late p and again: short lines stand behind them too.\n"
+help_short = codes "A delivery:  [B:] [RUNS] [OPTIONS] [OUT]   at least one of the last three\nB: the bowler, as 10: or usher:   Left out: that of this over's last ball, so\n   the first ball of each over names its bowler.\nRUNS: letters and a figure with no space, as 1 or lb4\n   none bat       .0 0\n   b    bye       1  1\n   lb   leg       2  2\n   wd   wide      3  3\n   nb   nb        4  0 four\n   nbb  nbbye     5  5\n   nblb nbleg     6  0 six\n   wd is wide 0, and nb is nb 0.   nb 4 is four all run, and nb4 a four.\n   K r stands as in a full line: bat 4 is four all run.   Left out: bat 0\n   Also wide, no ball, dot, four, six, 1b to 4b, 1lb to 4lb, 1wd, 1nb, lb 1\nOPTIONS: short s, overthrow, dead\nOUT: [out] H [W] [f] [crossed]   H also c, ct, st, ro, run out, hit wicket, c&b\n   W left out is striker, never for runout and obstructing\n   f left out is 0; it is a number, a name or sub\n/  is over.\nNames, in any case, for n, b, B: and f: the whole name, the last word of one\n   player's name, or how a word in the name of one player begins.\nfix p, late p and again: short lines may follow them, too.\n"
 
 abbrev pub help_on : Topic → List ℕ
 help_on Innings = codes "innings S: an innings of side S begins, home or away\n  innings home\n"

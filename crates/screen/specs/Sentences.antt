@@ -23,9 +23,9 @@ of_fault Spaces = codes "one space between words, and none at the ends"
 abbrev pub of_ball : BallRefusal → List ℕ
 of_ball NoBatter = codes "an end is vacant: enter who came in"
 of_ball BowlerTwoOvers = codes "he bowled in the last over"
-of_ball NotOutSoHere = codes "nobody can be out so off this delivery"
+of_ball NotOutSoHere = codes "nobody can be out that way off this delivery"
 of_ball WrongBatter = codes "this way of being out is the other batter's"
-of_ball RunsWithOut = codes "no run is scored where a batter is out so"
+of_ball RunsWithOut = codes "no run is scored if a batter is out that way"
 of_ball BoundaryAndOut = codes "a boundary and a dismissal don't go together"
 of_ball SixNotStruck = codes "only the bat makes a six"
 of_ball CrossedNotHere = codes "crossed goes with runout and obstructing alone"
@@ -49,7 +49,7 @@ abbrev pub of_book : BookRefusal → List ℕ
 of_book (Law why) = of_law why
 of_book NoSuchPlace = codes "the book has no such place yet"
 of_book NotFixable = codes "a correction stands there: name the place of the entry itself"
-of_book (Later place why) = codes "the entry of that place would be refused so"
+of_book (Later place why) = codes "then the entry at that place would be refused"
 of_book NotAnchor = codes "name the place of an entry of play"
 
 abbrev pub of_desk : Refusal → List ℕ

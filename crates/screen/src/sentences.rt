@@ -29,9 +29,9 @@ fn ball_sentence(why: BallRefusal) -> &'static str
     match why {
         BallRefusal::NoBatter => "an end is vacant: enter who came in",
         BallRefusal::BowlerTwoOvers => "he bowled in the last over",
-        BallRefusal::NotOutSoHere => "nobody can be out so off this delivery",
+        BallRefusal::NotOutSoHere => "nobody can be out that way off this delivery",
         BallRefusal::WrongBatter => "this way of being out is the other batter's",
-        BallRefusal::RunsWithOut => "no run is scored where a batter is out so",
+        BallRefusal::RunsWithOut => "no run is scored if a batter is out that way",
         BallRefusal::BoundaryAndOut => "a boundary and a dismissal don't go together",
         BallRefusal::SixNotStruck => "only the bat makes a six",
         BallRefusal::CrossedNotHere => "crossed goes with runout and obstructing alone",
@@ -69,7 +69,7 @@ fn book_sentence(why: corrections::Refusal) -> &'static str
         corrections::Refusal::NotFixable => {
             "a correction stands there: name the place of the entry itself"
         }
-        corrections::Refusal::Later { .. } => "the entry of that place would be refused so",
+        corrections::Refusal::Later { .. } => "then the entry at that place would be refused",
         corrections::Refusal::NotAnchor => "name the place of an entry of play",
     }
 }

@@ -63,8 +63,8 @@ quit, exit      ends; the same command goes on
 /// The text of `help short`.
 const HELP_SHORT: &str = "\
 A delivery:  [B:] [RUNS] [OPTIONS] [OUT]   at least one of the last three
-B: bowls, as 10: or usher:   Left out: who bowled the last ball of this over, so
-   the first of each over names the bowler.
+B: the bowler, as 10: or usher:   Left out: that of this over's last ball, so
+   the first ball of each over names its bowler.
 RUNS: letters and a figure with no space, as 1 or lb4
    none bat       .0 0
    b    bye       1  1
@@ -77,13 +77,13 @@ RUNS: letters and a figure with no space, as 1 or lb4
    K r stands as in a full line: bat 4 is four all run.   Left out: bat 0
    Also wide, no ball, dot, four, six, 1b to 4b, 1lb to 4lb, 1wd, 1nb, lb 1
 OPTIONS: short s, overthrow, dead
-OUT: [out] H [W] [f] [crossed]   H also c, ct, st, ro, run out
+OUT: [out] H [W] [f] [crossed]   H also c, ct, st, ro, run out, hit wicket, c&b
    W left out is striker, never for runout and obstructing
    f left out is 0; it is a number, a name or sub
 /  is over.
 Names, in any case, for n, b, B: and f: the whole name, the last word of one
    player's name, or how a word in the name of one player begins.
-fix p, late p and again: short lines stand behind them too.
+fix p, late p and again: short lines may follow them, too.
 ";
 
 /// The text of `help ball`.
