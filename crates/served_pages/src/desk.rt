@@ -2,7 +2,7 @@
 
 /// What may be run and loaded in the page: its own style and script, and what it asks of its station.
 pub const POLICY: &[u8] =
-    b"default-src 'none'; script-src 'sha256-iTxFn10YMppUIlro7vS3MKianVQUwU2LmFBlwRXY9FY='; style-src 'sha256-fG+D0r1ggOak2xF6bZb012y2J1FY5fn76VrsA2XuLZs='; connect-src 'self'; img-src data:; base-uri 'none'; form-action 'none'; frame-ancestors 'none'";
+    b"default-src 'none'; script-src 'sha256-e+9aTXcF2luDdMHOAzDGRpsyjfR+D1sFaSzFXya+vUI='; style-src 'sha256-fG+D0r1ggOak2xF6bZb012y2J1FY5fn76VrsA2XuLZs='; connect-src 'self'; img-src data:; base-uri 'none'; form-action 'none'; frame-ancestors 'none'";
 
 /// The page.
 pub const PAGE: &[u8] = b"<!DOCTYPE html>
@@ -602,7 +602,7 @@ function follow(row) {
   else if (row.startsWith(\"dropped \") && THEIRS.test(told.rows[told.rows.length - 2])) told.differs.dropped = row;
 }
 
-const WRONG = new RegExp(\"^(fault |refused |which one|no such (player|ball)|who bowls|undo: |[wb]: |\\\\w+ has no fielder|\" +
+const WRONG = new RegExp(\"^(fault |refused |which one|no such (player|ball)|who (bowls|is out)|undo: |[wb]: |\\\\w+ has no fielder|\" +
   \"\\\\d+ (not taken|doesn't differ|is cast|isn't written|differs: begin)|dropped |24 lines |not held|peer: |not a peer|cannot |this file |this is the copy|the other desk's file |its file |votes)\");
 const CHANGED = /^(now: |innings \\d+: |\\.\\. and )/;
 // Rows that come of the other desk and of files: no answer to a line.
