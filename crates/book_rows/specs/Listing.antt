@@ -19,7 +19,7 @@ stop_of first end = if nat_le end (first + 20) then end else first + 20
 
 -- the line to type for the entries that are left, if any are
 abbrev pub range_word : ℕ → ℕ → List ℕ
-range_word first last = codes "go on: list " ++ decimal first ++ codes " " ++ decimal last ++ codes "\n"
+range_word first last = codes "more: list " ++ decimal first ++ codes " " ++ decimal last ++ codes "\n"
 
 abbrev pub go_on : ℕ → ℕ → List ℕ
 go_on stop end = if nat_lt stop end then range_word stop (end - 1) else []

@@ -14,10 +14,10 @@ use Rattle.desk.specs.declared.refusal.Refusal.TheVariants.{Book, SlotsFull, Fai
 
 abbrev pub of_fault : LineFault → List ℕ
 of_fault TooLong = codes "a line has at most 96 bytes"
-of_fault UnknownWord = codes "a word stands where another must"
+of_fault UnknownWord = codes "another word belongs here"
 of_fault BadNumber = codes "a number is missing, or out of its range"
 of_fault Missing = codes "the line ends too early"
-of_fault Extra = codes "something follows that doesn't belong there"
+of_fault Extra = codes "the line has more words than belong to it"
 of_fault Spaces = codes "one space between words, and none at the ends"
 
 abbrev pub of_ball : BallRefusal → List ℕ
@@ -28,7 +28,7 @@ of_ball WrongBatter = codes "this way of being out is the other batter's"
 of_ball RunsWithOut = codes "no run is scored if a batter is out that way"
 of_ball BoundaryAndOut = codes "a boundary and a dismissal don't go together"
 of_ball SixNotStruck = codes "only the bat makes a six"
-of_ball CrossedNotHere = codes "crossed goes with runout and obstructing alone"
+of_ball CrossedNotHere = codes "crossed goes only with runout and obstructing"
 of_ball OverLong = codes "the over has 60 deliveries: call over"
 of_ball NoBall = codes "no delivery of this over counts yet"
 of_ball NoVacancy = codes "there is a batter at each end"
@@ -42,7 +42,7 @@ of_law WrongSide = codes "it isn't this side's turn to bat"
 of_law InningsOpen = codes "an innings is open: end it first"
 of_law MatchWon = codes "the match is won"
 of_law MatchClosed = codes "the match was closed"
-of_law EndNotSo = codes "the cause of the end doesn't hold"
+of_law EndNotSo = codes "the innings can't end for this cause now"
 of_law TooMany = codes "the match takes no more entries"
 
 abbrev pub of_book : BookRefusal → List ℕ

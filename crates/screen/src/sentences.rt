@@ -14,10 +14,10 @@ pub fn fault_sentence(why: LineFault) -> &'static str
 {
     match why {
         LineFault::TooLong => "a line has at most 96 bytes",
-        LineFault::UnknownWord => "a word stands where another must",
+        LineFault::UnknownWord => "another word belongs here",
         LineFault::BadNumber => "a number is missing, or out of its range",
         LineFault::Missing => "the line ends too early",
-        LineFault::Extra => "something follows that doesn't belong there",
+        LineFault::Extra => "the line has more words than belong to it",
         LineFault::Spaces => "one space between words, and none at the ends",
     }
 }
@@ -34,7 +34,7 @@ fn ball_sentence(why: BallRefusal) -> &'static str
         BallRefusal::RunsWithOut => "no run is scored if a batter is out that way",
         BallRefusal::BoundaryAndOut => "a boundary and a dismissal don't go together",
         BallRefusal::SixNotStruck => "only the bat makes a six",
-        BallRefusal::CrossedNotHere => "crossed goes with runout and obstructing alone",
+        BallRefusal::CrossedNotHere => "crossed goes only with runout and obstructing",
         BallRefusal::OverLong => "the over has 60 deliveries: call over",
         BallRefusal::NoBall => "no delivery of this over counts yet",
         BallRefusal::NoVacancy => "there is a batter at each end",
@@ -54,7 +54,7 @@ fn law_sentence(why: LawRefusal) -> &'static str
         LawRefusal::InningsOpen => "an innings is open: end it first",
         LawRefusal::MatchWon => "the match is won",
         LawRefusal::MatchClosed => "the match was closed",
-        LawRefusal::EndNotSo => "the cause of the end doesn't hold",
+        LawRefusal::EndNotSo => "the innings can't end for this cause now",
         LawRefusal::TooMany => "the match takes no more entries",
     }
 }

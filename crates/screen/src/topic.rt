@@ -46,18 +46,18 @@ over            ends the over; over n [S i]: the entries of the n-th one
 penalty S x y   by Law x.y
 swap
 end C           C: allout nobatter declared forfeited overs
-close, void     the match is over; nothing, in place of what is struck out
-fix p E         place p, or the ball 9.2, is to read E, any line above
-late p E        E, any line above, belongs after place p
+close, void     the match is over; no entry, where one is struck out
+fix p E         puts E, any line above, in place of entry p, or of ball 9.2
+late p E        adds E, any line above, after entry p
 again [E]       E, or what you wrote before, where you two differ
 undo            takes back the line held last; none held: voids the last entry
-list [n], a b   the last n entries, 12 left out; those of the places a to b
+list [n], a b   the last n entries (12 by default); those at places a to b
 score, card [n] this over and the total; both cards of this innings or the n-th
-players, who    both sides; who isn't out or in; an empty line: where you stand
+players, who    both sides; who is still to bat; an empty line: where you are
 bowlers         who may bowl the next ball
 plan E, E ..    how to enter fix and late lines that are legal only together
 help [word]     this, or more on one of these words; short: short lines
-quit, exit      ends; the same command goes on
+quit, exit      ends the desk; the same command resumes
 ";
 
 /// The text of `help short`.
@@ -160,7 +160,7 @@ pub fn help_on(topic: Topic) -> &'static str
 {
     match topic {
         Topic::Innings => "innings S: an innings of side S begins, home or away\n  innings home\n",
-        Topic::In => "in n: player n of the side that bats comes in, by number or name\n  in 3\n",
+        Topic::In => "in n: player n of the batting side comes in, by number or name\n  in 3\n",
         Topic::Ball => HELP_BALL,
         Topic::Gone => "gone L n: batter n leaves between deliveries\n  gone retiredhurt 3\n",
         Topic::Over =>
@@ -170,12 +170,14 @@ pub fn help_on(topic: Topic) -> &'static str
         }
         Topic::Swap => "swap: the batters change ends\n  swap\n",
         Topic::End => "end C: the innings ends, by this cause\n  end declared\n",
-        Topic::Close => "close: the match is closed; corrections are taken still\n  close\n",
-        Topic::Void => "void: nothing, as in place of what is struck out\n  fix 12 void\n",
-        Topic::Fix => "fix p E: place p, or the ball 9.2, is to read E\n  fix 12 ball 10 bat 2\n",
-        Topic::Late => "late p E: E was left out, and belongs after place p\n  late 12 in 5\n",
+        Topic::Close => "close: closes the match; corrections are still taken\n  close\n",
+        Topic::Void =>
+            "void: no entry; fix p void strikes out the entry at place p\n  fix 12 void\n",
+        Topic::Fix =>
+            "fix p E: puts E in place of the entry at place p, or of the ball 9.2\n  fix 12 ball 10 bat 2\n",
+        Topic::Late => "late p E: adds E, which was left out, after place p\n  late 12 in 5\n",
         Topic::Again => {
-            "again [E]: where you two differ, E, or what you wrote before\n  again ball 10 bat 2\n"
+            "again [E]: where you two differ, writes E, or what you wrote before\n  again ball 10 bat 2\n"
         }
         Topic::Undo => HELP_UNDO,
         Topic::Listing => {
@@ -187,11 +189,11 @@ pub fn help_on(topic: Topic) -> &'static str
         Topic::Card => "card [n]: both cards of the innings begun last, or of the n-th\n  card 1\n",
         Topic::Players => "players: both sides, by number and name\n  players\n",
         Topic::Bowlers => {
-            "bowlers: who may bowl the next ball; how many overs he has left\n  bowlers\n"
+            "bowlers: who may bowl the next ball, and how many overs each has left\n  bowlers\n"
         }
-        Topic::Who => "who: who of the side that bats isn't out and isn't in\n  who\n",
+        Topic::Who => "who: who of the batting side is neither out nor in\n  who\n",
         Topic::Plan => HELP_PLAN,
-        Topic::Quit => "quit: ends the desk; the same command goes on\n  quit\n",
+        Topic::Quit => "quit: ends the desk; the same command resumes\n  quit\n",
         Topic::Short => HELP_SHORT,
     }
 }

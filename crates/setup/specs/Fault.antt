@@ -139,7 +139,7 @@ copy_loss_lines path fault =
     ++ codes "\nthis is the copy: to go on without it, start the same command without --copy\n"
 
 abbrev pub key_words : KeyFault → List ℕ
-key_words keys.NotAFile = codes "is no plain file"
+key_words keys.NotAFile = codes "isn't a plain file"
 key_words keys.Sheet = codes "is the sheet"
 key_words keys.Votes = codes "is a votes file"
 key_words keys.Short = codes "a key has 16 bytes or more"

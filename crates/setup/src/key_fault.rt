@@ -34,7 +34,7 @@ impl KeyFault {
         ensures { result.now ≡ texts.key_words self }
     {
         match self {
-            KeyFault::NotAFile => "is no plain file",
+            KeyFault::NotAFile => "isn't a plain file",
             KeyFault::Sheet => "is the sheet",
             KeyFault::Votes => "is a votes file",
             KeyFault::Short => "a key has 16 bytes or more",
