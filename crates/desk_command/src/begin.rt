@@ -7,7 +7,7 @@ ghost use Rattle.desk_command.specs.Lives.{copy_of, desk_of, path_of, sheet_path
 ghost use Rattle.desk_command.specs.Traces.{IsWideSheetOf};
 
 use crate::desk_disk::{desk_disk_at, empty_book};
-use crate::desk_screen::DeskScreen;
+use crate::desk_screen::{DeskScreen, LinkErrors};
 use crate::life::{Kept, Life, keep_on};
 use crate::page::{Page, PageSquares};
 use ahead::Ahead;
@@ -206,7 +206,7 @@ pub fn start_desk<'a>(
         setting.peers,
         ends,
         page.called(),
-        Shared::of(&errors),
+        LinkErrors::of(&errors, scorers),
     )?;
     let link = sealing.link_over(rt.alloc(), MonotonicClock::new(rt), sealed);
     let _ = sealing.tell_fingerprints(&mut Shared::of(&errors));

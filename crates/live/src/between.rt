@@ -10,7 +10,7 @@ pub struct Between {
     pub pace: Pace,
     pub peer: Peer,
     pub warned: Warned,
-    /// The clock's reading at the end of the last turn.
+    /// The clock's reading as the newest message came, or at the end of the last turn.
     pub now: u64,
     /// How many milliseconds from then the page that shows the desk may be left alone.
     pub shown_wait: u64,

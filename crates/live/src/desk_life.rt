@@ -29,7 +29,7 @@ use corrections::BookOf;
 use desk::{Desk, OpenRefusal};
 use entry_log::SlotsOf;
 use links::{Clock, Keys, Link};
-use screen::ShowsDesk;
+use screen::{ShowsDesk, Tells, Told};
 use station_texts::texts::print_greeting;
 use station_texts::warned::Warned;
 use std::alloc::Global;
@@ -45,10 +45,11 @@ pub enum LifeEnd {
 }
 
 /// Tells the scorer where the desk stands.
-fn greet<S: SlotsOf, B: BookOf + Drop, W: Sink>(
+fn greet<S: SlotsOf, B: BookOf + Drop, W: Sink, P: Tells>(
     desk: &Desk<S, B>,
     sheet: &MatchSheet,
     out: &mut Watched<W>,
+    page: &P,
 ) -> Result<(), DeskEnd>
     ensures text { OnOk result (Prints W.contents out.old out.new
         (greeting sheet.now (innings_of desk.now) (state_of desk.now).book
@@ -56,6 +57,7 @@ fn greet<S: SlotsOf, B: BookOf + Drop, W: Sink>(
     ensures only { IfErr result (λ end. end ≡ DeskEnd.Write) }
     ensures failed { TellsFailure result out.old out.new }
 {
+    page.tell(Told::Stands);
     told(print_greeting(out, sheet, desk.position(), own_line(desk), desk.book()))?;
     told(out.flush())
 }
@@ -75,7 +77,15 @@ fn show<S: SlotsOf, B: BookOf + Drop, K: Keys, P: ShowsDesk<B>>(
 }
 
 /// Tells the scorer where the desk of this letter stands, and takes this many turns.
-fn take_turns<S: SlotsOf, B: BookOf + Drop, L: Link, K: Keys, C: Clock, W: Sink, P: ShowsDesk<B>>(
+fn take_turns<
+    S: SlotsOf,
+    B: BookOf + Drop,
+    L: Link,
+    K: Keys,
+    C: Clock,
+    W: Sink,
+    P: ShowsDesk<B> + Tells,
+>(
     alloc: Global,
     desk: &mut Desk<S, B>,
     own: DeskId,
@@ -90,7 +100,7 @@ fn take_turns<S: SlotsOf, B: BookOf + Drop, L: Link, K: Keys, C: Clock, W: Sink,
         (state_of desk.old) page.old page.new }
     ensures failed { result ≡ Err DeskEnd.Write → has_failed outside.new.out ≡ true }
 {
-    greet(desk, sheet, &mut outside.out)?;
+    greet(desk, sheet, &mut outside.out, page)?;
     let now = outside.clock.millis();
     let mut between = Between {
         pace: Pace::new(),
@@ -100,7 +110,7 @@ fn take_turns<S: SlotsOf, B: BookOf + Drop, L: Link, K: Keys, C: Clock, W: Sink,
         shown_wait: page.longest_wait(),
     };
     for number in 0..turns {
-        turn(alloc, desk, sheet, outside, &mut between)?;
+        turn(alloc, desk, sheet, outside, page, &mut between)?;
         show(desk, sheet, &outside.keys, page, between.now);
         between.shown_wait = page.longest_wait();
     }
@@ -124,7 +134,15 @@ fn end_told(end: Result<(), DeskEnd>, flushed: Result<(), DeskEnd>) -> Result<()
 /// definitions of a desk: its datagrams are exactly those that passed at the link, its lines those that were typed, its times
 /// those that its clock showed, its texts those that were written. The page is handed, after each turn, exactly what is seen of
 /// the desk then.
-pub fn run_desk<S: SlotsOf, B: BookOf + Drop, L: Link, K: Keys, C: Clock, W: Sink, P: ShowsDesk<B>>(
+pub fn run_desk<
+    S: SlotsOf,
+    B: BookOf + Drop,
+    L: Link,
+    K: Keys,
+    C: Clock,
+    W: Sink,
+    P: ShowsDesk<B> + Tells,
+>(
     alloc: Global,
     desk: &mut Desk<S, B>,
     own: DeskId,
@@ -158,7 +176,7 @@ pub fn keep_desk<
     K: Keys,
     C: Clock,
     W: Sink,
-    P: ShowsDesk<B>,
+    P: ShowsDesk<B> + Tells,
 >(
     alloc: Global,
     beginning: Beginning<S::Disk, B>,

@@ -24,11 +24,13 @@ use corrections::BookOf;
 use desk::{Desk, Refusal};
 use entry_log::SlotsOf;
 use links::{Aside, Clock, Keys, LINE_ROOM, Link, Stand, Typed};
+use screen::Tells;
 use station_texts::asides::print_aside;
 use station_texts::both::Both;
 use station_texts::doubt::Doubt;
 use station_texts::said::{Said, entry_said};
 use station_texts::texts::print_said;
+use station_texts::told::{aside_told, said_told, tell_if};
 use std::alloc::Global;
 use streams::{Sink, Watched};
 
@@ -91,8 +93,9 @@ fn end_of(said: &Said) -> Result<(), DeskEnd>
 }
 
 /// Tells the scorer of lines that the desk isn't given.
-fn tell_aside<W: Sink>(
+fn tell_aside<W: Sink, P: Tells>(
     out: &mut Watched<W>,
+    page: &P,
     sheet: &MatchSheet,
     aside: &Aside,
 ) -> Result<(), DeskEnd>
@@ -101,15 +104,17 @@ fn tell_aside<W: Sink>(
     ensures course { course_of result ≡ further }
     ensures failed { result ≡ Err DeskEnd.Write → has_failed out.new ≡ true }
 {
+    page.tell(aside_told(aside));
     told(print_aside(out, sheet.columns(), aside))
 }
 
 /// Takes a typed line, if there is one, and tells the scorer what it came to.
-fn take_line<S: SlotsOf, B: BookOf + Drop, L: Link, K: Keys, C: Clock, W: Sink>(
+fn take_line<S: SlotsOf, B: BookOf + Drop, L: Link, K: Keys, C: Clock, W: Sink, P: Tells>(
     alloc: Global,
     desk: &mut Desk<S, B>,
     sheet: &MatchSheet,
     outside: &mut Outside<L, K, C, W>,
+    page: &P,
     between: &mut Between,
 ) -> Result<(), DeskEnd>
     ensures goes { (turns : ℕ) → DeskGoes sheet.now desk.old desk.new
@@ -132,7 +137,7 @@ fn take_line<S: SlotsOf, B: BookOf + Drop, L: Link, K: Keys, C: Clock, W: Sink>(
         Typed::Nothing => return Ok(()),
         Typed::Ended => return Err(DeskEnd::NoMoreLines),
         Typed::Line(count) => count,
-        Typed::Aside(aside) => return tell_aside(&mut outside.out, sheet, &aside),
+        Typed::Aside(aside) => return tell_aside(&mut outside.out, page, sheet, &aside),
     };
     let line = &buffer[..count];
     let warned = between.warned;
@@ -141,15 +146,17 @@ fn take_line<S: SlotsOf, B: BookOf + Drop, L: Link, K: Keys, C: Clock, W: Sink>(
     if let Err(end) = end_of(&said) {
         return Err(end);
     }
+    tell_if(page, said_told(at, both.other, &said));
     let out = &mut outside.out;
     told(print_said(out, sheet, both, warned, &said, desk.book()))
 }
 
 /// Takes the datagrams of a turn, and gives the scorer the reminders about the other desk that are due.
-fn listen<S: SlotsOf, B: BookOf + Drop, L: Link, K: Keys, C: Clock, W: Sink>(
+fn listen<S: SlotsOf, B: BookOf + Drop, L: Link, K: Keys, C: Clock, W: Sink, P: Tells>(
     desk: &mut Desk<S, B>,
     sheet: &MatchSheet,
     outside: &mut Outside<L, K, C, W>,
+    page: &P,
     between: &mut Between,
 ) -> Result<(), DeskEnd>
     ensures goes { (turns : ℕ) → DeskGoes sheet.now desk.old desk.new
@@ -160,18 +167,19 @@ fn listen<S: SlotsOf, B: BookOf + Drop, L: Link, K: Keys, C: Clock, W: Sink>(
     ensures looked { IsSome (ticking_of between.new.pace).looked }
     ensures failed { result ≡ Err DeskEnd.Write → has_failed outside.new.out ≡ true }
 {
-    take_all(desk, sheet, outside, between)?;
+    take_all(desk, sheet, outside, page, between)?;
     let now = outside.clock.millis();
     between.now = now;
-    remind(desk, &mut outside.out, between, now)
+    remind(desk, &mut outside.out, page, between, now)
 }
 
 /// Does a turn's work up to the flush: takes a line of the scorer, and then the datagrams.
-fn act<S: SlotsOf, B: BookOf + Drop, L: Link, K: Keys, C: Clock, W: Sink>(
+fn act<S: SlotsOf, B: BookOf + Drop, L: Link, K: Keys, C: Clock, W: Sink, P: Tells>(
     alloc: Global,
     desk: &mut Desk<S, B>,
     sheet: &MatchSheet,
     outside: &mut Outside<L, K, C, W>,
+    page: &P,
     between: &mut Between,
 ) -> Result<(), DeskEnd>
     ensures goes { (turns : ℕ) → DeskGoes sheet.now desk.old desk.new
@@ -184,20 +192,21 @@ fn act<S: SlotsOf, B: BookOf + Drop, L: Link, K: Keys, C: Clock, W: Sink>(
 {
     let at = desk.position();
     let votes = desk.votes();
-    take_line(alloc, desk, sheet, outside, between)?;
+    take_line(alloc, desk, sheet, outside, page, between)?;
     let has_voted = desk.votes() != votes;
     let now = outside.clock.millis();
     between.pace.note(desk.position() != at, has_voted, now);
     between.pace.set_waits(!outside.keys.has_more());
-    listen(desk, sheet, outside, between)
+    listen(desk, sheet, outside, page, between)
 }
 
 /// Takes a desk's turn: takes a line of its scorer, looks at the clock and says what is due, takes the datagrams, and flushes.
-pub(crate) fn turn<S: SlotsOf, B: BookOf + Drop, L: Link, K: Keys, C: Clock, W: Sink>(
+pub(crate) fn turn<S: SlotsOf, B: BookOf + Drop, L: Link, K: Keys, C: Clock, W: Sink, P: Tells>(
     alloc: Global,
     desk: &mut Desk<S, B>,
     sheet: &MatchSheet,
     outside: &mut Outside<L, K, C, W>,
+    page: &P,
     between: &mut Between,
 ) -> Result<(), DeskEnd>
     ensures goes { (turns : ℕ) → DeskGoes sheet.now desk.old desk.new
@@ -207,7 +216,7 @@ pub(crate) fn turn<S: SlotsOf, B: BookOf + Drop, L: Link, K: Keys, C: Clock, W: 
         (known_in result (logs_of L.log K.inputs C.readings W.contents outside.new)) }
     ensures failed { result ≡ Err DeskEnd.Write → has_failed outside.new.out ≡ true }
 {
-    act(alloc, desk, sheet, outside, between)?;
+    act(alloc, desk, sheet, outside, page, between)?;
     told(outside.out.flush())?;
     between.pace.end_turn();
     Ok(())

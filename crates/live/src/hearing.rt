@@ -33,8 +33,10 @@ use desk::Desk;
 use entry_log::SlotsOf;
 use links::{Arrival, Clock, Keys, Link, MOST_TAKEN, ROOM, send_each};
 use notation::Entry;
+use screen::Tells;
 use station_texts::both::Both;
 use station_texts::news::{print_came, print_unopened};
+use station_texts::told::{came_told, tell_if, unopened_told};
 use station_texts::warned::Warned;
 use streams::{Sink, Watched};
 use wire::{MessageBytes, What, WireFault};
@@ -107,15 +109,15 @@ pub fn give<S: SlotsOf, B: BookOf + Drop, L: Link>(
     received.what
 }
 
-/// Gives a desk a message, as read, and tells the scorer what is news.
-fn hear<S: SlotsOf, B: BookOf + Drop, L: Link, W: Sink>(
+/// Gives a desk a message, as read at the time of `between`, and tells the scorer what is news.
+fn hear<S: SlotsOf, B: BookOf + Drop, L: Link, W: Sink, P: Tells>(
     desk: &mut Desk<S, B>,
     sheet: &MatchSheet,
     read: &Result<Message, WireFault>,
     link: &mut L,
     out: &mut Watched<W>,
+    page: &P,
     between: &mut Between,
-    now: u64,
 ) -> Result<(), DeskEnd>
     requires { ForOk read.now IsMessage }
     ensures goes { (bytes : List ℕ) (logs : Logs) (turns : ℕ) →
@@ -127,6 +129,7 @@ fn hear<S: SlotsOf, B: BookOf + Drop, L: Link, W: Sink>(
     ensures ticking { ticking_of between.new.pace ≡ ticking_of between.old.pace }
     ensures failed { result ≡ Err DeskEnd.Write → has_failed out.new ≡ true }
 {
+    let now = between.now;
     let at = desk.position();
     let both = Both {
         at,
@@ -147,12 +150,17 @@ fn hear<S: SlotsOf, B: BookOf + Drop, L: Link, W: Sink>(
     if let Err(end) = end_at(what) {
         return Err(end);
     }
+    tell_if(page, came_told(warned, both, evidence, what));
     told(print_came(out, sheet, warned, both, evidence, what, desk.book()))
 }
 
 /// Tells the scorer that a datagram doesn't open, unless that was told since the last vote that was news. What is said unasked
 /// and when, and when the other desk was heard, stay unchanged.
-fn pass_over<W: Sink>(out: &mut Watched<W>, between: &mut Between) -> Result<(), DeskEnd>
+fn pass_over<W: Sink, P: Tells>(
+    out: &mut Watched<W>,
+    page: &P,
+    between: &mut Between,
+) -> Result<(), DeskEnd>
     ensures warned { between.new.warned ≡ warned_unopened between.old.warned }
     ensures pace { between.new.pace ≡ between.old.pace }
     ensures peer { between.new.peer ≡ between.old.peer }
@@ -163,6 +171,7 @@ fn pass_over<W: Sink>(out: &mut Watched<W>, between: &mut Between) -> Result<(),
 {
     let warned = between.warned;
     between.warned = warned.after_unopened();
+    tell_if(page, unopened_told(warned));
     told(print_unopened(out, warned))
 }
 
@@ -199,10 +208,11 @@ fn say<S: SlotsOf, B: BookOf + Drop, L: Link, C: Clock>(
 
 /// Says what is due, and takes the next datagram. The first one of a turn is waited for until something is due. Returns whether
 /// a datagram was taken.
-fn take_next<S: SlotsOf, B: BookOf + Drop, L: Link, K: Keys, C: Clock, W: Sink>(
+fn take_next<S: SlotsOf, B: BookOf + Drop, L: Link, K: Keys, C: Clock, W: Sink, P: Tells>(
     desk: &mut Desk<S, B>,
     sheet: &MatchSheet,
     outside: &mut Outside<L, K, C, W>,
+    page: &P,
     between: &mut Between,
 ) -> Result<bool, DeskEnd>
     ensures goes { (turns : ℕ) → DeskGoes sheet.now desk.old desk.new
@@ -225,11 +235,12 @@ fn take_next<S: SlotsOf, B: BookOf + Drop, L: Link, K: Keys, C: Clock, W: Sink>(
     match link.take_message(desk.game(), &mut buffer, longest) {
         Arrival::Datagram(_, read) => {
             let now = clock.millis();
-            hear(desk, sheet, &read, link, out, between, now)?;
+            between.now = now;
+            hear(desk, sheet, &read, link, out, page, between)?;
             Ok(true)
         }
         Arrival::Unopened => {
-            pass_over(out, between)?;
+            pass_over(out, page, between)?;
             Ok(true)
         }
         Arrival::Nothing | Arrival::Lost => Ok(false),
@@ -237,10 +248,11 @@ fn take_next<S: SlotsOf, B: BookOf + Drop, L: Link, K: Keys, C: Clock, W: Sink>(
 }
 
 /// Takes the datagrams of a turn.
-pub(crate) fn take_all<S: SlotsOf, B: BookOf + Drop, L: Link, K: Keys, C: Clock, W: Sink>(
+pub(crate) fn take_all<S: SlotsOf, B: BookOf + Drop, L: Link, K: Keys, C: Clock, W: Sink, P: Tells>(
     desk: &mut Desk<S, B>,
     sheet: &MatchSheet,
     outside: &mut Outside<L, K, C, W>,
+    page: &P,
     between: &mut Between,
 ) -> Result<(), DeskEnd>
     ensures goes { (turns : ℕ) → DeskGoes sheet.now desk.old desk.new
@@ -252,7 +264,7 @@ pub(crate) fn take_all<S: SlotsOf, B: BookOf + Drop, L: Link, K: Keys, C: Clock,
     ensures failed { result ≡ Err DeskEnd.Write → has_failed outside.new.out ≡ true }
 {
     for taken in 0..MOST_TAKEN {
-        if !take_next(desk, sheet, outside, between)? {
+        if !take_next(desk, sheet, outside, page, between)? {
             break;
         }
     }

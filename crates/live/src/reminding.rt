@@ -16,13 +16,16 @@ use crate::ends::{DeskEnd, told};
 use corrections::BookOf;
 use desk::Desk;
 use entry_log::SlotsOf;
+use screen::Tells;
 use station_texts::news::print_reminder;
 use station_texts::reminder::Reminder;
+use station_texts::told::reminder_told;
 use streams::{Sink, Watched};
 
-/// Gives the scorer a reminder about the other desk, at this place.
-fn tell<W: Sink>(
+/// Gives the scorer, and the page, a reminder about the other desk, at this place.
+fn tell<W: Sink, P: Tells>(
     out: &mut Watched<W>,
+    page: &P,
     place: u32,
     between: &mut Between,
     reminder: Reminder,
@@ -35,6 +38,7 @@ fn tell<W: Sink>(
     ensures failed { result ≡ Err DeskEnd.Write → has_failed out.new ≡ true }
 {
     between.warned = between.warned.after_reminder(reminder);
+    page.tell(reminder_told(place, reminder));
     told(print_reminder(out, place, reminder))
 }
 
@@ -51,9 +55,10 @@ fn is_waited_for<S: SlotsOf, B: BookOf + Drop>(desk: &Desk<S, B>) -> bool
 }
 
 /// Tells the scorer that the other has written, if that is due.
-fn remind_of_writing<S: SlotsOf, B: BookOf + Drop, W: Sink>(
+fn remind_of_writing<S: SlotsOf, B: BookOf + Drop, W: Sink, P: Tells>(
     desk: &Desk<S, B>,
     out: &mut Watched<W>,
+    page: &P,
     between: &mut Between,
     now: u64,
 ) -> Result<(), DeskEnd>
@@ -71,16 +76,17 @@ fn remind_of_writing<S: SlotsOf, B: BookOf + Drop, W: Sink>(
     if is_waited_for(desk) {
         if between.peer.is_late(now) {
             let place = desk.position().place;
-            return tell(out, place, between, Reminder::HasWritten);
+            return tell(out, page, place, between, Reminder::HasWritten);
         }
     }
     Ok(())
 }
 
 /// Tells the scorer that the other desk isn't heard, or that it is heard again, if that is due.
-fn remind_of_silence<S: SlotsOf, B: BookOf + Drop, W: Sink>(
+fn remind_of_silence<S: SlotsOf, B: BookOf + Drop, W: Sink, P: Tells>(
     desk: &Desk<S, B>,
     out: &mut Watched<W>,
+    page: &P,
     between: &mut Between,
     now: u64,
 ) -> Result<(), DeskEnd>
@@ -98,18 +104,19 @@ fn remind_of_silence<S: SlotsOf, B: BookOf + Drop, W: Sink>(
         if is_missed {
             return Ok(());
         }
-        return tell(out, place, between, Reminder::IsHeard);
+        return tell(out, page, place, between, Reminder::IsHeard);
     }
     if is_missed {
-        return tell(out, place, between, Reminder::IsMissed);
+        return tell(out, page, place, between, Reminder::IsMissed);
     }
     Ok(())
 }
 
 /// Gives the scorer the reminders that are due. Time in which this desk itself was held up isn't counted.
-pub fn remind<S: SlotsOf, B: BookOf + Drop, W: Sink>(
+pub fn remind<S: SlotsOf, B: BookOf + Drop, W: Sink, P: Tells>(
     desk: &Desk<S, B>,
     out: &mut Watched<W>,
+    page: &P,
     between: &mut Between,
     now: u64,
 ) -> Result<(), DeskEnd>
@@ -122,6 +129,6 @@ pub fn remind<S: SlotsOf, B: BookOf + Drop, W: Sink>(
     ensures failed { result ≡ Err DeskEnd.Write → has_failed out.new ≡ true }
 {
     between.peer.pass(now);
-    remind_of_writing(desk, out, between, now)?;
-    remind_of_silence(desk, out, between, now)
+    remind_of_writing(desk, out, page, between, now)?;
+    remind_of_silence(desk, out, page, between, now)
 }

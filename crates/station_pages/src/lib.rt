@@ -1,4 +1,4 @@
-//! A station and its page: for a desk the lines typed in the page, the page's own words, its rows and its state; for a board
+//! A station and its page: for a desk the lines typed in the page, the page's own words, what it tells and its state; for a board
 //! what it shows.
 #![tactic(auto)]
 
@@ -6,9 +6,10 @@ mod board_page;
 mod handed;
 mod page_lines;
 mod page_words;
-mod rows;
 mod scorers_page;
 mod sight;
+mod tellings;
+mod told;
 
 pub use board_page::BoardPage;
 pub use handed::HandedLog;

@@ -1,12 +1,14 @@
 //! The page of a desk.
 
 ghost use Rattle.std.specs.Prelude.{◌≡◌};
+ghost use Rattle.screen.specs.Telling.{IsTold};
 ghost use Rattle.sha2.specs.Sha256.{sha256};
 ghost use Rattle.viewers.specs.Replies.{ShowsBook, ShowsOpenly};
 
-use crate::rows::Rows;
+use crate::tellings::Tellings;
 use agree_core::Position;
 use posts::PostedLine;
+use screen::Told;
 use std::alloc::Global;
 use std::os::fd::RawFd;
 use viewers::Viewers;
@@ -15,11 +17,11 @@ use viewers::Viewers;
 /// screen.
 const WATCHERS_COUNT_PAUSE: u64 = 5_000;
 
-/// The page of a desk: its viewers, and the newest rows printed for its scorer.
+/// The page of a desk: its viewers, and what was told last, with its rows.
 #[derive(Drop)]
 pub struct ScorersPage {
     viewers: Viewers,
-    rows: Rows,
+    tellings: Tellings,
     /// The number of viewers last counted, when it was counted, and the number last printed.
     watching: usize,
     counted: u64,
@@ -33,7 +35,7 @@ impl ScorersPage {
     pub fn new(alloc: Global, viewers: Viewers, now: u64) -> ScorersPage {
         ScorersPage {
             viewers,
-            rows: Rows::new(alloc),
+            tellings: Tellings::new(alloc),
             watching: 0,
             counted: 0,
             told: 0,
@@ -56,16 +58,23 @@ impl ScorersPage {
         self.viewers.renew(secret);
     }
 
-    /// Takes what was printed for the scorer.
-    pub fn tell(&mut self, told: &[u8]) {
-        self.rows.take(told);
+    /// Takes what the rows tell that are printed next.
+    pub fn tell(&mut self, told: Told)
+        requires { IsTold told }
+    {
+        self.tellings.begin(told);
     }
 
-    /// Shows the new rows, to the scorer only.
-    pub fn show_rows(&mut self)
+    /// Takes what was printed for the scorer.
+    pub fn print(&mut self, printed: &[u8]) {
+        self.tellings.take(printed);
+    }
+
+    /// Shows what was told last, to the scorer only.
+    pub fn show_told(&mut self)
         ensures { self.new.viewers.shown ≡ self.old.viewers.shown }
     {
-        if let Ok(Some(text)) = self.rows.take_news() {
+        if let Ok(Some(text)) = self.tellings.take_news() {
             self.viewers.put_own_rows(text);
         }
     }
@@ -90,9 +99,10 @@ impl ScorersPage {
     /// Sets the desk's position. Lines typed here for another position are dropped, and a row says so.
     pub fn stand(&mut self, at: Position) {
         if self.viewers.stand(at) > 0 {
-            self.rows
+            self.tellings.begin(Told::PageDropped);
+            self.tellings
                 .take(b"page: dropped, the desk is at another place\n");
-            self.show_rows();
+            self.show_told();
         }
     }
 

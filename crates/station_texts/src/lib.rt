@@ -14,6 +14,7 @@ pub mod refusals;
 pub mod reminder;
 pub mod said;
 pub mod texts;
+pub mod told;
 pub mod warned;
 pub mod who_bowls;
 
