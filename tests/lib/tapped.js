@@ -1,7 +1,9 @@
 // Runs the script of a desk's page over a document of its own, with a clock that stands until it is told, and a desk that answers as it is told.
 //
 // It reads steps as JSON, from standard input, and prints what each `run` and `posted` finds, as one JSON value:
-//   ["desk", state, rows]   the desk tells this state, the digest of that book, and these rows, hidden for the page
+//   ["desk", state, tellings]   the desk tells this state, the digest of that book, and its newest tellings, hidden for the page: these, which
+//                           it numbers, come behind those that it told before
+//   ["begun"]               the desk begins again: it forgets what it told, and counts anew
 //   ["book", value]         what /book.json answers from now on; null: the desk isn't reached
 //   ["between", old, new]   who is between puts the new text in place of the old one in what it answers
 //   ["again", number]       what it told under this number comes once more
@@ -78,6 +80,8 @@ function documentOf() {
 const kept = new Map([["secret", SECRET.toString("hex")]]);
 let time = 1e6, timers = [], page = null, number = 0, fetched = 0, book = null, between = ["", ""];
 let isReached = true, isAnswered = true;
+let told = [];
+const MOST_ROWS = 40;
 const posted = [], frames = [], shaken = [];
 // The digest of each book that the desk has in these steps, by how many entries it has.
 const sums = new Map(steps.filter(([name, value]) => name === "book" && value).map(([, value]) => [value.entries, crypto.createHash("sha256").update(JSON.stringify(value)).digest("hex")]));
@@ -151,11 +155,24 @@ function buttons(within) {
   return (top.name === "button" ? [top] : top.all().filter(it => it.name === "button")).filter(it => key === undefined || it.dataset[key] === value);
 }
 
+// The newest tellings, with together at most so many rows, or one with more.
+function newestTold() {
+  let from = told.length - 1, rows = 0;
+  while (from > 0 && rows + told[from].rows.length + told[from - 1].rows.length <= MOST_ROWS) {
+    rows += told[from].rows.length;
+    from -= 1;
+  }
+  return told.slice(Math.max(from, 0));
+}
+
 const STEPS = {
-  async desk(state, rows = []) {
+  async desk(state, tellings = []) {
     number += 1;
+    const begun = told.length;
+    told.push(...tellings.map((it, n) => ({ number: begun + n + 1, ...it })));
     const sum = sums.get(state.news.entries) || "0".repeat(64);
-    const hidden = turned(Buffer.from("page " + number), Buffer.from([JSON.stringify(state), sum, JSON.stringify(rows), ""].join("\n")));
+    const lines = [JSON.stringify(state), sum, ...(told.length > 0 ? [JSON.stringify(newestTold())] : []), ""];
+    const hidden = turned(Buffer.from("page " + number), Buffer.from(lines.join("\n")));
     const tag = hmac(hmac(SECRET, "frame"), "page " + number + " ", hidden);
     frames.push(tag.toString("hex") + hidden.toString("hex"));
     await STEPS.again(number);
@@ -164,6 +181,7 @@ const STEPS = {
     page.source.onmessage({ data: frames[number - 1], lastEventId: String(number) });
     await pass(400);
   },
+  async begun() { told = []; },
   async book(value) { book = value; },
   async between(old, by) { between = [old, by]; },
   async tap(within, text) {

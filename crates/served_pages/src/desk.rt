@@ -2,7 +2,7 @@
 
 /// What may be run and loaded in the page: its own style and script, and what it asks of its station.
 pub const POLICY: &[u8] =
-    b"default-src 'none'; script-src 'sha256-e+9aTXcF2luDdMHOAzDGRpsyjfR+D1sFaSzFXya+vUI='; style-src 'sha256-fG+D0r1ggOak2xF6bZb012y2J1FY5fn76VrsA2XuLZs='; connect-src 'self'; img-src data:; base-uri 'none'; form-action 'none'; frame-ancestors 'none'";
+    b"default-src 'none'; script-src 'sha256-9M34AJR80GQ5W9rVUzoKEXJy85S75k13X0FmJJSXtqo='; style-src 'sha256-fG+D0r1ggOak2xF6bZb012y2J1FY5fn76VrsA2XuLZs='; connect-src 'self'; img-src data:; base-uri 'none'; form-action 'none'; frame-ancestors 'none'";
 
 /// The page.
 pub const PAGE: &[u8] = b"<!DOCTYPE html>
@@ -15,7 +15,7 @@ pub const PAGE: &[u8] = b"<!DOCTYPE html>
 <meta name=\"apple-mobile-web-app-capable\" content=\"yes\">
 <link rel=\"icon\" href=\"data:image/svg+xml,%3Csvg xmlns='http://www.w3.org/2000/svg' viewBox='0 0 96 96'%3E%3Crect width='96' height='96' rx='18' fill='%230f5a2c'/%3E%3Cpath d='M30 78V26m18 52V26m18 52V26M26 22h18m8 0h18' stroke='%23fff' stroke-width='7' stroke-linecap='round'/%3E%3C/svg%3E\">
 <title>Desk</title>
-<!-- A scorer's page, for a telephone in one hand, a tablet or a laptop. A desk serves it: it tells its state and its rows (GET /events), and takes
+<!-- A scorer's page, for a telephone in one hand, a tablet or a laptop. A desk serves it: it tells its state and what its scorer is told (GET /events), and takes
      what a scorer would type there (POST /line). The page writes only such lines, most of them short ones. What stands in the book it has from the
      desk (GET /book.json, and with each state what is new), and each figure is the desk's. A line that was tapped stands for three seconds, or as
      long as a finger rests, and may be taken back (?grace=1200 behind the address for another time), then it is sent once, with the place and the
@@ -411,9 +411,9 @@ let newest = 0;          // the number of the newest that the desk hid for this 
 let isAltered = false;   // whether what came last wasn't the desk's
 let told = nothingTold();
 
-// What the rows tell, from those that the desk keeps on: what its state doesn't.
+// What the desk tells its scorer beside its state: the tellings that came last, the rows to be shown, and what these tellings say.
 function nothingTold() {
-  return { all: [], rows: [], differs: null, other: null, isHeard: true, doubts: null, correction: null };
+  return { came: [], last: null, rows: [], differs: null, other: null, isHeard: true, doubts: null };
 }
 
 const isKnown = () => state !== null && state.format === \"yermudosh desk 1\";
@@ -517,19 +517,28 @@ async function listen() {
   asked = Date.now();
   if (path === null) { isOpen = false; return later(); }
   const stream = source = new EventSource(path);
-  stream.onopen = () => { told = nothingTold(); isLive = false; isFirst = true; isOpen = true; hearAgain(); };
+  stream.onopen = () => { isLive = false; isFirst = true; isOpen = true; hearAgain(); };
   stream.onerror = () => { stream.close(); if (stream === source) isOpen = false; later(); };
   stream.onmessage = event => { if (stream === source) takeTold(event.data, event.lastEventId); };
   stream.addEventListener(\"beat\", () => { isLive = true; hearAgain(); });
 }
 
-// The newest rows, of which those that came before are known.
-function newRows(rows) {
-  const known = told.all;
-  let from = 0;
-  while (known.slice(from).some((row, n) => row !== rows[n])) from += 1;
-  told.all = rows;
-  return rows.slice(known.length - from);
+const lastNumber = tellings => tellings.length > 0 ? tellings[tellings.length - 1].number : 0;
+
+// Whether what came goes on behind what is known. A desk that has begun again counts anew, and tells other things under the same numbers.
+function goesOn(came) {
+  const known = new Map(told.came.map(it => [it.number, JSON.stringify(it)]));
+  const both = came.filter(it => known.has(it.number));
+  if (isFirst && both.length === 0 || lastNumber(came) < lastNumber(told.came)) return false;
+  return both.every(it => known.get(it.number) === JSON.stringify(it));
+}
+
+// The tellings that are new. What a desk told before it began again is forgotten.
+function newTellings(came) {
+  if (!goesOn(came)) told = nothingTold();
+  const last = lastNumber(told.came);
+  told.came = came;
+  return came.filter(it => it.number > last);
 }
 
 // What came isn't what the desk told this page: it is dropped, and the desk is asked anew.
@@ -539,7 +548,7 @@ function dropTold() {
   later();
 }
 
-// An event has the desk's state; to who is signed, and hidden, with what the scorer wrote, and the newest rows.
+// An event has the desk's state; to who is signed, and hidden, with what the scorer wrote, and the newest tellings.
 function takeTold(data, number) {
   const isForAll = data.startsWith(\"{\");
   if (secret === null) return isForAll ? takeBoth(JSON.parse(data), []) : listen();
@@ -548,19 +557,20 @@ function takeTold(data, number) {
   isAltered = text === null || Number(number) < newest;
   if (isAltered) return dropTold();
   reach(Number(number));
-  const [next, sum, rows] = text.trim().split(\"\\n\");
+  const [next, sum, tellings] = text.trim().split(\"\\n\");
   bookSum = sum;
-  takeBoth(JSON.parse(next), rows ? JSON.parse(rows) : []);
+  takeBoth(JSON.parse(next), tellings ? JSON.parse(tellings) : []);
 }
 
-function takeBoth(next, rows) {
+function takeBoth(next, tellings) {
   isLive = isLive || !isFirst;
-  newRows(rows).forEach(hear);
+  newTellings(tellings).forEach(hear);
   take(next);
 }
 
 function take(next) {
   const isAnother = state === null || state.place !== next.place || state.round !== next.round;
+  const before = state === null ? null : standing();
   if (state !== null && state.match !== next.match) book = null;
   state = { pending: null, held: [], ...next };
   version += 1;
@@ -575,73 +585,104 @@ function take(next) {
     if (state.wants !== \"bowler\") bowler = null;
   }
   if (sent && sent.before !== standing()) sent = null;
+  if (isSlip(note) && before !== standing()) note = null;
   hearAgain();
   if (isLive) deliver();
 }
 
-// The words of corrections, and what is said of what they have changed.
+// ---- What each telling says, by its code: docs/FORMATS.md. Its rows are for showing alone.
+const ANSWERS = new Set([\"shown\", \"goes_on\", \"plan\", \"no_plan\"]);
+const UNWRITTEN = new Set([\"unclear\", \"say_again\", \"none_differs\", \"waiting\", \"withheld\", \"refused\",
+  \"not_taken\", \"dropped\", \"full\", \"no_text\", \"was_held\", \"untaken\", \"is_cast\"]);
+// Those of them that may come long after the line was typed.
+const LATE = new Set([\"not_taken\", \"dropped\"]);
+const WARNINGS = new Set([\"other_lacks\", \"lacks_lines\", \"peer\"]);
+const QUIET = new Set([\"stands\", \"pending\", \"held\", \"holds\", \"page_dropped\"]);
+
+// What is said of what a correction has changed, by its first word.
 const CORRECTED = { fix: \"Put right\", late: \"Added\" };
+const firstWord = line => line === null ? \"\" : line.split(\" \")[0];
 
-// What the other scorer wrote where the two differ, behind the row of the own line.
-const THEIRS = /^ {2}the other (.*)$/;
+// What some tellings say that the state doesn't.
+const FOLLOWED = {
+  differs: ({ place, own, other }) => { told.differs = { place, own, other, dropped: \"\" }; told.other = null; },
+  dropped: it => { if (isOfDifference(it)) told.differs.dropped = textOf(it.rows); },
+  has_written: ({ place }) => { told.other = place; if (isLive) shake(60); },
+  is_missed: () => { told.isHeard = false; },
+  is_heard: () => { told.isHeard = true; },
+  lacks_lines: ({ rows }) => { told.doubts = textOf(rows); },
+  has_lines: () => { told.doubts = null; },
+  goes_on: () => { told.doubts = null; },
+};
 
-// What a row says of the other scorer and of the desk.
-function follow(row) {
-  const agreed = /^\\d+ agreed: (\\w+)/.exec(row);
-  const two = /^(\\d+) differs: you (.*),$/.exec(row);
-  const theirs = THEIRS.exec(row);
-  const other = /^(\\d+) the other has written$/.exec(row);
-  if (agreed) told.correction = CORRECTED[agreed[1]] || null;
-  else if (two) { told.differs = { place: Number(two[1]), you: two[2], other: null }; told.other = null; }
-  else if (theirs && told.differs && told.differs.other === null) told.differs.other = theirs[1];
-  else if (other) { told.other = Number(other[1]); if (isLive) shake(60); }
-  else if (row === \"the other desk isn't heard\") told.isHeard = false;
-  else if (row === \"the other desk is heard again\") told.isHeard = true;
-  else if (row.startsWith(\"this file lacks lines that \")) told.doubts = row;
-  else if (row.startsWith(\"this desk goes on \") || row.startsWith(\"the other desk is at the same place\")) told.doubts = null;
-  else if (row.startsWith(\"dropped \") && THEIRS.test(told.rows[told.rows.length - 2])) told.differs.dropped = row;
+const textOf = rows => rows.map(row => row.trim()).join(\"\\n\");
+
+// Whether these lines were dropped because the two differ, which was told just before.
+const isOfDifference = it => it.told === \"dropped\" && told.last !== null && told.last.told === \"differs\";
+
+const isUnwritten = it => UNWRITTEN.has(it.told) && !isOfDifference(it);
+
+// Whether this is the desk's answer to what was sent, and changes nothing. What is written the state shows, which may come later.
+const isAnswer = it => sent !== null && (isUnwritten(it) || sent.isQuestion && ANSWERS.has(it.told));
+
+// How a row of a telling looks.
+function rowKind(code, n) {
+  if (code === \"agreed\") return n === 0 ? \"agreed\" : \"\";
+  if (code === \"differs\" || UNWRITTEN.has(code) || WARNINGS.has(code)) return \"wrong\";
+  return QUIET.has(code) ? \"stands\" : \"\";
 }
 
-const WRONG = new RegExp(\"^(fault |refused |which one|no such (player|ball)|who (bowls|is out)|undo: |[wb]: |\\\\w+ has no fielder|\" +
-  \"\\\\d+ (not taken|doesn't differ|is cast|isn't written|differs: begin)|dropped |24 lines |not held|peer: |not a peer|cannot |this file |this is the copy|the other desk's file |its file |votes)\");
-const CHANGED = /^(now: |innings \\d+: |\\.\\. and )/;
-// Rows that come of the other desk and of files: no answer to a line.
-const UNASKED = /^(peer: |not a peer|the other desk|this file |page: |\\d+ the other has written)/;
-
-// Whether a row is the desk's answer to what was sent, and says that nothing is written. What is written the state shows, which may come later.
-const isAnswer = (row, isWrong) => sent !== null && !UNASKED.test(row) && (isWrong || sent.isQuestion);
-
-// What the scorer is to read before going on: a row that says why a line isn't taken, or what a correction has changed. Not what was told before this page came.
-function heed(row) {
-  if (!isLive && !sent) return;
-  const isWrong = WRONG.test(row) && !(told.differs && told.differs.dropped === row);
-  const isMore = note && now() - note.since < 500 && (isWrong || row.startsWith(\"  \") && !THEIRS.test(row) || CHANGED.test(row));
-  if (isMore) note.detail += \"\\n\" + row.trim();
-  else if (isWrong && isAnswer(row, true)) tell(\"bad\", \"Not written: \" + sent.label, row, PLANNED.test(sent.line) ? sent.line : null);
-  else if (isWrong) tell(\"bad\", \"The desk says\", row);
-  else if (CHANGED.test(row) && told.correction) tell(\"ask\", told.correction + \". Read it first\", row);
-  if (isAnswer(row, isWrong)) sent = null;
+function keepRows(it) {
+  told.rows.push(...it.rows.map((text, n) => ({ text, kind: rowKind(it.told, n) })));
+  told.rows = told.rows.slice(-ROWS);
 }
 
-// A line that corrects or adds.
-const PLANNED = /^(fix|late) \\d+ /;
+const SAYS = \"The desk says\";
 
-// A row of the list that was asked for, or why there is none.
-function takePlanned(row) {
-  if (planned === null || UNASKED.test(row)) return;
-  if (PLANNED.test(row)) return planned.lines.push(row);
+// What wasn't sent from here stands below what is still to be read; a slip at the terminal, which is seen there, isn't added.
+function say(kind, detail) {
+  if (note === null || isSlip(note) && kind === \"\") tell(kind, SAYS, detail);
+  else if (kind === \"bad\") tell(kind, note.head, note.detail + \"\\n\" + detail, note.line);
+}
+
+// What a correction has changed, behind the rows of what is agreed and of how the match stands.
+function tellChanged({ line, rows }) {
+  const head = CORRECTED[firstWord(line)], changed = rows.slice(2);
+  if (head && changed.length > 0) tell(\"ask\", head + \". Read it first\", textOf(changed));
+}
+
+// Whether this answers the page's question for a list of lines.
+const isOfPlan = it => planned !== null && planned.lines.length === 0 && (it.told === \"plan\" || it.told === \"no_plan\" || isUnwritten(it) && sent !== null);
+
+// The list of lines that was asked for, or why there is none.
+function takePlanned(it) {
+  planned.lines = it.told === \"plan\" ? it.rows.slice(0, it.lines) : [];
   if (planned.lines.length > 0) return;
   const { label } = planned;
   planned = null;
-  tell(\"bad\", \"No lines: \" + label, row);
+  tell(\"bad\", \"No lines: \" + label, textOf(it.rows));
 }
 
-function hear(row) {
-  told.rows.push(row);
-  if (told.rows.length > ROWS) told.rows.shift();
-  follow(row);
-  takePlanned(row);
-  heed(row);
+// A line that corrects or adds.
+const CORRECTION = /^(fix|late) \\d+ /;
+
+// What the scorer is to read before going on. Not what was told before this page came.
+function heed(it) {
+  const detail = textOf(it.rows);
+  if (isOfPlan(it)) takePlanned(it);
+  else if (!isLive && !sent) return;
+  else if (isUnwritten(it) && sent) tell(\"bad\", \"Not written: \" + sent.label, detail, CORRECTION.test(sent.line) ? sent.line : null);
+  else if (isUnwritten(it)) say(LATE.has(it.told) ? \"bad\" : \"\", detail);
+  else if (WARNINGS.has(it.told)) say(\"bad\", detail);
+  else if (it.told === \"agreed\") tellChanged(it);
+  if (isAnswer(it)) sent = null;
+}
+
+function hear(it) {
+  keepRows(it);
+  if (FOLLOWED[it.told]) FOLLOWED[it.told](it);
+  heed(it);
+  told.last = it;
   hearAgain();
 }
 
@@ -751,9 +792,12 @@ async function stayOn() {
 
 function tell(kind, head, detail, line = null) {
   if (kind === \"bad\") shake(120, 60, 120);
-  note = { kind, head, detail, line, since: now() };
+  note = { kind, head, detail, line };
   later();
 }
+
+// Whether a note is of a slip at the terminal, which keeps nobody from going on.
+const isSlip = it => it !== null && it.kind === \"\";
 
 // Whether what is tapped is kept for when the desk is back.
 const mayKeep = () => isKnown() && isLost() && secret !== null && !isAltered && told.doubts === null;
@@ -1196,9 +1240,10 @@ function askBowler(then) {
 // A delivery. The first of an over is written with its bowler.
 function ball(line, label) {
   const needs = amend === null && bowler === null && wants() === \"bowler\";
-  const own = needs && differs() && told.differs && /^ball (\\d+) /.exec(told.differs.you);
-  if (own) bowler = Number(own[1]);
-  if (needs && !own) return askBowler(number => { bowler = number; ball(line, label); });
+  const [word, own] = needs && differs() && told.differs && told.differs.own ? told.differs.own.split(\" \") : [];
+  const isOwn = word === \"ball\";
+  if (isOwn) bowler = Number(own);
+  if (needs && !isOwn) return askBowler(number => { bowler = number; ball(line, label); });
   if (amend !== null || bowler === null) return write(line, label);
   write(bowler + \": \" + line, name(other(batting()), bowler) + \": \" + label);
 }
@@ -1502,11 +1547,11 @@ function bothWords(line) {
 
 function differsView() {
   if (!differs() || amend) return null;
-  const two = told.differs && told.differs.place === state.place && told.differs.other !== null ? told.differs : null;
+  const two = told.differs && told.differs.place === state.place && told.differs.own !== null && told.differs.other !== null ? told.differs : null;
   const third = { innings: [\"Another side\", askInnings], batter: [\"Another\", askComer] }[state.wants];
-  const lines = two ? [\"You: \" + bothWords(two.you), \"The other: \" + bothWords(two.other)] : [];
-  const detail = [...lines, \"Talk, then both write what it was.\", two && two.dropped || \"\"].join(\"\\n\").trim();
-  const mine = [\"Mine stands\", () => write(\"again\", \"mine stands\" + (two ? \", \" + inWords(two.you) : \"\"))];
+  const lines = two ? [\"You: \" + bothWords(two.own), \"The other: \" + bothWords(two.other)] : [];
+  const detail = [...lines, \"Talk, then both write what it was.\", two ? two.dropped : \"\"].join(\"\\n\").trim();
+  const mine = [\"Mine stands\", () => write(\"again\", \"mine stands\" + (two ? \", \" + inWords(two.own) : \"\"))];
   const others = two ? [[\"The other's\", () => write(two.other, inWords(two.other))]] : [];
   return { kind: \"bad\", head: \"You two differ at place \" + state.place, detail, answers: [mine, ...others, ...(third ? [third] : [])] };
 }
@@ -1801,12 +1846,6 @@ function drawPads() {
   }
 }
 
-function rowKind(row) {
-  if (/^\\d+ agreed: /.test(row)) return \"agreed\";
-  if (WRONG.test(row) || /^\\d+ differs/.test(row) || THEIRS.test(row)) return \"wrong\";
-  return /^\\d+ (pending|held|next)|^page/.test(row) ? \"stands\" : \"\";
-}
-
 // The last row stays in sight, unless the scorer looks at earlier ones.
 function follows() {
   if (isAtEnd) at(\"rows\").scrollTop = at(\"rows\").scrollHeight;
@@ -1814,7 +1853,7 @@ function follows() {
 
 function drawRows() {
   if (!isNew(\"rows\", [told.rows.length, told.rows[told.rows.length - 1], version])) return;
-  at(\"rows\").replaceChildren(...told.rows.map(row => element(\"div\", row || \" \", rowKind(row))));
+  at(\"rows\").replaceChildren(...told.rows.map(({ text, kind }) => element(\"div\", text || \" \", kind)));
   follows();
 }
 
