@@ -2,7 +2,7 @@
 
 /// What may be run and loaded in the page: its own style and script, and what it asks of its station.
 pub const POLICY: &[u8] =
-    b"default-src 'none'; script-src 'sha256-9M34AJR80GQ5W9rVUzoKEXJy85S75k13X0FmJJSXtqo='; style-src 'sha256-fG+D0r1ggOak2xF6bZb012y2J1FY5fn76VrsA2XuLZs='; connect-src 'self'; img-src data:; base-uri 'none'; form-action 'none'; frame-ancestors 'none'";
+    b"default-src 'none'; script-src 'sha256-skRoCh8wUexzV5p71oEtoAaq0VCluv41bh31IKvbZdY='; style-src 'sha256-fG+D0r1ggOak2xF6bZb012y2J1FY5fn76VrsA2XuLZs='; connect-src 'self'; img-src data:; base-uri 'none'; form-action 'none'; frame-ancestors 'none'";
 
 /// The page.
 pub const PAGE: &[u8] = b"<!DOCTYPE html>
@@ -596,7 +596,7 @@ const UNWRITTEN = new Set([\"unclear\", \"say_again\", \"none_differs\", \"waiti
   \"not_taken\", \"dropped\", \"full\", \"no_text\", \"was_held\", \"untaken\", \"is_cast\"]);
 // Those of them that may come long after the line was typed.
 const LATE = new Set([\"not_taken\", \"dropped\"]);
-const WARNINGS = new Set([\"other_lacks\", \"lacks_lines\", \"peer\"]);
+const WARNINGS = new Set([\"other_lacks\", \"lacks_lines\", \"peer\", \"network\"]);
 const QUIET = new Set([\"stands\", \"pending\", \"held\", \"holds\", \"page_dropped\"]);
 
 // What is said of what a correction has changed, by its first word.
@@ -645,9 +645,9 @@ function say(kind, detail) {
   else if (kind === \"bad\") tell(kind, note.head, note.detail + \"\\n\" + detail, note.line);
 }
 
-// What a correction has changed, behind the rows of what is agreed and of how the match stands.
+// How the match stands after a correction, and what that has changed.
 function tellChanged({ line, rows }) {
-  const head = CORRECTED[firstWord(line)], changed = rows.slice(2);
+  const head = CORRECTED[firstWord(line)], changed = rows.slice(1);
   if (head && changed.length > 0) tell(\"ask\", head + \". Read it first\", textOf(changed));
 }
 
