@@ -1,5 +1,5 @@
 -- What a desk tells its scorer, as values.
-use Rattle.std.specs.Prelude.{IfSome, Unit}
+use Rattle.std.specs.Prelude.{IfSome}
 use Rattle.notation.specs.Written.{IsEntry}
 use Rattle.screen.specs.declared.told.Told.{Told}
 use Rattle.screen.specs.declared.told.Told.TheVariants.{Agreed, Pending, Differs}
