@@ -1,13 +1,13 @@
 -- What a desk tells its scorer as values, one for the rows that it prints at once: chosen by what came or what was typed, alike
 -- for every sheet and book.
-use Rattle.std.specs.Prelude.{ℕ, Bool, true, false, Option, Some, None, length}
+use Rattle.std.specs.Prelude.{ℕ, Bool, true, false, Option, Some, None, vec_len}
 use Rattle.notation.specs.declared.entry.Entry.{Entry}
 use Rattle.agree_core.specs.declared.{position.Position.Position, seat.Settled.Settled, seat.Heard.Heard}
 use Rattle.wire.specs.declared.what.What.{What}
 use Rattle.desk.specs.Refusal.{number_of}
 use Rattle.desk.specs.declared.refusal.Refusal.{Refusal}
 use Rattle.links.specs.declared.aside.Aside.{Aside}
-use Rattle.plans.specs.declared.{plan.Plan.Plan, planned.Planned.Planned}
+use Rattle.plans.specs.declared.{plan.Plan.Plan, planning.Planned.Planned}
 use Rattle.screen.specs.declared.{told.Told.Told, word.Word.Word}
 use Rattle.station_texts.specs.declared.{doubt.Doubt.Doubt, doubt.Evidence.Evidence, reminder.Reminder.Reminder, said.Said.Said, warned.Warned.Warned}
 use Rattle.station_texts.specs.Texts.{why_full}
@@ -69,7 +69,7 @@ aside_told (Aside.Untaken place line) = Told.Untaken place
 aside_told (Aside.IsCast place) = Told.IsCast place
 
 abbrev pub planned_told : Planned → Told
-planned_told (Planned.Plan (Plan.Lines lines)) = Told.Plan (length lines)
+planned_told (Planned.Plan (Plan.Lines lines)) = Told.Plan (vec_len lines)
 planned_told planned = Told.NoPlan
 
 -- a word that asks to see something

@@ -134,7 +134,8 @@ pub fn aside_told(aside: &Aside) -> Told
 
 /// Returns what the answer to `plan` tells.
 fn planned_told(planned: &Planned) -> Told
-    ensures { result ≡ values.planned_told planned.now }
+    ensures told { result ≡ values.planned_told planned.now }
+    ensures fine { IsTold result }
 {
     match planned {
         Planned::Plan(Plan::Lines(lines)) => Told::Plan(lines.len()),
