@@ -1,12 +1,16 @@
 """Hands a match over to a second laptop, for its desk B: sheet, key, and where desk A and the board are, sealed under a code (sealed.py).
 
 usage: python3 tools/hand_over.py give HOST PORT DESK-A BOARD [late]
+       python3 tools/hand_over.py ask HOST PORT LINK NAME
        python3 tools/hand_over.py take PROGRAM PORT [INVITE]
+       python3 tools/hand_over.py watch PROGRAM PORT INVITE
 
 `give` makes a code, which is good for one laptop and ten minutes, and tells what becomes of it, a line each. `take`, at the other laptop, asks
 its user for address and code. Both write other.txt, which says where the other laptop's stations are. Until both have all, neither
 has changed anything. Once both have the match, `late` and the address INVITE, which is the first laptop's, stand for a code that both make of
-the match's key: by that the second laptop gets a sheet in which one player has another name, and no other. A wrong try costs its own address one of ten. Who sends too much, or too slowly, isn't heard.
+the match's key: by that the second laptop gets a sheet in which one player has another name, and no other. Before, `ask` gives it the link
+by which scorer B is asked about that name. `watch` takes both as they come, and prints a line each: `asks LINK NAME`, `renamed NEWS`. A wrong try
+costs its own address one of ten. Who sends too much, or too slowly, isn't heard.
 """
 import json, os, re, secrets, socket, subprocess, sys, threading, time
 
@@ -17,7 +21,10 @@ PATIENCE = float(os.environ.get("INVITE_SECONDS", 600))  # for which a code is g
 TURN = 20  # seconds, for one exchange
 TRIES, ADDRESSES, AT_ONCE = 10, 256, 2  # an address's wrong tries and exchanges at once; addresses that try
 SMALL, LARGE, STEP = 1024, 1 << 20, 4096
-HELLO = b"yermudosh invite 1\n"
+HELLO, LATE_HELLO = b"yermudosh invite 1\n", b"yermudosh rename 1\n"  # of one length
+PAUSE = 2  # seconds between two looks at the first laptop
+FILES = "match.key", "other.txt", "sheet.toml"  # in this order they are put in their places
+LINK = re.compile(r"http://\d{1,3}(?:\.\d{1,3}){3}:\d{1,5}/#[0-9a-f]{32}")
 PLACE = re.compile(r"\d{1,3}(?:\.\d{1,3}){3}:\d{1,5}")
 
 
@@ -89,12 +96,12 @@ def late_code():
 
 
 class Offer:
-    """A code, and who tried it."""
+    """What is told by a code, and who tried it."""
 
-    def __init__(self, place, desk_a, board, is_late):
-        self.code = late_code() if is_late else sealed.new_code()
-        self.secret, self.end = sealed.secret_of(self.code), time.monotonic() + PATIENCE
-        told = json.dumps({"sheet": content("sheet.toml"), "key": content("match.key"), "a": desk_a, "board": board, "invite": place}).encode()
+    def __init__(self, it, is_late):
+        self.code, self.hello = (late_code(), LATE_HELLO) if is_late else (sealed.new_code(), HELLO)
+        self.secret, self.end, self.is_match = sealed.secret_of(self.code), time.monotonic() + PATIENCE, "sheet" in it
+        told = json.dumps(it).encode()
         self.told = told.ljust((len(told) // STEP + 1) * STEP)
         self.lock, self.wrong, self.going, self.is_over = threading.Lock(), {}, {}, False
 
@@ -123,13 +130,14 @@ class Offer:
             os._exit(0)
 
     def claim(self, place):
-        """Gives the match to that laptop, unless it is another's by now."""
+        """Gives the match, if it is that, to that laptop, unless it is another's by now."""
         with self.lock:
             if self.is_over or time.monotonic() > self.end:
                 return False
             try:
-                write("other.txt.new", f"b {place}\n")
-                rename("other.txt")
+                if self.is_match:
+                    write("other.txt.new", f"b {place}\n")
+                    rename("other.txt")
             except OSError as why:
                 say(f"other.txt can't be written: {why.strerror}")
                 os._exit(0)
@@ -150,7 +158,7 @@ class Offer:
     def answer(self, it, end):
         """Answers whether it was a wrong try. Who hasn't the code gets a nonce alone."""
         mine = secrets.token_bytes(sealed.NONCE)
-        it.sendall(HELLO + mine)
+        it.sendall(self.hello + mine)
         ours, theirs = sealed.both(self.secret, mine + received(it, sealed.NONCE, end))
         asked = theirs.open(0, received_frame(it, SMALL, end))
         if asked is None:
@@ -165,13 +173,21 @@ class Offer:
             try:
                 send_frame(it, ours.seal(1, b"go"))
             finally:
-                say(f"given {place}")
+                say(f"given {place}" if self.is_match else "asked")
                 os._exit(0)
         return False
 
 
 def give(host, port, desk_a, board, late=""):
-    offer = Offer(f"{host}:{port}", desk_a, board, late)
+    serve(Offer({"sheet": content("sheet.toml"), "key": content("match.key"), "a": desk_a, "board": board, "invite": f"{host}:{port}"}, late), host, port)
+
+
+def ask(host, port, link, name):
+    serve(Offer({"ask": link, "name": name}, True), host, port)
+
+
+def serve(offer, host, port):
+    """Waits for the one who has the code."""
     with socket.create_server((host, int(port)), backlog=64) as door:
         say(f"code {host}{'' if port == '8003' else ':' + port} {offer.code}")
         door.settimeout(0.2)
@@ -213,10 +229,10 @@ def connected(host, port):
 
 
 def taken(it, code, port, program, is_late=False):
-    """Takes what the first laptop gives. It is put in its place once both have all. It answers what is new in a late sheet."""
+    """Takes what the first laptop gives. A match is put in its place once both have all. It answers what is new of a late name."""
     end = time.monotonic() + TURN
     mine, hello = secrets.token_bytes(sealed.NONCE), received(it, len(HELLO) + sealed.NONCE, end)
-    if not hello.startswith(HELLO):
+    if not hello.startswith(LATE_HELLO if is_late else HELLO):
         raise EOFError
     theirs, ours = sealed.both(sealed.secret_of(code), hello[len(HELLO) :] + mine)
     own = it.getsockname()[0]
@@ -225,14 +241,28 @@ def taken(it, code, port, program, is_late=False):
     told = theirs.open(0, received_frame(it, LARGE, end))
     if told is None:
         raise EOFError
-    keep(json.loads(told), own, program)
-    news = late_name(program) if is_late else None
+    match = json.loads(told)
+    is_ask = is_late and "ask" in match
+    news = asked_of_b(match) if is_ask else kept(match, own, program, is_late)
     send_frame(it, ours.seal(1, b"have"))
     if theirs.open(1, received_frame(it, SMALL, end)) != b"go":
         raise EOFError
-    for name in ("match.key", "other.txt", "sheet.toml"):
+    for name in () if is_ask else FILES:
         rename(name)
     return news
+
+
+def asked_of_b(it):
+    """What scorer B is asked about a late name, and by which link."""
+    if not LINK.fullmatch(it["ask"]) or not it["name"].isprintable():
+        raise EOFError
+    return f"asks {it['ask']} {it['name']}"
+
+
+def kept(match, own, program, is_late):
+    """Writes a match beside what is there, and answers what is new in a late sheet."""
+    keep(match, own, program)
+    return f"renamed {late_name(program)}" if is_late else None
 
 
 def late_name(program):
@@ -276,15 +306,30 @@ def take(program, port, invite=None):
             news = taken(it, code, port, program, invite is not None)
         if news:
             say(news)
-    except (EOFError, OSError, ValueError, KeyError):
+    except (EOFError, OSError, ValueError, KeyError, TypeError, AttributeError):
         raise Refused("not taken: the code is wrong, used or old, or something on the way altered it; type invite at the first laptop for a new one") from None
+
+
+def watch(program, port, invite):
+    """Takes what the first laptop has about late names, whenever it has something."""
+    while True:
+        try:
+            take(program, port, invite)
+        except (Refused, OSError):
+            clear()
+        time.sleep(PAUSE)
+
+
+def clear():
+    """Removes what wasn't put in its place."""
+    for name in FILES:
+        if os.path.exists(f"{name}.new"):
+            os.remove(f"{name}.new")
 
 
 if __name__ == "__main__":
     try:
-        {"give": give, "take": take}[sys.argv[1]](*sys.argv[2:])
+        {"give": give, "ask": ask, "take": take, "watch": watch}[sys.argv[1]](*sys.argv[2:])
     except (Refused, OSError) as why:
-        for name in ("sheet.toml", "match.key", "other.txt"):
-            if os.path.exists(f"{name}.new"):
-                os.remove(f"{name}.new")
+        clear()
         sys.exit(f"start: {why}")

@@ -9,7 +9,7 @@ it does once. With STATE, a file of a name and a value a line, it shows that, an
 `name home 7 Khan`, `toss home bat`. For a late name STATE has a code for each scorer too. Who has that of A sees the name, the answers and A's
 next link alone, and has `agree a 1` or `refuse a 1` printed, 1 being the name's number.
 """
-import glob, http.server, json, os, re, secrets, socket, subprocess, sys, tempfile, threading, time
+import glob, http.server, json, os, re, secrets, socket, subprocess, sys, tempfile, threading
 
 sys.dont_write_bytecode = True
 import lobby_match, sealed, squares, toss
@@ -17,76 +17,21 @@ import lobby_match, sealed, squares, toss
 HERE = os.path.dirname(os.path.realpath(__file__))
 LARGE, SECONDS, SESSIONS, SHEETS = 1 << 16, 10, 4096, 60
 AT_ONCE, OF_ONE = 64, 8  # connections at once, and those of one address
-SIDES, BEGUN = toss.SIDES, lobby_match.BEGUN
-OTHERWISE = "sheet: the program reads something else than what stands here: take plainer letters"
+BEGUN = lobby_match.BEGUN
 
 
-def scripts():
-    """The scorer's page's own script for tags."""
-    page = next(it for it in (f"{HERE}/../examples/desk.html", f"{HERE}/../../share/yermudosh/examples/desk.html") if os.path.exists(it))
-    text = lobby_match.text_of(page)
-    return text[text.index("// ---- Tags and keystreams") : text.index("// The bytes of 32 hex digits")]
+def found(path):
+    """A file of these sources, as it stands in them or in a package."""
+    places = f"{HERE}/../{path}", f"{HERE}/{os.path.basename(path)}", f"{HERE}/../../share/yermudosh/{path}"
+    return lobby_match.text_of(next(it for it in places if os.path.exists(it)))
 
 
-# A sheet, of what was chosen
-
-
-# What lists have before a name, a number, and behind it: that he is the captain or keeps the wicket.
-NUMBER = re.compile(r"^[0-9]{1,2}[.)]?\s+|^[0-9]{1,2}[.)]")
-MARKS = re.compile(r"( *(\((c|vc|wk?|c ?[&/] ?wk?|wk? ?[&/] ?c)\)|[*†]))+$", re.I)
-
-
-def players(text):
-    """The names of a list: one a line, or with commas between; numbers before them and marks behind them are left out."""
-    names = [MARKS.sub("", NUMBER.sub("", it.strip()).strip()).strip() for it in re.split(r"[,;\t\r\n]", text)]
-    return [it for it in names if it]
-
-
-def filled(names):
-    return names + [f"Player {number}" for number in range(len(names) + 1, 12)]
-
-
-def chosen(form):
-    """What is to stand in the sheet, by its keys: texts, and lists of them. A form has texts alone, and free hits or none."""
-    text = lambda name: form.get(name, "").strip()
-    side = lambda name: (text(name), filled(players(form.get(f"{name}_players", ""))))
-    found = {"number": form["number"], "innings": text("innings") or "1", **{it: side(it) for it in SIDES}}
-    found["title"] = text("title") or f"{found['home'][0]} v {found['away'][0]}"
-    limits = {it: text(it) for it in ("overs", "overs_a_bowler") if text(it)}
-    found["toss"] = tossed(found, text("toss_winner"), text("toss_decision"))
-    return found | {"limits": limits | {False: {}, True: {"free_hits": "true"}}[form.get("free_hits", False)]}
-
-
-def tossed(found, winner, decision):
-    """The toss as an export has it; nothing where none is said."""
-    return {"winner": found[winner][0] if winner in SIDES else winner, "decision": decision} if winner or decision else None
-
-
-def valued(text):
-    """A number as it is, or else a text, so that the program says what is wrong with it."""
-    if text == "true":
-        return text
-    return str(int(text)) if re.fullmatch(r"[0-9]{1,18}", text) else toss.quoted(text)
-
-
-def sheet_of(it):
-    quoted = toss.quoted
-    rows = [f"title = {quoted(it['title'])}", f"number = {valued(it['number'])}", f"innings = {valued(it['innings'])}"]
-    for side in SIDES:
-        name, names = it[side]
-        rows += ["", f"[{side}]", f"name = {quoted(name)}", "players = [", *(f"    {quoted(one)}," for one in names), "]"]
-    limits = [f"{key} = {valued(value)}" for key, value in it["limits"].items()]
-    info = ["", "[info]", toss.row_of(**it["toss"])] if it["toss"] else []
-    return "\n".join(rows + (["", "[limits]", *limits] if limits else []) + info) + "\n"
-
-
-def reading_of(it):
-    """What the program must print of the sheet, if it reads what was chosen."""
-    number = lambda text: valued(text) if text != "true" else text
-    rows = [f"title {it['title']}", f"number {it['number']}", f"innings {number(it['innings'])}"]
-    for side in SIDES:
-        rows += [f"{side} {it[side][0]}", *(f"{place} {name}" for place, name in enumerate(it[side][1], 1))]
-    return "\n".join(rows + [f"{key} {number(value)}" for key, value in it["limits"].items()]) + "\n"
+def page():
+    """The page, with the form and its scripts, and the scorer's page's own script for tags."""
+    desk, text = found("examples/desk.html"), found("tools/lobby.html")
+    tags = desk[desk.index("// ---- Tags and keystreams") : desk.index("// The bytes of 32 hex digits")]
+    form = "".join(re.sub(r"(?m)^import .*\n|^export ", "", found(f"web/{name}.mjs")) for name in ("sheet", "making"))
+    return text.replace("<!-- MAKING -->\n", found("web/making.html")).replace("// TAGS\n", tags).replace("// MAKING\n", form)
 
 
 def read(program, path):
@@ -95,40 +40,20 @@ def read(program, path):
     return done.stdout, [it for it in (done.stderr + (done.stdout if done.returncode else "")).split("\n") if it]
 
 
-def checked(program, form):
-    """The sheet of a form, and what is wrong with it."""
-    it = chosen(form)
-    text = sheet_of(it)
+def checked(program, text):
+    """What the program says of a sheet: what it reads, or all that is wrong; and the toss of an export."""
     with tempfile.TemporaryDirectory() as folder:
         path = f"{folder}/sheet.toml"
-        with open(path, "w", encoding="utf-8", errors="replace") as file:
-            file.write(text)
-        found, faults = read(program, path)
-        if not faults and (found, toss.read(program, path)) != (reading_of(it), it["toss"]):
-            faults = [OTHERWISE]
-    return text, faults or faults_of_toss(it)
+        with open(path, "wb") as file:
+            file.write(text.encode())
+        output, faults = read(program, path)
+        return {"output": output, "faults": faults, "toss": None if faults else toss.read(program, path)}
 
 
-def faults_of_toss(it):
-    """What is wrong with a toss, of which the program checks nothing."""
-    said = it["toss"]
-    if not said or said["winner"] in [it[side][0] for side in SIDES] and said["decision"] in toss.DECISIONS:
-        return []
-    return ["toss: say both who won it, and what they chose"]
-
-
-def last_sides(program):
-    """The sides of sheets in this folder and in those beside it, each once, by the program's reading."""
-    found = {}
-    for path in sorted(glob.glob("*.toml") + glob.glob("../*/sheet.toml"), key=os.path.getmtime, reverse=True)[:SHEETS]:
-        rows, side = read(program, path)[0].split("\n"), None
-        for row in rows:
-            word, _, rest = row.partition(" ")
-            if word in SIDES:
-                side = found.setdefault(rest, []) if rest not in found else None
-            elif side is not None and word.isdigit() and len(side) < 11:
-                side.append(rest)
-    return [{"name": name, "players": names} for name, names in found.items()]
+def last_sheets(program):
+    """The sheets of this folder and of those beside it, the newest first, as the program reads them."""
+    paths = sorted(glob.glob("*.toml") + glob.glob("../*/sheet.toml"), key=os.path.getmtime, reverse=True)
+    return [read(program, it)[0] for it in paths[:SHEETS]]
 
 
 # What is asked for
@@ -136,11 +61,11 @@ def last_sides(program):
 
 class Lobby:
     def __init__(self, program, place, code, state):
-        self.program, self.number = program, time.strftime("%Y%m%d%H%M")
+        self.program = program
         self.match = lobby_match.Match(program, place, state) if state else None
         self.code, self.nonce, self.lock, self.newest = bytes.fromhex(code), secrets.token_bytes(16), threading.Lock(), {}
         self.starter, self.is_begun = None, threading.Event()  # the thread that began the match, and whether its page was told
-        self.page = lobby_match.text_of(f"{HERE}/lobby.html").replace("// TAGS\n", scripts()).encode()
+        self.page = page().encode()
 
     def opened(self, session, number, frame):
         """Whose code a frame was made with, what it says, and who answers; nothing where it is nobody's."""
@@ -171,11 +96,11 @@ class Lobby:
         if does == "state":
             return {"begun": os.path.exists("sheet.toml")}
         if does == "sides":
-            return {"sides": last_sides(self.program)}
+            return {"readings": last_sheets(self.program)}
         if does not in ("check", "start"):
             return {"faults": ["the match isn't begun yet"]}
-        text, faults = checked(self.program, {**asked.get("form", {}), "number": self.number})
-        return self.start(text) if does == "start" and not faults else {"faults": faults}
+        told = checked(self.program, asked["sheet"])
+        return told if does == "check" or told["faults"] else self.start(asked["sheet"])
 
     def start(self, text):
         """Writes the sheet, where none is there."""

@@ -7,7 +7,7 @@ from .waiting import Wrong, wait_for, wants
 
 SIZES = {"tall": (390, 844), "wide": (1024, 768)}
 FORM = {"home": "Alder", "away": "Birch", "home_players": "Amin\nBaker\nCarr\nDube\nEllis\nFrost\nGrant\nHale\nIqbal\nJones\nKemp",
-        "away_players": "Lamb, Moss, Nash, Owen, Patel, Quinn, Reid, Shah, Todd, Usher, Vale", "overs": "20"}
+        "away_players": "Lamb, Moss, Nash, Owen, Patel, Quinn, Reid, Shah, Todd, Usher, Vale", "overs": "20", "toss": "away field"}
 OPENED = "document.getElementById('state').textContent === '' && !document.getElementById('make').disabled"
 # Stands for a camera, and for a browser that knows squares: what is before it is `window.square`.
 CAMERA = """window.stopped = 0; window.BarcodeDetector = class { async detect() { return window.square ? [{ rawValue: window.square }] : []; } };

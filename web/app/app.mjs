@@ -10,9 +10,8 @@ import { Joining, capital } from "./joining.mjs";
 import { begin_making, keep_match } from "./making.mjs";
 import { Playing } from "./playing.mjs";
 import { files_in } from "./pool.mjs";
-import { program_at } from "./program.mjs";
+import { program_at, read_sheet } from "./program.mjs";
 import { keep_app, release, take_release, watch_releases } from "./release.mjs";
-import { read_sheet } from "./sheet.mjs";
 import { called, is_desk } from "./words.mjs";
 
 /** @typedef {import("./database.mjs").Match} Match */
