@@ -9,7 +9,7 @@ it does once. With STATE, a file of a name and a value a line, it shows that, an
 `name home 7 Khan`, `toss home bat`. For a late name STATE has a code for each scorer too. Who has that of A sees the name, the answers and A's
 next link alone, and has `agree a 1` or `refuse a 1` printed, 1 being the name's number.
 """
-import glob, http.server, json, os, re, secrets, socket, subprocess, sys, tempfile, threading
+import glob, http.server, json, os, re, secrets, socket, subprocess, sys, tempfile, threading, tomllib
 
 sys.dont_write_bytecode = True
 import lobby_match, sealed, squares, toss
@@ -48,6 +48,18 @@ def checked(program, text):
             file.write(text.encode())
         output, faults = read(program, path)
         return {"output": output, "faults": faults, "toss": None if faults else toss.read(program, path)}
+
+
+# The keys of a sheet that the form has. A table [stations] would name files, which desks then write.
+OF_THE_FORM = {"title", "number", "innings", "home", "away", "limits", "info"}
+
+
+def beside_the_form(text):
+    """What a sheet has that the form hasn't."""
+    try:
+        return [f"{key}: isn't in the form" for key in tomllib.loads(text) if key not in OF_THE_FORM]
+    except tomllib.TOMLDecodeError:
+        return []
 
 
 def last_sheets(program):
@@ -100,6 +112,7 @@ class Lobby:
         if does not in ("check", "start"):
             return {"faults": ["the match isn't begun yet"]}
         told = checked(self.program, asked["sheet"])
+        told["faults"] += beside_the_form(asked["sheet"])
         return told if does == "check" or told["faults"] else self.start(asked["sheet"])
 
     def start(self, text):
