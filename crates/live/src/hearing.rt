@@ -150,7 +150,8 @@ fn hear<S: SlotsOf, B: BookOf + Drop, L: Link, W: Sink, P: Tells>(
     if let Err(end) = end_at(what) {
         return Err(end);
     }
-    tell_if(page, came_told(warned, both, evidence, what));
+    let votes = both;
+    tell_if(page, came_told(warned, votes, evidence, what));
     told(print_came(out, sheet, warned, both, evidence, what, desk.book()))
 }
 

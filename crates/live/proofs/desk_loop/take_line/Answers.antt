@@ -1,4 +1,4 @@
-use Rattle.std.proofs.Common.{◌∙◌, ap, sym}
+use Rattle.std.proofs.Common.{◌∙◌, ap, rules, sym}
 use Rattle.live.specs.Paces.{ticking_of}
 use Rattle.station_texts.specs.Texts.{said_text}
 use Rattle.live.proofs.DeskLemmas.{rests, says, says_last, tells_aside, typing_over}
@@ -39,3 +39,6 @@ returns-clause-goes g c =
     (λ i. said_text c.args.sheet.now (innings i) (c.position-at.ensures i) (c.own_line.ensures.value i) (c.noted.ensures.noted i) c.args.between.now.warned
     (g.B.BookOf.content (c.book.ensures i)) said)
     c.print_said.ensures.text)
+
+pub print_said-requires-clause-fine : goal.print_said-requires-clause-fine
+print_said-requires-clause-fine g c = let calls = c.pen-said.ensures.calls in search rules
