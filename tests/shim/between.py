@@ -14,11 +14,14 @@ def flipped(piece, is_for_desk):
 
 
 class Between:
-    """Passes on what comes at a place of its own, to a desk's and back. `alters` is given each piece, and whether it is for the desk."""
+    """Passes on what comes at a place of its own, to a desk's and back. `alters` is given each piece, and whether it is for the desk. While it
+    doesn't go on, pieces wait; a desk that is begun again is found again."""
 
     def __init__(self, place, alters=lambda piece, is_for_desk: piece):
         host, port = place.split(":")
         self.where, self.read, self.alters = (host, int(port)), {True: b"", False: b""}, alters
+        self.goes_on = threading.Event()
+        self.goes_on.set()
         self.it = socket.create_server((host, 0))
         self.place = "%s:%d" % self.it.getsockname()
         threading.Thread(target=self.work, daemon=True).start()
@@ -26,15 +29,23 @@ class Between:
     def work(self):
         try:
             while True:
-                page, desk = self.it.accept()[0], socket.create_connection(self.where, timeout=20)
-                for ends in ((page, desk, True), (desk, page, False)):
-                    threading.Thread(target=self.carry, args=ends, daemon=True).start()
+                self.join(self.it.accept()[0])
         except OSError:
             pass
+
+    def join(self, page):
+        try:
+            desk = socket.create_connection(self.where, timeout=20)
+        except OSError:
+            return page.close()
+        desk.settimeout(None)
+        for ends in ((page, desk, True), (desk, page, False)):
+            threading.Thread(target=self.carry, args=ends, daemon=True).start()
 
     def carry(self, one, other, is_for_desk):
         try:
             while piece := one.recv(1 << 20):
+                self.goes_on.wait()
                 self.read[is_for_desk] += piece
                 other.sendall(self.alters(piece, is_for_desk))
             other.shutdown(socket.SHUT_WR)
