@@ -9,7 +9,7 @@ use Rattle.agree_core.specs.declared.messages.DeskId.{DeskId}
 use Rattle.agree_core.specs.declared.messages.DeskId.TheVariants.{A}
 use Rattle.agree_core.specs.Ballots.{Ballot, In, votes_by}
 use Rattle.headline.proofs.Keeping.{Fine}
-use Rattle.headline.proofs.ShownBooks.{by_both, none_keeps_both}
+use Rattle.headline.proofs.ShownBooks.{by_both}
 use Rattle.headline.proofs.EveryRun.{holds_in_run}
 use Rattle.headline.proofs.LawScores.{shown_scored}
 use Rattle.headline.proofs.PennedVotes.{all_penned}
@@ -19,7 +19,6 @@ use Rattle.headline.specs.Match.{setting_of}
 use Rattle.headline.specs.Runs.{Begins, Shows}
 use Rattle.headline.specs.declared.version.FileVersion.{FileVersion}
 use Rattle.headline.specs.Configurations.{Configuration, all_votes}
-use Rattle.headline.specs.KeptVotes.{NoneKeepsBoth}
 use Rattle.headline.specs.Setting.{Setting}
 use Rattle.corrections.specs.declared.refusal.Refusal.{Refusal}
 use Rattle.station_texts.specs.Saying.{SaysEntry}
@@ -29,12 +28,13 @@ use Rattle.processes.specs.Headline.{AtEachTime, PrintsItsBook, ProcessHeadline,
 use Rattle.processes.specs.Laws.{FlowsAreRuns, FlowsHaveHeadline}
 use Rattle.processes.specs.LostLines.{ShowsNoLoss}
 use Rattle.processes.specs.PublicScores.{ShowsAgreed}
-use Rattle.processes.specs.SecondVotes.{AtEachHappening, TakesSecond}
+use Rattle.processes.specs.Noted.{KeepsNoted}
+use Rattle.processes.specs.SecondVotes.{AfterEach, AtEachHappening, NoneWaits, TakesSecond}
 use Rattle.processes.proofs.Flowing.{Flows, at_some, fine, runs, stands}
 use Rattle.processes.proofs.LostLines.{shows_none}
+use Rattle.processes.proofs.Noting.{keeps, none_waits, takes_second}
 use Rattle.processes.proofs.Parting.{no_vote_parts}
 use Rattle.processes.proofs.PublicScores.{prints, shows}
-use Rattle.processes.proofs.SecondVotes.{takes_second}
 
 -- an entry that was typed has its numbers in their ranges
 said_entry : (x : Sheet) (book : List Entry) (votes : List Ballot) (round : ℕ) (line : List ℕ) (e : Entry) → SaysEntry x book votes round line e → IsEntry e
@@ -89,6 +89,10 @@ module _ {Disk : Type 0} (seen : Disk → List ℕ) (images : Disk → Images) (
     each_time P so [] f = so [] f
     each_time P so (h ∷ hs) f = (so (h ∷ hs) f, each_time P so hs f.0)
 
+    after_each : (P : List (Happening Disk) → Type 0) → ((hs : List (Happening Disk)) → Happened hs → P hs) → (hs : List (Happening Disk)) → Happened hs → AfterEach hs P
+    after_each P so [] f = so [] f
+    after_each P so (h ∷ hs) f = (so (h ∷ hs) f, after_each P so hs f.0)
+
     each : (P : Configuration Disk → Happening Disk → Type 0) → ((hs : List (Happening Disk)) (h : Happening Disk) → Happened (h ∷ hs) → P (after w hs) h)
         → (hs : List (Happening Disk)) → Happened hs → AtEachHappening w hs P
     each P so [] f = tt
@@ -109,8 +113,11 @@ module _ {Disk : Type 0} (seen : Disk → List ℕ) (images : Disk → Images) (
           shows_agreed = each (ShowsAgreed innings)
               (λ gs g flow. shows s.view game innings (after w gs) g flow.1 (both gs flow.0) (λ one two. scored one two gs flow.0)
               (both (g ∷ gs) flow) (λ one two. scored one two (g ∷ gs) flow)) hs f;
-          takes_second = each (TakesSecond game) (takes_second s game innings refl version boards w begins) hs f;
-          none_waits = each_time NoneKeepsBoth (λ gs flow. none_keeps_both s (after w gs) (fine_at gs flow)) hs f;
+          has_entry = (
+            after_each (TakesSecond game w) (takes_second s game innings refl version boards w begins) hs f,
+            after_each (NoneWaits game w) (none_waits s game innings refl version boards w begins) hs f,
+          );
+          noted = after_each (KeepsNoted game w) (keeps s game innings refl version boards w begins) hs f;
           shows_no_loss = each (ShowsNoLoss game)
               (λ gs g flow. shows_none s game innings (after w gs) (stands s game innings refl version boards w begins gs flow.0) (fine_at gs flow.0) (entries gs flow.0) g flow.1) hs f;
           no_vote_parts = no_vote_parts s game innings refl version boards w begins hs f (entries hs f);

@@ -11,15 +11,15 @@ use Rattle.headline.specs.declared.event.Station.{Station}
 use Rattle.headline.specs.Configurations.{Running, Configuration, all_votes, board_at, node}
 use Rattle.headline.specs.Runs.{Shows}
 use Rattle.headline.specs.Headline.{ByBoth, AllHaveScores, ShowsScore}
-use Rattle.headline.specs.KeptVotes.{NoneKeepsBoth}
 use Rattle.live.specs.Desks as desks
 use Rattle.station_texts.specs.Saying.{SaysEntry}
 use Rattle.processes.specs.Happenings.{BoardCalled, BoardGreeted, DeskCalled, DeskGreeted, Happening, after}
 use Rattle.processes.specs.LostLines.{ShowsNoLoss}
+use Rattle.processes.specs.Noted.{KeepsNoted}
 use Rattle.processes.specs.Parting.{NoVoteParts}
 use Rattle.processes.specs.Printing.{Greets, Hands, Prints, Tells, greeting_of}
 use Rattle.processes.specs.PublicScores.{ShowsAgreed}
-use Rattle.processes.specs.SecondVotes.{AtEachHappening, TakesSecond}
+use Rattle.processes.specs.SecondVotes.{AfterEach, AtEachHappening, NoneWaits, TakesSecond}
 
 -- the property holds at the start, or after one of the happenings
 abbrev pub AtSomeTime : {Disk : Type 0} → Configuration Disk → List (Happening Disk) → (Configuration Disk → Type 0) → Type 0
@@ -79,10 +79,10 @@ pub record ProcessHeadline {Disk : Type 0} (game innings : ℕ) (w : Configurati
   -- What a board prints, and hands over to be shown as its text and as its state, is of a book for each entry of which both
   -- desks have voted in one round, with its score by the Laws.
   pub shows_agreed : AtEachHappening w hs (ShowsAgreed innings)
-  -- a call that brings the second of two equal votes to a process that keeps the first adds their entry to its book
-  pub takes_second : AtEachHappening w hs (TakesSecond game)
-  -- no process keeps both votes of its position
-  pub none_waits : AtEachTime w hs NoneKeepsBoth
+  -- A running station that noted both equal votes of its position has the entry: the call that brings the second adds it to the
+  -- book, and no station is left with both. Processes keep exactly the noted votes.
+  pub has_entry : AfterEach hs (TakesSecond game w) × AfterEach hs (NoneWaits game w)
+  pub noted : AfterEach hs (KeepsNoted game w)
   -- no message that a station handed out shows a desk that its own file lacks lines, or the other desk's
   pub shows_no_loss : AtEachHappening w hs (ShowsNoLoss game)
   -- no vote that a station handed out contradicts a round that a board has heard

@@ -4,6 +4,8 @@
 pub mod Printing
 pub mod Happenings
 pub mod PublicScores
+pub mod Noted
+pub mod SecondVotes
 pub mod Headline
 pub mod Laws
 pub mod Exchanges
@@ -12,7 +14,6 @@ pub mod Lives
 pub mod Files
 pub mod Sealing
 pub mod Weaving
-pub mod SecondVotes
 pub mod LostLines
 pub mod Parting
 pub mod Stations

@@ -1,54 +1,33 @@
--- The second of two equal votes is brought to a station that keeps the first.
-use Rattle.std.specs.Prelude.{◌≡◌, ◌≢◌, ℕ, List, [], ◌∷◌, ◌++◌, Some, Ok}
+-- The second of two equal votes is brought to a station that has noted the first.
+use Rattle.std.specs.Prelude.{ℕ, List, [], ◌∷◌, ◌++◌}
 use Rattle.notation.specs.declared.entry.Entry.{Entry}
-use Rattle.agree_core.specs.declared.{messages.DeskId.DeskId, messages.Message.Message, seat.Settled.Settled}
-use Rattle.agree_core.specs.declared.seat.Heard as hearing
-use Rattle.agree_core.specs.Ballots.{Ballot, vote_of}
+use Rattle.agree_core.specs.declared.messages.DeskId.{DeskId}
+use Rattle.agree_core.specs.declared.messages.DeskId.TheVariants.{A, B}
+use Rattle.agree_core.specs.Ballots.{Ballot}
 use Rattle.agree_core.specs.Readers.{other}
-use Rattle.wire.specs.declared.what.What.TheVariants.{Heard}
-use Rattle.wire.specs.Layout.{Says}
 use Rattle.headline.specs.declared.event.Station.{Station}
 use Rattle.headline.specs.Configurations.{Configuration}
-use Rattle.headline.specs.Noted.{position_at}
 use Rattle.headline.specs.Runs.{Shows}
-use Rattle.headline.specs.KeptVotes.{kept_at}
-use Rattle.live.specs.Boards as boards
-use Rattle.live.specs.Boards.{BoardCall}
-use Rattle.live.specs.Desks as desks
-use Rattle.live.specs.Desks.{DeskCall}
-use Rattle.station_texts.specs.declared.said.Said.TheVariants.{Penned}
-use Rattle.processes.specs.Happenings.{BoardCalled, DeskCalled, Happening, after, after_one}
+use Rattle.processes.specs.Happenings.{Happening, after}
+use Rattle.processes.specs.Noted.{HasNoted, IsBrought}
 
--- the bytes say a desk's vote for this ballot
-abbrev pub SayVote : ℕ → List ℕ → DeskId → Ballot → Type 0
-SayVote game bytes c b = Says game bytes (Message.Vote (vote_of c b))
+-- If the last happening brings the second of two equal votes to a station that has noted the first, both for the station's
+-- position, its book grows by their entry.
+abbrev pub TakesSecond : {Disk : Type 0} → ℕ → Configuration Disk → List (Happening Disk) → Type 0
+TakesSecond game w [] = Unit {0}
+TakesSecond game w (h ∷ hs) =
+    (t : Station) (book : List Entry) (b : Ballot) (c : DeskId) → Shows (after w hs) t book → HasNoted game w hs t c b
+    → IsBrought game (after w hs) h t (other c) b → Shows (after w (h ∷ hs)) t (book ++ b.entry ∷ [])
 
--- a call of desk d brings it desk c's vote: its own scorer's line is penned, or the other desk's vote is given to it and told
-abbrev pub DeskBrings : ℕ → DeskId → DeskCall → DeskId → Ballot → Type 0
-DeskBrings game d (desks.Typed line said) c b = (settled : Settled) × (said ≡ Penned b.entry settled) × (d ≡ c)
-DeskBrings game d (desks.Given bytes what) c b =
-    (heard : hearing.Heard) × (what ≡ Heard heard) × (d ≢ c) × SayVote game bytes c b
-DeskBrings game d call c b = ⊥
+-- no station is left with both votes of its position noted, equal or not
+abbrev pub NoneWaits : {Disk : Type 0} → ℕ → Configuration Disk → List (Happening Disk) → Type 0
+NoneWaits game w hs =
+    (t : Station) (a b : Ballot) → HasNoted game w hs t A a → HasNoted game w hs t B b → ⊥
 
--- a call of a board brings it a desk's vote: the vote is given to it and told
-abbrev pub BoardBrings : ℕ → BoardCall → DeskId → Ballot → Type 0
-BoardBrings game (boards.Given bytes answer) c b =
-    (heard : hearing.Heard) × (answer ≡ Ok (Heard heard)) × SayVote game bytes c b
-BoardBrings game call c b = ⊥
-
--- the happening brings the station a desk's vote for this ballot
-abbrev pub Brings : {Disk : Type 0} → ℕ → Happening Disk → Station → DeskId → Ballot → Type 0
-Brings game (DeskCalled d s call out l text) t c b = (t ≡ Station.Desk d) × DeskBrings game d call c b
-Brings game (BoardCalled n s call out l text seen) t c b = (t ≡ Station.Board n) × BoardBrings game call c b
-Brings game what t c b = ⊥
-
--- If the happening brings the second of two equal votes for a station's position to the station, which keeps the first, its
--- book grows by their entry.
-abbrev pub TakesSecond : {Disk : Type 0} → ℕ → Configuration Disk → Happening Disk → Type 0
-TakesSecond game w what =
-    (t : Station) (book : List Entry) (b : Ballot) (c : DeskId) → Shows w t book → (position_at w t ≡ Some b.at)
-    → (kept_at w t c ≡ Some b.entry) → Brings game what t (other c) b
-    → Shows (after_one w what) t (book ++ b.entry ∷ [])
+-- the property holds at the start and after each of the happenings, of those so far
+abbrev pub AfterEach : {Disk : Type 0} → List (Happening Disk) → (List (Happening Disk) → Type 0) → Type 0
+AfterEach [] P = P []
+AfterEach (h ∷ hs) P = P (h ∷ hs) × AfterEach hs P
 
 -- the property holds of each happening, in the configuration in which it happened
 abbrev pub AtEachHappening :
