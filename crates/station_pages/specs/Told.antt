@@ -1,9 +1,11 @@
 -- What a desk tells its scorer, as fields of JSON: its number since the desk began, its word, and the figures that belong to it.
-use Rattle.std.specs.Prelude.{ℕ, List, [], ◌∷◌, ◌++◌, Option, Some, None, codes}
-use Rattle.notation.specs.declared.entry.Entry.{Entry}
-use Rattle.notation.specs.Written.{text_of}
+use Rattle.std.specs.Prelude.{ℕ, List, [], ◌∷◌, ◌++◌, Option, Some, None, IfSome, codes}
+use Rattle.std.proofs.Props.{props}
+use Rattle.notation.specs.declared.entry.{Entry.Entry, Plain.Plain}
+use Rattle.notation.specs.Written.{IsEntry, IsPlain, text_of}
 use Rattle.json.specs.Json.{null}
 use Rattle.json_fields.specs.Values.{Field, number_field, text_field}
+use Rattle.screen.specs.Telling.{IsTold}
 use Rattle.screen.specs.declared.told.Told.{Told}
 use Rattle.screen.specs.declared.told.Told.TheVariants.{Stands, GoesOn, Plan, NoPlan, Agreed, Pending, Differs, Unclear, SayAgain, NoneDiffers, Waiting, Withheld, Refused, Held, Holds, TakenBack, NotTaken, Dropped, Full, NoText, WasHeld, Untaken, IsCast, HasWritten, IsMissed, IsHeard, OtherLacks, LacksLines, HasLines, Peer, Network, PageDropped}
 
@@ -79,3 +81,23 @@ figures_of told = []
 abbrev pub told_fields : ℕ → Told → List Field
 told_fields number told =
     number_field (codes "number") number ∷ [] ++ text_field (codes "told") (word_of told) ∷ [] ++ figures_of told
+
+-- ---- for private fields: any two proofs that the entries of a value have their numbers in range are equal
+
+IsPlain-prop : (p : Plain) → IsProp (IsPlain p)
+IsPlain-prop (Plain.Innings side) = hlevel props
+IsPlain-prop p = hlevel props
+
+IsEntry-prop : (e : Entry) → IsProp (IsEntry e)
+IsEntry-prop (Entry.Write p) = IsPlain-prop p
+IsEntry-prop e = hlevel (props, IsPlain-prop)
+
+entry-prop : (entry : Option Entry) → IsProp (IfSome entry IsEntry)
+entry-prop None = hlevel props
+entry-prop (Some e) = IsEntry-prop e
+
+pub IsTold-prop : (told : Told) → IsProp (IsTold told)
+IsTold-prop (Agreed place entry) = entry-prop entry
+IsTold-prop (Pending place e) = IsEntry-prop e
+IsTold-prop (Differs place own other) = hlevel (props, entry-prop)
+IsTold-prop told = hlevel props

@@ -1,6 +1,7 @@
 //! What a desk told its scorer last: values, each with the rows that were printed for it.
 
 ghost use Rattle.screen.specs.Telling.{IsTold};
+ghost use Rattle.station_pages.specs.Told.{IsTold-prop};
 
 use crate::told::put_told;
 use json::Token;
@@ -19,7 +20,7 @@ struct Telling {
     number: u64,
     told: Told,
     rows: Vec<Vec<u8>>,
-    ghost fine: { IsTold told },
+    ghost fine: { IsTold told } by { IsTold-prop told },
 }
 
 impl Telling {

@@ -73,6 +73,7 @@ fn put_line(out: &mut Compact, name: &str, entry: Option<Entry>) -> Result<(), A
 }
 
 /// Puts a place and an entry's line there.
+#[tactic(auto, using(json_fields::proofs::Putting::json_parts), unfolding(json_fields::specs::Values::fields_tokens, json_fields::specs::Values::values_tokens))]
 fn put_entry(out: &mut Compact, place: u32, entry: Option<Entry>) -> Result<(), AllocError>
     requires { IfSome entry IsEntry }
     ensures { PutsFields result out.old out.new (fields.entry_fields place entry) }
@@ -82,6 +83,7 @@ fn put_entry(out: &mut Compact, place: u32, entry: Option<Entry>) -> Result<(), 
 }
 
 /// Puts a place and the lines of both scorers there.
+#[tactic(auto, using(json_fields::proofs::Putting::json_parts), unfolding(json_fields::specs::Values::fields_tokens, json_fields::specs::Values::values_tokens))]
 fn put_both(
     out: &mut Compact,
     place: u32,
@@ -98,6 +100,7 @@ fn put_both(
 }
 
 /// Puts the figures of what is told.
+#[tactic(auto, using(json_fields::proofs::Putting::json_parts), unfolding(json_fields::specs::Values::fields_tokens, json_fields::specs::Values::values_tokens))]
 fn put_figures(out: &mut Compact, told: &Told) -> Result<(), AllocError>
     requires { IsTold told.now }
     ensures { PutsFields result out.old out.new (fields.figures_of told.now) }
@@ -120,6 +123,7 @@ fn put_figures(out: &mut Compact, told: &Told) -> Result<(), AllocError>
 }
 
 /// Puts the number of what is told, its word and its figures.
+#[tactic(auto, using(json_fields::proofs::Putting::json_parts), unfolding(json_fields::specs::Values::fields_tokens, json_fields::specs::Values::values_tokens))]
 pub fn put_told(out: &mut Compact, number: u64, told: &Told) -> Result<(), AllocError>
     requires { IsTold told.now }
     ensures { PutsFields result out.old out.new (fields.told_fields number told.now) }
