@@ -1,24 +1,26 @@
 // @ts-check
-// The sheet of a form. Nothing is judged here: what is wrong with a sheet the program's word `sheet` says.
-import { run_words } from "./program.js";
+// The sheet of what was typed in the form (making.html). Nothing is judged here: what is wrong with a sheet the program's word `sheet` says.
 
 /**
- * What was typed.
- * @typedef {object} Form
- * @property {string} home
- * @property {string} away
- * @property {string} home_players
- * @property {string} away_players
- * @property {string} title
- * @property {string} innings
- * @property {string} overs
- * @property {string} overs_a_bowler
- * @property {boolean} free_hits
+ * What was typed, by the fields' names. The toss is as `home bat`, or empty.
+ * @typedef {Record<"home" | "away" | "home_players" | "away_players" | "title" | "innings" | "overs" | "overs_a_bowler" | "toss", string> & { free_hits: boolean }} Form
+ */
+
+/** @typedef {{ winner: string, decision: string }} Toss a toss, as an export has it */
+
+/**
+ * A sheet, what the program must print of it if it reads what was typed, and the toss that an export must have.
+ * @typedef {{ title: string, text: string, reading: string, toss: Toss | null }} Sheet
+ */
+
+/**
+ * What the program says of a sheet: what it reads, or all that is wrong; and the toss of an export.
+ * @typedef {{ output?: string, faults: string[], toss?: Toss | null }} Read
  */
 
 const PLAYERS = 11;
 /** @type {("home" | "away")[]} */
-const SIDES = ["home", "away"];
+export const SIDES = ["home", "away"];
 
 // What lists have before a name, a number, and behind it: that he is the captain or keeps the wicket.
 const NUMBER = /^\d{1,2}[.)]?\s+|^\d{1,2}[.)]/;
@@ -28,7 +30,7 @@ const MARKS = /( *(\((c|vc|wk?|c ?[&/] ?wk?|wk? ?[&/] ?c)\)|[*†]))+$/i;
  * The names of a list: one a line, or with commas between; numbers before them and marks behind them are left out.
  * @param {string} text
  */
-export function players(text) {
+function players(text) {
   return text.split(/[,;\t\r\n]/).map(it => it.trim().replace(NUMBER, "").trim().replace(MARKS, "").trim()).filter(it => it);
 }
 
@@ -57,16 +59,19 @@ const valued = text => (/^[0-9]{1,18}$/.test(text) ? String(BigInt(text)) : text
 function chosen(form) {
   const sides = SIDES.map(key => ({ key, name: form[key].trim(), players: filled(players(form[key === "home" ? "home_players" : "away_players"])) }));
   const limits = [["overs", form.overs.trim()], ["overs_a_bowler", form.overs_a_bowler.trim()], ["free_hits", form.free_hits ? "true" : ""]].filter(([, it]) => it);
-  return { title: form.title.trim() || `${sides[0].name} v ${sides[1].name}`, innings: form.innings.trim() || "1", sides, limits };
+  const [winner, decision] = form.toss.split(" ");
+  const toss = winner ? { winner: sides[winner === "home" ? 0 : 1].name, decision } : null;
+  return { title: form.title.trim() || `${sides[0].name} v ${sides[1].name}`, innings: form.innings.trim() || "1", sides, limits, toss };
 }
 
 /**
- * The sheet of a form, and what the program must print of it if it reads what was typed.
+ * The sheet of a form.
  * @param {Form} form
  * @param {string} number
+ * @returns {Sheet}
  */
 export function sheet_of(form, number) {
-  const { title, innings, sides, limits } = chosen(form);
+  const { title, innings, sides, limits, toss } = chosen(form);
   const rows = [`title = ${quoted(title)}`, `number = ${number}`, `innings = ${valued(innings)}`];
   const read = [`title ${title}`, `number ${number}`, `innings ${valued(innings)}`];
   for (const { key, name, players: names } of sides) {
@@ -75,30 +80,18 @@ export function sheet_of(form, number) {
   }
   if (limits.length) rows.push("", "[limits]", ...limits.map(([key, it]) => `${key} = ${valued(it)}`));
   read.push(...limits.map(([key, it]) => `${key} ${valued(it)}`));
-  return { title, text: rows.join("\n") + "\n", reading: read.join("\n") + "\n" };
+  if (toss) rows.push("", "[info]", `toss = { winner = ${quoted(toss.winner)}, decision = ${quoted(toss.decision)} }`);
+  return { title, text: rows.join("\n") + "\n", reading: read.join("\n") + "\n", toss };
 }
 
 /**
- * What the program says of a sheet: what it reads, or all that is wrong.
- * @param {WebAssembly.Module} module
- * @param {string} text
+ * What is wrong with a sheet of which the program says this.
+ * @param {Sheet} sheet
+ * @param {Read} read
  */
-export async function read_sheet(module, text) {
-  const { status, output, errors } = await run_words(module, ["sheet", "--sheet", "sheet.toml"], { "sheet.toml": new TextEncoder().encode(text) });
-  return { output, faults: (errors + (status ? output : "")).split("\n").filter(it => it) };
-}
-
-/**
- * The sheet of a form, and what is wrong with it.
- * @param {WebAssembly.Module} module
- * @param {Form} form
- * @param {string} number
- */
-export async function checked(module, form, number) {
-  const { title, text, reading } = sheet_of(form, number);
-  const { output, faults } = await read_sheet(module, text);
-  if (faults.length === 0 && output !== reading) faults.push("sheet: the program reads something else than what stands here: take plainer letters");
-  return { title, text, faults };
+export function faults_of({ reading, toss }, read) {
+  const is_read = read.output === reading && read.toss?.winner === toss?.winner && read.toss?.decision === toss?.decision;
+  return read.faults.length || is_read ? read.faults : ["sheet: the program reads something else than what stands here: take plainer letters"];
 }
 
 /**

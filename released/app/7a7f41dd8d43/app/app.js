@@ -10,9 +10,8 @@ import { Joining, capital } from "./joining.js";
 import { begin_making, keep_match } from "./making.js";
 import { Playing } from "./playing.js";
 import { files_in } from "./pool.js";
-import { program_at } from "./program.js";
+import { program_at, read_sheet } from "./program.js";
 import { keep_app, release, take_release, watch_releases } from "./release.js";
-import { read_sheet } from "./sheet.js";
 import { called, is_desk } from "./words.js";
 
 /** @typedef {import("./database.js").Match} Match */

@@ -49,3 +49,25 @@ export async function new_key(module) {
   if (status !== 0 || !made["key.txt"]) throw new Error("no key was made: " + errors);
   return new TextDecoder().decode(made["key.txt"]);
 }
+
+/**
+ * What the program says of a sheet: what it reads, or all that is wrong.
+ * @param {WebAssembly.Module} module
+ * @param {string} text
+ */
+export async function read_sheet(module, text) {
+  const { status, output, errors } = await run_words(module, ["sheet", "--sheet", "sheet.toml"], { "sheet.toml": new TextEncoder().encode(text) });
+  return { output, faults: (errors + (status ? output : "")).split("\n").filter(it => it) };
+}
+
+/**
+ * The toss that an export of a sheet has, before a ball is bowled; none where the program refuses the sheet.
+ * @param {WebAssembly.Module} module
+ * @param {string} text
+ * @returns {Promise<import("../sheet.js").Toss | null>}
+ */
+export async function toss_of(module, text) {
+  const files = { "sheet.toml": new TextEncoder().encode(text), "none.txt": new Uint8Array(0) };
+  const { status, output } = await run_words(module, ["export", "--sheet", "sheet.toml", "--from", "none.txt", "--kind", "book"], files);
+  return status === 0 ? JSON.parse(output).info.toss ?? null : null;
+}
