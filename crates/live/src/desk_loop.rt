@@ -104,7 +104,7 @@ fn tell_aside<W: Sink, P: Tells>(
     ensures course { course_of result ≡ further }
     ensures failed { result ≡ Err DeskEnd.Write → has_failed out.new ≡ true }
 {
-    page.tell(aside_told(aside));
+    tell_if(page, aside_told(aside));
     told(print_aside(out, sheet.columns(), aside))
 }
 
