@@ -31,6 +31,6 @@ help_on Card = codes "card [n]: both cards of the innings begun last, or of the 
 help_on Players = codes "players: both sides, by number and name\n  players\n"
 help_on Bowlers = codes "bowlers: who may bowl the next ball, and how many overs each has left\n  bowlers\n"
 help_on Who = codes "who: who of the batting side is neither out nor in\n  who\n"
-help_on Plan = codes "plan E, E ..: the lines, one after another, by which fix and late lines E hold\n  plan fix 3 2, fix 4 1\nplan bowler n b: those by which b bowled over n of the innings begun last\n  plan bowler 8 usher\n"
+help_on Plan = codes "plan E, E ..: the lines to enter, in order, to make these corrections\n  plan fix 3 2, fix 4 1\nplan bowler n b: the same, where b bowled over n of the latest innings\n  plan bowler 8 usher\n"
 help_on Quit = codes "quit: ends the desk; the same command resumes\n  quit\n"
 help_on Short = help_short

@@ -100,9 +100,9 @@ undo: takes back the line held last; none held: fix p void of the last entry
 
 /// The text of `help plan`.
 const HELP_PLAN: &str = "\
-plan E, E ..: the lines, one after another, by which fix and late lines E hold
+plan E, E ..: the lines to enter, in order, to make these corrections
   plan fix 3 2, fix 4 1
-plan bowler n b: those by which b bowled over n of the innings begun last
+plan bowler n b: the same, where b bowled over n of the latest innings
   plan bowler 8 usher
 ";
 
