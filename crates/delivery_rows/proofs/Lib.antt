@@ -1,3 +1,4 @@
 pub mod Putting
+pub mod RowTexts
 pub mod CellLemmas
 pub mod RowLemmas

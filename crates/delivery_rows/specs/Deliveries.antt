@@ -16,6 +16,7 @@ use Rattle.archive_deliveries.specs.Notes.{begun_of, carried, is_ball, items_in}
 use Rattle.archive_deliveries.specs.Wickets.{how_words, leave_words}
 use Rattle.archive_deliveries.specs.Deliveries.{extra_runs, is_run, penalties}
 use Rattle.export.specs.Innings.{runs_before}
+use Rattle.csv.specs.Writing.{default_writer, row_body}
 use Rattle.delivery_rows.specs.declared.standing.Standing.{Standing}
 use Rattle.delivery_rows.specs.Cells.{cell}
 use Rattle.delivery_rows.specs.Standing.{after, beginning}
@@ -28,10 +29,17 @@ columns =
     ++ codes "wicket_type,player_dismissed,fielders,other_wicket_type,other_player_dismissed,"
     ++ codes "innings_runs,innings_wickets\n"
 
--- the match, its day, the innings from 1, and the sides
+-- the day of the match, the innings from 1, and the sides
+abbrev pub day_cells : Sheet → List ℕ → Side → ℕ → List (List ℕ)
+day_cells s day side i = cell day ∷ decimal (i + 1) ∷ cell (name_of s side) ∷ cell (name_of s (opponent side)) ∷ []
+
+-- the match, and those
 abbrev pub innings_cells : Sheet → List ℕ → Side → ℕ → List (List ℕ)
-innings_cells s day side i =
-    decimal s.game ∷ cell day ∷ decimal (i + 1) ∷ cell (name_of s side) ∷ cell (name_of s (opponent side)) ∷ []
+innings_cells s day side i = decimal s.game ∷ day_cells s day side i
+
+-- their text, which begins each row of the innings
+unfoldable pub head_text : Sheet → List ℕ → Side → ℕ → List ℕ
+head_text s day side i = row_body default_writer (innings_cells s day side i)
 
 -- the over from 0, the delivery in it from 1, and the place in the book
 abbrev pub place_cells : Standing → ℕ → List (List ℕ)
@@ -100,14 +108,18 @@ ball_cells s side penalty ends b =
     ++ boundary_cell (split_of_ball b).striker (is_run b) ∷ []
     ++ out_cells s side ends b.bowler b.out
 
--- the row of a delivery, where now is the score after it
-abbrev pub delivery_row : Sheet → List ℕ → Side → ℕ → Standing → ℕ → List Noted → ℕ → Ends → Ball → List Noted → List (List ℕ)
-delivery_row s day side i now penalty early place ends b late =
-    innings_cells s day side i
-    ++ place_cells now place
+-- the cells of a delivery that follow those of its innings, where now is the score after it
+abbrev pub delivery_cells : Sheet → Side → Standing → ℕ → List Noted → ℕ → Ends → Ball → List Noted → List (List ℕ)
+delivery_cells s side now penalty early place ends b late =
+    place_cells now place
     ++ ball_cells s side penalty ends b
     ++ others_cells s side early late
     ++ standing_cells now
+
+-- the row of a delivery
+abbrev pub delivery_row : Sheet → List ℕ → Side → ℕ → Standing → ℕ → List Noted → ℕ → Ends → Ball → List Noted → List (List ℕ)
+delivery_row s day side i now penalty early place ends b late =
+    innings_cells s day side i ++ delivery_cells s side now penalty early place ends b late
 
 -- the score after an item, where now is the score before it
 abbrev pub next_of : Begun → ℕ → Standing → List Noted → ℕ → Plain → List Noted → Standing

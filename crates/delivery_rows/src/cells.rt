@@ -1,33 +1,14 @@
-//! The cells of a row, and its text.
+//! Cells as CSV text, and the end of a row.
 
-ghost use Rattle.std.specs.Prelude.{◌≡◌, ◌==◌, ◌<◌, ◌∷◌, [], decimal, length, slice_get, IfOk, Some};
-ghost use Rattle.csv.specs.Records.{fields_of};
+ghost use Rattle.std.specs.Prelude.{◌≡◌, ◌==◌, ◌<◌, ◌≤◌, ◌∷◌, ◌++◌, [], decimal, length, slice_get, IfOk, OnOk, Some};
 ghost use Rattle.csv.specs.Writing.{default_writer};
 ghost use Rattle.csv.specs.Writing as writing;
 ghost use Rattle.delivery_rows.specs.Cells as cells;
-ghost use Rattle.delivery_rows.specs.Cells.{PutsCells, PutsRows};
+ghost use Rattle.delivery_rows.specs.Cells.{PutsCells};
 
-use csv::{ByteRecord, WriterBuilder};
+use csv::WriterBuilder;
 use itoa::Buffer;
 use std::alloc::{AllocError, Global};
-use std::marker::Model;
-
-/// The cells of a row, in order.
-#[derive(Drop)]
-pub struct Cells {
-    row: ByteRecord,
-}
-
-impl Model for Cells {
-    ghost use Rattle.std.specs.Prelude.{◌≡◌, ℕ, List, []};
-    ghost use Rattle.csv.specs.Records.{fields_of, partial_of};
-
-    ghost Value = { List (List ℕ) };
-
-    ghost view = { λ cells. fields_of cells.row };
-
-    ghost invariant = { λ cells. partial_of cells.row ≡ [] };
-}
 
 /// Whether a spreadsheet takes this byte at the front of a cell as the start of a formula, or skips it.
 fn is_sign(byte: u8) -> bool
@@ -69,85 +50,152 @@ fn is_formula(text: &[u8]) -> bool
     false
 }
 
-/// Returns a row of cells as CSV text.
-fn row_text(alloc: Global, row: &ByteRecord) -> Result<Vec<u8>, csv::Error>
-    ensures { IfOk result (λ text. text.items ≡ writing.row_text default_writer (fields_of row.now)) }
+/// Whether a byte of a cell calls for quotes around the cell.
+fn is_mark(byte: u8) -> bool
+    ensures { result ≡ writing.needs_byte default_writer byte }
+{
+    byte == b',' || byte == b'"' || byte == b'\r' || byte == b'\n'
+}
+
+/// Whether a cell needs quotes around it.
+fn needs_quotes(cell: &[u8]) -> bool
+    ensures { result ≡ writing.needs_quotes default_writer cell.now }
+{
+    cell.iter().any(|byte| is_mark(*byte))
+}
+
+/// Returns a cell as CSV text.
+fn field_text(alloc: Global, cell: &[u8]) -> Result<Vec<u8>, csv::Error>
+    ensures { IfOk result (λ text. text.items ≡ writing.field_text default_writer cell.now) }
 {
     let mut writer = WriterBuilder::new().from_writer(Vec::new(alloc));
-    writer.write_byte_record(row)?;
+    writer.write_field(cell)?;
     match writer.into_inner() {
         Ok(text) => Ok(text),
         Err(why) => Err(why.into_error()),
     }
 }
 
-impl Cells {
-    /// Returns a row without cells.
-    pub fn new(alloc: Global) -> Cells
-        ensures { result ≡ [] }
-    {
-        Cells {
-            row: ByteRecord::new(alloc),
-        }
+/// Adds the text of a cell, without a comma.
+fn put_field(alloc: Global, out: &mut Vec<u8>, cell: &[u8]) -> Result<(), AllocError>
+    ensures { OnOk result (out.new.items ≡ out.old.items ++ writing.field_text default_writer cell.now) }
+{
+    match field_text(alloc, cell) {
+        Ok(text) => out.extend_from_slice(text.as_slice()),
+        // A writer to memory fails only for lack of memory.
+        Err(_) => Err(AllocError),
     }
+}
 
-    /// Adds a cell as it is.
-    pub fn put(&mut self, cell: &[u8]) -> Result<(), AllocError>
-        ensures { PutsCells result self.old self.new (cell.now ∷ []) }
-    {
-        match self.row.push_field(cell) {
-            Ok(()) => Ok(()),
-            Err(why) => {
-                self.row.clear();
-                Err(why)
-            }
-        }
+/// Adds a cell as it is. Few cells need the writer of `csv`, which is slow to begin.
+#[tactic(auto, using(crate::proofs::Putting::one_cell, crate::proofs::Putting::plain_cell, crate::proofs::Putting::append_assoc))]
+pub fn put(alloc: Global, out: &mut Vec<u8>, cell: &[u8]) -> Result<(), AllocError>
+    ensures { PutsCells result out.old.items out.new.items (cell.now ∷ []) }
+{
+    out.push(b',')?;
+    if needs_quotes(cell) {
+        put_field(alloc, out, cell)
+    } else {
+        out.extend_from_slice(cell)
     }
+}
 
-    /// Adds an empty cell.
-    pub fn put_nothing(&mut self) -> Result<(), AllocError>
-        ensures { PutsCells result self.old self.new ([] ∷ []) }
-    {
-        self.put("".as_bytes())
-    }
+/// Adds an empty cell.
+#[tactic(auto, using(crate::proofs::Putting::empty_cell))]
+pub fn put_nothing(out: &mut Vec<u8>) -> Result<(), AllocError>
+    ensures { PutsCells result out.old.items out.new.items ([] ∷ []) }
+{
+    Ok(out.push(b',')?)
+}
 
-    /// Adds a figure.
-    pub fn put_figure(&mut self, figure: u64) -> Result<(), AllocError>
-        ensures { PutsCells result self.old self.new (decimal figure ∷ []) }
-    {
-        let mut buffer = Buffer::new();
-        self.put(buffer.format(figure).as_bytes())
-    }
+/// Adds a figure of one digit.
+#[tactic(auto, using(crate::proofs::Putting::digit_cell))]
+fn put_digit(out: &mut Vec<u8>, digit: u8) -> Result<(), AllocError>
+    requires { digit < 10 }
+    ensures { PutsCells result out.old.items out.new.items (decimal digit ∷ []) }
+{
+    out.extend_from_slice(&[b',', b'0' + digit])
+}
 
-    /// Adds a text with a quote before it.
-    fn put_quoted(&mut self, alloc: Global, text: &[u8]) -> Result<(), AllocError>
-        ensures { PutsCells result self.old self.new ((39 ∷ text.now) ∷ []) }
-    {
-        let mut cell = Vec::new(alloc);
-        cell.push(b'\'')?;
-        cell.extend_from_slice(text)?;
-        self.put(cell.as_slice())
-    }
+/// Adds a figure of two digits.
+#[tactic(auto, using(crate::proofs::Putting::two_cell))]
+fn put_two(out: &mut Vec<u8>, figure: u8) -> Result<(), AllocError>
+    requires { (10 ≤ figure) × (figure < 100) }
+    ensures { PutsCells result out.old.items out.new.items (decimal figure ∷ []) }
+{
+    out.extend_from_slice(&[b',', b'0' + figure / 10, b'0' + figure % 10])
+}
 
-    /// Adds a text, with a quote before it if a spreadsheet would run it as a formula.
-    pub fn put_text(&mut self, alloc: Global, text: &[u8]) -> Result<(), AllocError>
-        ensures { PutsCells result self.old self.new (cells.cell text.now ∷ []) }
-    {
-        if is_formula(text) {
-            self.put_quoted(alloc, text)
-        } else {
-            self.put(text)
-        }
-    }
+/// Adds a figure of three digits.
+#[tactic(auto, using(crate::proofs::Putting::three_cell))]
+fn put_three(out: &mut Vec<u8>, figure: u16) -> Result<(), AllocError>
+    requires { (100 ≤ figure) × (figure < 1000) }
+    ensures { PutsCells result out.old.items out.new.items (decimal figure ∷ []) }
+{
+    let tens = figure / 10;
+    out.extend_from_slice(&[
+        b',',
+        b'0' + (tens / 10) as u8,
+        b'0' + (tens % 10) as u8,
+        b'0' + (figure % 10) as u8,
+    ])
+}
 
-    /// Writes the row at the end of a text.
-    pub fn print(&self, alloc: Global, out: &mut Vec<u8>) -> Result<(), AllocError>
-        ensures { PutsRows result out.old.items out.new.items (self.now ∷ []) }
-    {
-        match row_text(alloc, &self.row) {
-            Ok(text) => out.extend_from_slice(text.as_slice()),
-            // A writer to memory fails only for lack of memory.
-            Err(_) => Err(AllocError),
-        }
+/// Adds a figure of any length.
+#[tactic(auto, using(crate::proofs::Putting::figure_cell, crate::proofs::Putting::append_assoc))]
+fn put_long(out: &mut Vec<u8>, figure: u64) -> Result<(), AllocError>
+    ensures { PutsCells result out.old.items out.new.items (decimal figure ∷ []) }
+{
+    let mut buffer = Buffer::new();
+    out.push(b',')?;
+    out.extend_from_slice(buffer.format(figure).as_bytes())
+}
+
+/// Adds a figure. Nearly all have one to three digits.
+pub fn put_figure(out: &mut Vec<u8>, figure: u64) -> Result<(), AllocError>
+    ensures { PutsCells result out.old.items out.new.items (decimal figure ∷ []) }
+{
+    match figure {
+        0..10 => put_digit(out, figure as u8),
+        10..100 => put_two(out, figure as u8),
+        100..1000 => put_three(out, figure as u16),
+        _ => put_long(out, figure),
     }
+}
+
+/// Adds a text with a quote before it.
+fn put_quoted(alloc: Global, out: &mut Vec<u8>, text: &[u8]) -> Result<(), AllocError>
+    ensures { PutsCells result out.old.items out.new.items ((39 ∷ text.now) ∷ []) }
+{
+    let mut cell = Vec::new(alloc);
+    cell.push(b'\'')?;
+    cell.extend_from_slice(text)?;
+    put(alloc, out, cell.as_slice())
+}
+
+/// Adds a text, with a quote before it if a spreadsheet would run it as a formula.
+pub fn put_text(alloc: Global, out: &mut Vec<u8>, text: &[u8]) -> Result<(), AllocError>
+    ensures { PutsCells result out.old.items out.new.items (cells.cell text.now ∷ []) }
+{
+    if is_formula(text) {
+        put_quoted(alloc, out, text)
+    } else {
+        put(alloc, out, text)
+    }
+}
+
+/// Begins a row with a figure.
+#[tactic(auto, using(crate::proofs::Putting::figure_text))]
+pub fn begin_row(out: &mut Vec<u8>, figure: u64) -> Result<(), AllocError>
+    ensures { OnOk result (out.new.items ≡ out.old.items ++ writing.field_text default_writer (decimal figure)) }
+{
+    let mut buffer = Buffer::new();
+    out.extend_from_slice(buffer.format(figure).as_bytes())
+}
+
+/// Ends a row.
+pub fn end_row(out: &mut Vec<u8>) -> Result<(), AllocError>
+    ensures { OnOk result (out.new.items ≡ out.old.items ++ 10 ∷ []) }
+{
+    Ok(out.push(b'\n')?)
 }

@@ -5,7 +5,7 @@ ghost use Rattle.std.specs.List.{flat_map};
 ghost use Rattle.delivery_rows.specs.Cells.{PutsCells, cell};
 ghost use Rattle.delivery_rows.specs.Deliveries as rows;
 
-use crate::cells::Cells;
+use crate::cells::{put_nothing, put_text};
 use archive_deliveries::{NamedSheet, Noted, leave_words, noted_at};
 use notation::{Plain, Side};
 use std::alloc::{AllocError, Global};
@@ -96,46 +96,50 @@ fn without_bar(text: &[u8]) -> &[u8]
 /// Adds the cell of how the batters left.
 fn put_ways_cell(
     alloc: Global,
-    out: &mut Cells,
+    out: &mut Vec<u8>,
     early: &[Noted],
     late: &[Noted],
 ) -> Result<(), AllocError>
-    ensures { PutsCells result out.old out.new (cell (rows.barred rows.gone_way early.now late.now) ∷ []) }
+    ensures { PutsCells result out.old.items out.new.items (cell (rows.barred rows.gone_way early.now late.now) ∷ []) }
 {
     let mut text = Vec::new(alloc);
     put_ways(&mut text, early)?;
     put_ways(&mut text, late)?;
-    out.put_text(alloc, without_bar(text.as_slice()))
+    put_text(alloc, out, without_bar(text.as_slice()))
 }
 
 /// Adds the cell of the batters who left.
 fn put_names_cell(
     alloc: Global,
-    out: &mut Cells,
+    out: &mut Vec<u8>,
     sheet: &NamedSheet<'_>,
     side: Side,
     early: &[Noted],
     late: &[Noted],
 ) -> Result<(), AllocError>
-    ensures { PutsCells result out.old out.new (cell (rows.barred (rows.gone_name sheet.now side) early.now late.now) ∷ []) }
+    ensures { PutsCells result out.old.items out.new.items (cell (rows.barred (rows.gone_name sheet.now side) early.now late.now) ∷ []) }
 {
     let mut text = Vec::new(alloc);
     put_names(&mut text, sheet, side, early)?;
     put_names(&mut text, sheet, side, late)?;
-    out.put_text(alloc, without_bar(text.as_slice()))
+    put_text(alloc, out, without_bar(text.as_slice()))
 }
 
 /// Adds the cells of how batters left between deliveries, and of who they were.
 pub fn put_others(
     alloc: Global,
-    out: &mut Cells,
+    out: &mut Vec<u8>,
     sheet: &NamedSheet<'_>,
     side: Side,
     early: &[Noted],
     late: &[Noted],
 ) -> Result<(), AllocError>
-    ensures { PutsCells result out.old out.new (rows.others_cells sheet.now side early.now late.now) }
+    ensures { PutsCells result out.old.items out.new.items (rows.others_cells sheet.now side early.now late.now) }
 {
+    if early.is_empty() && late.is_empty() {
+        put_nothing(out)?;
+        return put_nothing(out);
+    }
     put_ways_cell(alloc, out, early, late)?;
     put_names_cell(alloc, out, sheet, side, early, late)
 }

@@ -8,7 +8,7 @@ ghost use Rattle.delivery_rows.specs.Cells.{PutsRows, rows_text};
 ghost use Rattle.delivery_rows.specs.Deliveries as rows;
 ghost use Rattle.delivery_rows.specs.Innings.{of};
 
-use crate::deliveries::put_item;
+use crate::deliveries::{head_of, put_item};
 use crate::standing::Standing;
 use crate::table_innings::TableInnings;
 use archive_deliveries::{
@@ -126,7 +126,13 @@ pub fn put_all<'m>(
             begun,
             index,
         };
-        put_innings(alloc, out, TableInnings { named, day }, notes)?;
+        let head = head_of(alloc, named, day)?;
+        let innings = TableInnings {
+            named,
+            day,
+            head: head.as_slice(),
+        };
+        put_innings(alloc, out, innings, notes)?;
     }
     Ok(())
 }

@@ -1,6 +1,6 @@
 //! The deliveries of a match as CSV, for spreadsheets and databases: a row for each delivery of the export, and a second table
 //! for the penalty runs that no delivery carries.
-#![tactic(auto, unfolding(crate::specs::Cells::rows_text))]
+#![tactic(auto, using(crate::proofs::Putting::cell_parts), unfolding(crate::specs::Cells::rows_text, crate::specs::Cells::cells_text))]
 
 mod cells;
 mod day;

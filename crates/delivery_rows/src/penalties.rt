@@ -7,8 +7,8 @@ ghost use Rattle.delivery_rows.specs.Cells.{PutsRows};
 ghost use Rattle.delivery_rows.specs.Innings.{of};
 ghost use Rattle.delivery_rows.specs.Penalties as rows;
 
-use crate::cells::Cells;
-use crate::deliveries::put_innings;
+use crate::cells::{end_row, put, put_figure};
+use crate::deliveries::head_of;
 use crate::table_innings::TableInnings;
 use archive_deliveries::{Begun, NamedInnings, NamedSheet, Noted, items_in};
 use export::{runs_after, runs_before};
@@ -29,11 +29,10 @@ fn put_award(
     if runs == 0 {
         return Ok(());
     }
-    let mut row = Cells::new(alloc);
-    put_innings(alloc, &mut row, innings)?;
-    row.put(awarded.as_bytes())?;
-    row.put_figure(runs)?;
-    row.print(alloc, out)
+    out.extend_from_slice(innings.head)?;
+    put(alloc, out, awarded.as_bytes())?;
+    put_figure(out, runs)?;
+    end_row(out)
 }
 
 /// Writes the rows of an innings' penalty runs. `notes` are the items of all innings.
@@ -73,7 +72,13 @@ pub fn put_all<'m>(
             begun,
             index,
         };
-        put_awards(alloc, out, TableInnings { named, day }, notes)?;
+        let head = head_of(alloc, named, day)?;
+        let innings = TableInnings {
+            named,
+            day,
+            head: head.as_slice(),
+        };
+        put_awards(alloc, out, innings, notes)?;
     }
     Ok(())
 }
