@@ -14,6 +14,8 @@
 //   ["reach", isReached]    from now on the desk is reached, or isn't; the stream of events ends, if it is open
 //   ["silence"]             from now on it isn't reached, and nothing says so
 //   ["answers", isAnswered] from now on a line that is posted is answered, or it reaches the desk and nothing comes back
+//   ["status", number, wait]   the next line that is posted is answered by this status, after so many milliseconds
+//   ["forget"]              from now on the desk doesn't know this page any more
 //   ["load"]                the page is loaded again
 //   ["type", line]          a line is written in the field for any line
 //   ["run", code]           what this code of the page comes to
@@ -79,7 +81,7 @@ function documentOf() {
 // ---- A page in its time.
 const kept = new Map([["secret", SECRET.toString("hex")]]);
 let time = 1e6, timers = [], page = null, number = 0, fetched = 0, book = null, between = ["", ""];
-let isReached = true, isAnswered = true;
+let isReached = true, isAnswered = true, isForgotten = false, refusal = null;
 let told = [];
 const MOST_ROWS = 40;
 const posted = [], frames = [], shaken = [];
@@ -104,9 +106,17 @@ async function pass(wait) {
   await settled();
 }
 
+// The answer to a line that isn't taken, once its time has come.
+function refused() {
+  const [status, wait] = refusal;
+  refusal = null;
+  return new Promise(then => after(() => then({ ok: false, status, text: async () => "" }), wait));
+}
+
 function answer(path, { method, headers, body } = {}) {
   if (!isReached) throw new Error("no network");
   const said = text => ({ ok: true, status: 200, text: async () => text, json: async () => JSON.parse(text) });
+  if (path.startsWith("signed") && isForgotten) return { ok: false, status: 403, text: async () => "" };
   if (path === "book.json") {
     fetched += 1;
     if (book === null) throw new Error("no desk");
@@ -114,6 +124,7 @@ function answer(path, { method, headers, body } = {}) {
   }
   if (method === "POST") posted.push([headers["X-At"], turned(Buffer.concat([Buffer.from("desk "), Buffer.from(headers["X-Tag"], "hex")]), Buffer.from(body)).toString()]);
   if (method === "POST" && !isAnswered) throw new Error("no answer");
+  if (method === "POST" && refusal) return refused();
   return said("7\n");
 }
 
@@ -202,6 +213,8 @@ const STEPS = {
   },
   async silence() { isReached = false; },
   async answers(is) { isAnswered = is; },
+  async forget() { isForgotten = true; },
+  async status(...words) { refusal = words; },
   load,
   async type(line) {
     page.document.getElementById("line").value = line;

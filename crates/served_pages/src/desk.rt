@@ -2,7 +2,7 @@
 
 /// What may be run and loaded in the page: its own style and script, and what it asks of its station.
 pub const POLICY: &[u8] =
-    b"default-src 'none'; script-src 'sha256-skRoCh8wUexzV5p71oEtoAaq0VCluv41bh31IKvbZdY='; style-src 'sha256-fG+D0r1ggOak2xF6bZb012y2J1FY5fn76VrsA2XuLZs='; connect-src 'self'; img-src data:; base-uri 'none'; form-action 'none'; frame-ancestors 'none'";
+    b"default-src 'none'; script-src 'sha256-AbhNX/GD3/bevP7lRCWd322LMQlhXhsRlSIYt+F8lrQ='; style-src 'sha256-0ZKKWf7R5NDmGbg4nMC1Ob6bZMNbyPmlquqf8niehXk='; connect-src 'self'; img-src data:; base-uri 'none'; form-action 'none'; frame-ancestors 'none'";
 
 /// The page.
 pub const PAGE: &[u8] = b"<!DOCTYPE html>
@@ -96,6 +96,9 @@ button small { display: block; font-size: .72em; font-weight: 400; color: var(--
 #answers button.main small { color: inherit; }
 #state.bad #answers button { background: var(--key); color: var(--ink); }
 #state.go #answers button { font-size: 1.15em; }
+/* Lines to be read before they are written. On a telephone they lie over the first row of the pads. */
+#state.list { z-index: 1; }
+#state.list #detail { columns: 2; column-gap: 10px; line-height: 1.2; }
 #clock { position: absolute; left: 0; bottom: 0; height: 5px; width: 100%; background: currentColor; transform-origin: left; visibility: hidden; }
 #state.go #clock { visibility: visible; animation: runs-out linear forwards; }
 @keyframes runs-out { to { transform: scaleX(0); } }
@@ -190,6 +193,9 @@ form input::placeholder { color: var(--quiet); opacity: 1; }
 @media (max-width: 350px) {
   #pads button:not(.run) { font-size: .85em; padding: 0; }
 }
+@media (max-width: 699px) {
+  #state.list { height: calc(clamp(11rem, 23vh, 12.5rem) + 56px); margin-bottom: -56px; }
+}
 @media (max-width: 699px) and (max-height: 660px) {
   #pads .run { font-size: 1.7em; }
   #pads .run small { display: none; }
@@ -199,6 +205,7 @@ form input::placeholder { color: var(--quiet); opacity: 1; }
   #second { font-size: .85em; }
   #crease th, #crease td { height: 1.25em; padding: 0; }
   #state { height: 8.5rem; }
+  #state.list { height: calc(8.5rem + 54px); margin-bottom: -54px; }
 }
 @media (min-width: 700px) and (max-height: 520px) {
   #desk { gap: 6px; padding: 6px; }
@@ -564,7 +571,7 @@ function takeTold(data, number) {
 
 function takeBoth(next, tellings) {
   isLive = isLive || !isFirst;
-  newTellings(tellings).forEach(hear);
+  newTellings(tellings).forEach((it, n, all) => hear(it, all[n + 1]));
   take(next);
 }
 
@@ -594,7 +601,7 @@ function take(next) {
 const ANSWERS = new Set([\"shown\", \"goes_on\", \"plan\", \"no_plan\"]);
 const UNWRITTEN = new Set([\"unclear\", \"say_again\", \"none_differs\", \"waiting\", \"withheld\", \"refused\",
   \"not_taken\", \"dropped\", \"full\", \"no_text\", \"was_held\", \"untaken\", \"is_cast\"]);
-// Those of them that may come long after the line was typed.
+// Those of them that may come long after the line was typed, as may what comes right before `not_taken`, and says why.
 const LATE = new Set([\"not_taken\", \"dropped\"]);
 const WARNINGS = new Set([\"other_lacks\", \"lacks_lines\", \"peer\", \"network\"]);
 const QUIET = new Set([\"stands\", \"pending\", \"held\", \"holds\", \"page_dropped\"]);
@@ -622,8 +629,27 @@ const isOfDifference = it => it.told === \"dropped\" && told.last !== null && to
 
 const isUnwritten = it => UNWRITTEN.has(it.told) && !isOfDifference(it);
 
+// Where a held line wasn't taken: this telling is that one, or says why right before it.
+function heldPlace(it, next) {
+  const found = [it, next].find(one => one !== undefined && one.told === \"not_taken\");
+  return isUnwritten(it) && found ? found.place : null;
+}
+
+// Whether a telling isn't about what was sent: it comes behind the end of that one's place and round, or is of a line that was held for another place.
+function isOfAnother(it, next) {
+  const place = heldPlace(it, next);
+  return sent === null || sent.isPast || place !== null && place !== sent.place;
+}
+
 // Whether this is the desk's answer to what was sent, and changes nothing. What is written the state shows, which may come later.
-const isAnswer = it => sent !== null && (isUnwritten(it) || sent.isQuestion && ANSWERS.has(it.told));
+const isAnswer = it => isUnwritten(it) || it.told === \"held\" && it.place === sent.place || sent.isQuestion && ANSWERS.has(it.told);
+
+// The desk goes on from the place and the round for which a line was sent. Behind another line it would have been held: where it wasn't it is dropped.
+function followSent(it) {
+  if (sent === null) return;
+  sent.isPast = sent.isPast || (it.told === \"agreed\" || it.told === \"differs\") && it.place === sent.from;
+  if (it.told === \"page_dropped\" && sent.isPast && sent.isBehind) fail(\"Not written: \" + sent.label, REFUSED[409]);
+}
 
 // How a row of a telling looks.
 function rowKind(code, n) {
@@ -652,7 +678,7 @@ function tellChanged({ line, rows }) {
 }
 
 // Whether this answers the page's question for a list of lines.
-const isOfPlan = it => planned !== null && planned.lines.length === 0 && (it.told === \"plan\" || it.told === \"no_plan\" || isUnwritten(it) && sent !== null);
+const isOfPlan = (it, isOwn) => planned !== null && planned.lines.length === 0 && (it.told === \"plan\" || it.told === \"no_plan\" || isUnwritten(it) && isOwn);
 
 // The list of lines that was asked for, or why there is none.
 function takePlanned(it) {
@@ -667,21 +693,22 @@ function takePlanned(it) {
 const CORRECTION = /^(fix|late) \\d+ /;
 
 // What the scorer is to read before going on. Not what was told before this page came.
-function heed(it) {
-  const detail = textOf(it.rows);
-  if (isOfPlan(it)) takePlanned(it);
+function heed(it, next) {
+  const detail = textOf(it.rows), isOwn = !isOfAnother(it, next);
+  if (isOfPlan(it, isOwn)) takePlanned(it);
   else if (!isLive && !sent) return;
-  else if (isUnwritten(it) && sent) tell(\"bad\", \"Not written: \" + sent.label, detail, CORRECTION.test(sent.line) ? sent.line : null);
-  else if (isUnwritten(it)) say(LATE.has(it.told) ? \"bad\" : \"\", detail);
+  else if (isUnwritten(it) && isOwn) fail(\"Not written: \" + sent.label, detail, CORRECTION.test(sent.line) ? sent.line : null);
+  else if (isUnwritten(it)) say(LATE.has(it.told) || heldPlace(it, next) !== null ? \"bad\" : \"\", detail);
   else if (WARNINGS.has(it.told)) say(\"bad\", detail);
   else if (it.told === \"agreed\") tellChanged(it);
-  if (isAnswer(it)) sent = null;
+  if (isOwn && isAnswer(it)) sent = null;
 }
 
-function hear(it) {
+function hear(it, next) {
   keepRows(it);
   if (FOLLOWED[it.told]) FOLLOWED[it.told](it);
-  heed(it);
+  heed(it, next);
+  followSent(it);
   told.last = it;
   hearAgain();
 }
@@ -855,6 +882,7 @@ function flush() {
 
 // ---- What is tapped while the desk isn't reached: kept in order, and each line sent once when it is back, at the place that its scorer saw.
 const ASIDE = \"unwritten\";
+const asideLabels = () => unwritten.map(it => it.label).join(\", then \");
 const MOST_PLANNED = 24;  // as many as a desk holds
 const TOO_MANY = \"They are more than a desk holds. Strike out what came later, the last first, put it right, and write it again.\";
 
@@ -882,7 +910,7 @@ function writePlanned() {
 }
 
 function dropAside(why) {
-  const labels = unwritten.map(it => it.label).join(\", then \");
+  const labels = asideLabels();
   keepAside([]);
   tell(\"bad\", \"Not written: \" + labels, (note && note.kind === \"bad\" ? note.detail + \"\\n\" : \"\") + why);
 }
@@ -929,9 +957,10 @@ async function nonceGiven() {
   return (await answer.text()).trim();
 }
 
-function fail(head, detail) {
+// Tells why what was sent isn't written, before what came meanwhile.
+function fail(head, detail, line = null) {
   sent = null;
-  tell(\"bad\", head, detail);
+  tell(\"bad\", head, detail + (note && note.kind === \"bad\" ? \"\\n\" + note.detail : \"\"), line);
 }
 
 // Where a line of which nothing was sent goes: it waits, or is told as not written.
@@ -943,7 +972,7 @@ function putOff(line, label, kept) {
 
 // Sends a line, once: one that was tapped now, or one that was kept. What was sent and not answered may stand at the desk.
 async function send(line, label, where, kept) {
-  sent = { line, label, before: standing(), since: now(), isQuestion: QUESTION.test(line) };
+  sent = { line, label, from: state.place, place: nextPlace(), isBehind: state.pending !== null, before: standing(), since: now(), isQuestion: QUESTION.test(line) };
   note = null;
   show();
   let answer = null, nonce = null;
@@ -1500,11 +1529,17 @@ function formatView() {
   return { kind: \"bad\", head: \"Load this page again\", detail: \"The desk's state is of another version.\" };
 }
 
+// What waits until this page has its new square.
+function keptAside() {
+  if (unwritten.length > 0) return \"Kept, and not written yet: \" + asideLabels() + \".\";
+  return needs ? \"No line waits here to be written.\" : \"\";
+}
+
 function secretView() {
   if (secret !== null) return null;
   if (ticket !== null) return { kind: \"\", head: \"Signing in\", detail: \"\" };
-  const why = note ? note.head + \". \" + note.detail + \"\\n\" : needs ? needs + \"\\n\" : \"\";
-  const detail = why + \"Type \\\"page\\\" at the desk, and point the camera at its square, or type what stands after the # below it.\";
+  const why = note ? note.head + \". \" + note.detail : needs;
+  const detail = [why, keptAside(), \"Type \\\"page\\\" at the desk, and point at its square, or type what stands after # below it.\"].filter(text => text).join(\"\\n\");
   return { kind: why ? \"bad\" : \"wait\", head: needs ? \"This page needs a new square\" : \"This page can't write yet\", detail, answers: [[\"Type it\", askTicket, \"\", \"main\"]] };
 }
 
@@ -1523,13 +1558,19 @@ function noteView() {
   return note ? { kind: note.kind, head: note.head, detail: note.detail, answers: [[\"OK\", () => { note = null; show(); }], ...companions(note)] } : null;
 }
 
+// A line among others that put right.
+function plannedWords(line) {
+  const [word, place, ...rest] = line.split(\" \");
+  return word === \"fix\" ? nameOf(Number(place)) + \" \" + inWords(rest.join(\" \"), sideAt(Number(place))) : inWords(line);
+}
+
 // The lines that the desk planned.
 function plannedView() {
   if (planned === null || planned.lines.length === 0) return null;
   const count = one(planned.lines.length, \"line\");
   const cancel = [\"Cancel\", () => { planned = null; show(); }];
   if (planned.lines.length > MOST_PLANNED) return { kind: \"bad\", head: planned.label + \": \" + count, detail: TOO_MANY, answers: [cancel] };
-  return { kind: \"wait\", head: planned.label + \": \" + count, detail: planned.lines.map(line => inWords(line)).join(\"\\n\"), answers: [[\"Write \" + count, writePlanned, \"\", \"main\"], cancel] };
+  return { kind: \"wait list\", head: planned.label + \": \" + count, detail: planned.lines.map(plannedWords).join(\"\\n\"), answers: [[\"Write \" + count, writePlanned, \"\", \"main\"], cancel] };
 }
 
 // A desk that doubts its file writes nothing.
@@ -1711,8 +1752,8 @@ function withNews(view, isSaid) {
 
 // What is asked while the desk isn't reached, or hasn't all that was tapped then.
 function unreached(view) {
-  const lines = unwritten.map(it => it.label), back = lines.length > 0 && !unwritten[lines.length - 1].isSent ? [[\"Take back\", takeLastBack, lines[lines.length - 1]]] : [];
-  const detail = lines.length > 0 ? \"Not written yet: \" + lines.join(\", then \") + \".\" : \"Go on: what you tap is kept, and written once the desk is back.\";
+  const last = unwritten[unwritten.length - 1], back = last && !last.isSent ? [[\"Take back\", takeLastBack, last.label]] : [];
+  const detail = last ? \"Not written yet: \" + asideLabels() + \".\" : \"Go on: what you tap is kept, and written once the desk is back.\";
   return { ...view, kind: \"wait\", head: (isLost() ? \"The desk isn't reached. \" : \"\") + capital(view.head), detail, answers: [...(view.answers || []), ...back] };
 }
 
