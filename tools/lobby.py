@@ -31,7 +31,7 @@ def page():
     desk, text = found("examples/desk.html"), found("tools/lobby.html")
     tags = desk[desk.index("// ---- Tags and keystreams") : desk.index("// The bytes of 32 hex digits")]
     form = "".join(re.sub(r"(?m)^import .*\n|^export ", "", found(f"web/{name}.mjs")) for name in ("sheet", "making"))
-    return text.replace("<!-- MAKING -->\n", found("web/making.html")).replace("// TAGS\n", tags).replace("// MAKING\n", form)
+    return text.replace("/* STYLE */\n", found("web/making.css")).replace("<!-- MAKING -->\n", found("web/making.html")).replace("// TAGS\n", tags).replace("// MAKING\n", form)
 
 
 def read(program, path):

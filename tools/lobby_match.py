@@ -1,12 +1,15 @@
 """What the lobby (lobby.py) shows and takes once its match is begun: squares, who is connected, the toss, late names, and what each scorer says to
-those. It knows no more of the stations than the state that their window writes, and asks that window for all that is to be done."""
-import os, sys, threading
+those. It knows no more of the stations than the state that their window writes, and asks that window for all that is to be done. At a second
+laptop scorer B's page here asks what the lobby of the first asks this scorer, and tells that one the answer."""
+import http.client, json, os, re, secrets, sys, threading
 
-import squares, toss
+import sealed, squares, toss
 
 SIDES, SCORERS = toss.SIDES, ("a", "b")
 BEGUN = {"faults": ["the match is begun already: nothing was changed"]}
 LONGEST_NAME = 60
+PATIENCE, LARGE = 3, 1 << 16  # seconds for which another laptop is waited for, and how much it may say
+LINK = re.compile(r"http://([0-9.]+:\d+)/#([0-9a-f]{32})")
 
 
 def text_of(path):
@@ -18,11 +21,55 @@ def drawn(link):
     return ["".join(map(str, row)) for row in squares.modules(link)]
 
 
+class Far:
+    """A scorer's page at the lobby of another laptop, by its link."""
+
+    def __init__(self, link):
+        self.link, self.lock, self.session = link, threading.Lock(), b""
+
+    def fetched(self, method, path, body=None):
+        """The bytes that are answered; nothing where that is refused."""
+        it = http.client.HTTPConnection(LINK.fullmatch(self.link)[1], timeout=PATIENCE)
+        try:
+            it.request(method, path, body)
+            answer = it.getresponse()
+            return bytes.fromhex(answer.read(LARGE).decode("ascii")) if answer.status == 200 else None
+        finally:
+            it.close()
+
+    def meet(self):
+        """Begins frames with the lobby that answers there now."""
+        nonce = self.fetched("GET", "/hello")
+        self.session, self.number = secrets.token_bytes(16), 0
+        self.theirs, self.ours = sealed.both(bytes.fromhex(LINK.fullmatch(self.link)[2]), nonce + self.session)
+
+    def said(self, what):
+        self.number += 1
+        frame = self.session + self.number.to_bytes(8, "big") + self.ours.seal(self.number, json.dumps(what).encode())
+        told = self.fetched("POST", "/say", frame.hex())
+        opened = told and self.theirs.open(self.number, told)
+        return json.loads(opened) if opened else None
+
+    def say(self, **what):
+        """The answer; nothing where nobody answers who has the link's code."""
+        with self.lock:
+            try:
+                known = self.said(what) if self.session else None
+                if known is None:
+                    self.meet()
+                    known = self.said(what)
+                return known
+            except (OSError, http.client.HTTPException, ValueError, TypeError):
+                self.session = b""
+                return None
+
+
 class Match:
     """A match that goes on. Its window reads what is printed here, a line each."""
 
     def __init__(self, program, place, state):
         self.program, self.place, self.state, self.lock = program, place, state, threading.Lock()
+        self.far = Far("")  # the page at which a scorer is asked at the first laptop
         self.read = None, {}  # which sheet was read, and what an export says of it
 
     def told(self):
@@ -63,7 +110,18 @@ class Match:
 
     def judged(self, scorer, does, count):
         """Hands on what a scorer says to the name of this number."""
-        return self.asks(f"{does} {scorer} {count}") if does in ("agree", "refuse") and type(count) is int else BEGUN
+        if does not in ("agree", "refuse") or type(count) is not int:
+            return BEGUN
+        far = self.far_page(scorer, self.told())
+        return self.asks(f"{does} {scorer} {count}") if far is None else far.say(do=does, count=count) or {}
+
+    def far_page(self, scorer, told):
+        """The page at which this scorer is asked at the first laptop; nothing at the first itself."""
+        link = told.get(f"far_{scorer}", "")
+        with self.lock:
+            if link != self.far.link:
+                self.far = Far(link)
+            return self.far if LINK.fullmatch(link) else None
 
     def link(self, code):
         return f"http://{self.place}/#{code}"
@@ -73,15 +131,20 @@ class Match:
         told = self.told()
         links = {it: told[f"link_{it}"] for it in (*SCORERS, "1") if told.get(f"link_{it}")}
         own = {it: self.link(told[f"code_{it}"]) for it in SCORERS if told.get("late") and told.get(f"code_{it}")}
-        seen = {key: value for key, value in told.items() if not key.startswith(("code_", "again_", "link_"))}
+        seen = {key: value for key, value in told.items() if not key.startswith(("code_", "again_", "link_", "far_"))}
         return {"begun": True, "told": seen, "links": links, "agreeing": own, "sheet": self.sheet(),
                 "squares": {it: drawn(link) for it, link in links.items()}, "agreeing_squares": {it: drawn(link) for it, link in own.items()}}
 
     def shown_to(self, scorer):
-        """What a scorer is shown: the name, who agreed, and this one's new link once all has begun again."""
+        """What a scorer is shown: the name, who agreed, and this one's new link once all has begun again. That link the first laptop doesn't have."""
         told = self.told()
-        return {"begun": True, "desk": scorer, "late": told.get("late", ""), "count": int(told.get("late_count", 0)), "news": told.get("late_news", ""),
-                "agreed": [it for it in SCORERS if told.get(f"agrees_{it}")], "again": told.get(f"again_{scorer}", "")}
+        shown = {"begun": True, "desk": scorer, "late": told.get("late", ""), "count": int(told.get("late_count") or 0), "news": told.get("late_news", ""),
+                 "agreed": [it for it in SCORERS if told.get(f"agrees_{it}")], "again": told.get(f"again_{scorer}", "")}
+        far = self.far_page(scorer, told)
+        if far is None:
+            return shown
+        asked = far.say(do="state") or {"news": "the first laptop isn't reached"}
+        return shown | {key: asked[key] for key in ("late", "count", "news", "agreed") if key in asked}
 
     def sheet(self):
         """Both sides with their players, and the toss, by the program's reading of the sheet."""
