@@ -3,3 +3,5 @@ pub mod Keyboards
 pub mod Outlets
 pub mod Rows
 pub mod Screens
+pub mod Strangers
+pub mod Whereabouts

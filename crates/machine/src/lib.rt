@@ -10,8 +10,10 @@ mod peers;
 mod row_log;
 mod screen;
 mod sockets;
+mod strangers;
 mod times;
 mod waiting;
+mod whereabouts;
 
 pub use address::{Address, addresses_in};
 pub use keyboard::Keyboard;
@@ -21,4 +23,5 @@ pub use row_log::Written;
 pub use screen::{Outlet, Pieces, Screen, StandardStream, draw};
 pub use seal::MOST_PEERS;
 pub use sockets::Sockets;
+pub use strangers::Strangers;
 pub use waiting::WaitEnds;

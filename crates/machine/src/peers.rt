@@ -1,13 +1,14 @@
 //! A socket at which a station waits for datagrams and for its scorer's keyboard too, and the addresses of its peers.
 
-ghost use Rattle.std.specs.Prelude.{◌≡◌, ◌≤◌, ◌⊎◌, ℕ, [], IfOk, length};
+ghost use Rattle.std.specs.Prelude.{◌≡◌, ◌<◌, ◌≤◌, ◌⊎◌, ℕ, [], IfOk, length};
 
+use crate::strangers::{Sender, Strangers};
 use crate::times::SOCKET_CALL_WAIT;
 use crate::waiting::{NO_DESCRIPTOR, WaitEnds, wait_at};
+use crate::whereabouts::Whereabouts;
 use links::{Receivers, Taken};
 use seal::{
-    CarriedLog, MOST_PEERS, Opener, SealedBuffer, SealedCarrier, SealedForm, TaggedMessage,
-    form_for,
+    CarriedLog, MOST_PEERS, SealedBuffer, SealedCarrier, SealedForm, TaggedMessage, form_for,
 };
 use std::cell::Cell;
 use std::io::{self, ErrorKind, Write};
@@ -120,18 +121,19 @@ fn is_meant(only: Option<SocketAddr>, address: SocketAddr) -> bool {
     }
 }
 
-/// A socket, the addresses of its peers, and what standard error was told about them. It is no fault if nothing can be written
-/// there.
+/// A socket, the addresses of its peers, those at which they were found, and what standard error was told about them. It is no
+/// fault if nothing can be written there.
 #[derive(Drop)]
 struct Mail<'w, E> {
     port: Port,
     /// Whether somebody came or asks at the station's page, noted for the station.
     called: &'w Cell<bool>,
     peers: [Option<SocketAddr>; MOST_PEERS],
-    /// The peer whose datagram was taken last.
+    /// Where else each peer was found.
+    found: [Whereabouts; MOST_PEERS],
+    /// The address from which the last datagram was taken.
     last: Option<SocketAddr>,
-    /// Tells whether strangers' datagrams are of the match; it can't seal any.
-    opener: Opener,
+    strangers: Strangers,
     errors: E,
     /// The peers that the machine refuses to send to now, as standard error was told.
     refused: [bool; MOST_PEERS],
@@ -140,9 +142,24 @@ struct Mail<'w, E> {
 }
 
 impl<E: Write + Drop> Mail<'_, E> {
-    /// Whether datagrams from this address are taken.
-    fn knows(&self, from: SocketAddr) -> bool {
+    /// Whether this address was given for a peer.
+    fn is_given(&self, from: SocketAddr) -> bool {
         self.peers.iter().any(|peer| *peer == Some(from))
+    }
+
+    /// Whether a peer was found at this address.
+    fn is_found(&self, from: SocketAddr) -> bool {
+        self.found.iter().any(|found| found.has(from))
+    }
+
+    /// Whether the peer of this number has an address for which something is meant.
+    fn is_addressed(&self, index: usize, only: Option<SocketAddr>) -> bool
+        requires { index < 5 }
+    {
+        match only {
+            Some(one) => self.peers[index] == Some(one) || self.found[index].has(one),
+            None => self.peers[index].is_some(),
+        }
     }
 
     /// Sends bytes to a peer, and returns whether the machine refuses it now. Reports when it begins to refuse, and when it
@@ -165,19 +182,45 @@ impl<E: Write + Drop> Mail<'_, E> {
         }
     }
 
-    /// Sends a message to every peer, or only to the one at an address, each with its own tag.
-    fn send(&mut self, message: &TaggedMessage, only: Option<SocketAddr>) {
-        for index in 0..MOST_PEERS {
-            if let Some(address) = self.peers[index]
+    /// Sends a message to a peer, with the peer's own tag: to its address and wherever it was found, or only to one address.
+    fn send_to_peer(&mut self, index: usize, message: &TaggedMessage, only: Option<SocketAddr>)
+        requires { index < 5 }
+    {
+        let form = form_for(index, message);
+        if let Some(given) = self.peers[index]
+            && is_meant(only, given)
+        {
+            self.refused[index] = self.send_to(&form, given, self.refused[index]);
+        }
+        let [newest, older] = self.found[index].addresses();
+        for address in [newest, older] {
+            if let Some(address) = address
                 && is_meant(only, address)
             {
-                let form = form_for(index, message);
-                self.refused[index] = self.send_to(&form, address, self.refused[index]);
+                let _ = self.port.send(form.as_slice(), address);
             }
         }
     }
 
-    /// Sends a message to the peer whose datagram was taken last.
+    /// Sends a message to every peer, or only to the one at an address.
+    fn send(&mut self, message: &TaggedMessage, only: Option<SocketAddr>) {
+        for index in 0..MOST_PEERS {
+            if self.is_addressed(index, only) {
+                self.send_to_peer(index, message, only);
+            }
+        }
+    }
+
+    /// Sends a message to every peer. Where a peer was found is let go in time, if nothing new comes from there.
+    fn send_all(&mut self, message: &TaggedMessage) {
+        self.strangers.note(&message.message);
+        self.send(message, None);
+        for index in 0..MOST_PEERS {
+            self.found[index].pass();
+        }
+    }
+
+    /// Sends a message to where the last datagram was taken from.
     fn send_back(&mut self, message: &TaggedMessage) {
         if self.last.is_some() {
             self.send(message, self.last);
@@ -187,19 +230,48 @@ impl<E: Write + Drop> Mail<'_, E> {
     /// Sends a message to the peer of this number.
     fn send_one(&mut self, peer: usize, message: &TaggedMessage) {
         if peer < MOST_PEERS && self.peers[peer].is_some() {
-            self.send(message, self.peers[peer]);
+            self.send_to_peer(peer, message, None);
         }
     }
 
     /// Returns the number of the peer whose datagram was taken last.
     fn last_index(&self) -> usize {
-        let found = self.peers.iter().position(|peer| *peer == self.last);
-        found.unwrap_or(0)
+        for index in 0..MOST_PEERS {
+            if self.last.is_some() && self.is_addressed(index, self.last) {
+                return index;
+            }
+        }
+        0
+    }
+
+    /// Notes where a datagram of a peer came from, if it is one. That a peer is found at another address is reported once.
+    fn find(&mut self, bytes: &[u8], from: SocketAddr) {
+        let Some(Sender { peer, is_new }) = self.strangers.sender_in(bytes) else {
+            return;
+        };
+        if peer >= MOST_PEERS || self.peers[peer].is_none() {
+            return;
+        }
+        let was_there = self.found[peer].has(from);
+        self.found[peer].note(from, is_new);
+        if !was_there && self.found[peer].has(from) {
+            let letter = self.strangers.letter(peer);
+            let _ = writeln!(self.errors, "desk {letter} is at {from} now");
+        }
+    }
+
+    /// Whether a datagram is a peer's: by its address, or by what it says.
+    fn is_of_peer(&mut self, bytes: &[u8], from: SocketAddr) -> bool {
+        if self.is_given(from) {
+            return true;
+        }
+        self.find(bytes, from);
+        self.is_found(from)
     }
 
     /// Reports once that a datagram of the match, which opens, came from an address that isn't a peer's.
     fn pass_over(&mut self, bytes: &[u8], from: SocketAddr) {
-        if !self.is_stranger_told && self.opener.opens(bytes) {
+        if !self.is_stranger_told && self.strangers.opens(bytes) {
             let _ = writeln!(self.errors, "not a peer: {from}");
             self.is_stranger_told = true;
         }
@@ -217,7 +289,7 @@ impl<E: Write + Drop> Mail<'_, E> {
             Ok(came) => came,
             Err(error) => return missed(&error),
         };
-        if self.knows(from) {
+        if self.is_of_peer(&buffer[..count], from) {
             self.last = Some(from);
             return Taken::Datagram(count);
         }
@@ -226,8 +298,9 @@ impl<E: Write + Drop> Mail<'_, E> {
     }
 }
 
-/// A socket at an address, which sends to its peers and takes what they sent. It writes to standard error when the machine
-/// begins to refuse a peer, when it sends to it again, and once if a datagram of the match comes from anyone else.
+/// A socket at an address, which sends to its peers and takes what they sent, wherever desks are found. It writes to standard
+/// error when the machine begins to refuse a peer, when it sends to it again, where else a desk is found, and once if a datagram
+/// of the match comes from anyone else.
 pub struct Peers<'w, E> {
     mail: Mail<'w, E>,
     log: CarriedLog,
@@ -243,7 +316,7 @@ impl<E: Drop> Drop for Peers<'_, E> {
 impl<'w, E: Write + Drop> Peers<'w, E> {
     ghost use Rattle.seal.specs.Carried.{carried_of};
 
-    /// Opens a socket at this address, in the match whose datagrams the opener opens; each of its calls has a time limit. The
+    /// Opens a socket at this address, in a match whose datagrams `strangers` knows; each of its calls has a time limit. The
     /// ends, too, end a wait for datagrams, and if the page does, that is noted.
     pub fn new(
         net: &impl Net,
@@ -251,7 +324,7 @@ impl<'w, E: Write + Drop> Peers<'w, E> {
         peers: [Option<SocketAddr>; MOST_PEERS],
         ends: WaitEnds,
         called: &'w Cell<bool>,
-        opener: Opener,
+        strangers: Strangers,
         errors: E,
     ) -> io::Result<Peers<'w, E>>
         ensures { IfOk result (λ peers. carried_of peers.log ≡ []) }
@@ -263,8 +336,9 @@ impl<'w, E: Write + Drop> Peers<'w, E> {
                 port,
                 called,
                 peers,
+                found: [Whereabouts::NOWHERE; MOST_PEERS],
                 last: None,
-                opener,
+                strangers,
                 errors,
                 refused: [false; MOST_PEERS],
                 is_stranger_told: false,
@@ -287,7 +361,7 @@ impl<E: Write + Drop> SealedCarrier for Peers<'_, E> {
     ghost carried = { λ peers. carried_of peers.log };
 
     fn carry(&mut self, message: &TaggedMessage) {
-        self.mail.send(message, None);
+        self.mail.send_all(message);
         self.log = self.log.sent(Receivers::ToAll, message);
     }
 
