@@ -1,10 +1,14 @@
 -- A board's process that was kept.
-use Rattle.std.proofs.Common.{◌≡◌, ℕ, Bool, false, List, Option, Result, Ok, Err, IfOk, IsOk}
+use Rattle.std.proofs.Common.{◌≡◌, ◌∷◌, [], ℕ, Bool, false, List, Option, Result, Ok, Err, IfOk, IsOk}
 use Rattle.cards.specs.Sheet.{Sheet}
 use Rattle.links.specs.Passed.{Passed}
-use Rattle.live.specs.Boards.{BoardLives}
-use Rattle.live.specs.Runs.{untyped}
+use Rattle.board.specs.Board.{book_of, game_of}
+use Rattle.live.specs.Boards.{BoardLives, board_kind}
+use Rattle.live.proofs.OpenedLemmas.{NoneOpened, boards_open_none}
+use Rattle.live.specs.Runs.{passed_in, untyped}
 use Rattle.live.specs.Sights.{Sight}
+use Rattle.seal.specs.Opening.{opened}
+use Rattle.seal.specs.declared.ring.Ring.{Ring}
 use Rattle.station_texts.specs.declared.notices.Notice.{Notice}
 use Rattle.streams.specs.declared.watched.WriteFailed.{WriteFailed}
 use Rattle.board_command.specs.Keeping.{MatchBoard, entries_in, innings_in}
@@ -16,6 +20,16 @@ pub lives_so : {sheet same : Sheet} {begun last : MatchBoard} {p q m n : List Pa
     → BoardLives entries_in innings_in sheet begun last (untyped p before s) (untyped m after u) turns a c e g ended
     → BoardLives entries_in innings_in same begun last (untyped q before t) (untyped n after v) turns b d f h ended
 lives_so i j k l m n o p q lives = rw (i, j, k, l, m, n, o, p, q) lives
+
+-- what a board that lives on said and heard begins with the opening of its link, which isn't opened again
+pub opened_first : {sheet : Sheet} {begun last : MatchBoard} {ring : Ring} {passed : List Passed} {before after : List ℕ} {s t : Option (List ℕ)} {turns : ℕ}
+    {a b : List Notice} {c d : List Sight} {ended : Result (Unit {0}) WriteFailed}
+    → BoardLives entries_in innings_in sheet begun last (untyped (opened ring ∷ []) before s) (untyped passed after t) turns a b c d ended
+    → (more : List Passed) × (passed ≡ opened ring ∷ more) × NoneOpened more
+opened_first {sheet} {begun} lives =
+    let goes = lives.runs.goes.goes in
+    let kind = board_kind sheet (game_of begun) (innings_in (book_of begun)) in
+    (passed_in kind goes.moments, goes.logs.passed, boards_open_none sheet (game_of begun) (innings_in (book_of begun)) goes.moments)
 
 -- if an answer has no fault, its board ended without one
 pub answered : {E : Type 0} (answer : Result Bool E) {ended life : Result (Unit {0}) WriteFailed} → ended ≡ life

@@ -1,5 +1,5 @@
 -- The process of a board on this machine, and what it leaves to be seen.
-use Rattle.std.specs.Prelude.{◌≡◌, ℕ, List, [], Some, Result}
+use Rattle.std.specs.Prelude.{◌≡◌, ◌∷◌, ℕ, List, [], Option, Some, Result}
 use Rattle.notation.specs.declared.entry.Entry.{Entry}
 use Rattle.corrections.specs.Book.{Contents}
 use Rattle.corrections.specs.declared.checked_book.CheckedBook.{CheckedBook}
@@ -7,6 +7,8 @@ use Rattle.corrections.specs.contracts.checked_book.CheckedBookBookOf.TheImpl as
 use Rattle.agree_core.specs.Boards.{fresh_board}
 use Rattle.board.specs.Board.{book_of, game_of, state_of}
 use Rattle.board.specs.declared.board.Board.{Board}
+use Rattle.agree_core.specs.declared.messages.Asker.{Asker}
+use Rattle.cards.specs.Digest.{sheet_digest}
 use Rattle.cards.specs.Sheet.{Sheet}
 use Rattle.links.specs.declared.log.Log.{Log}
 use Rattle.links.specs.Logs.{passed_of}
@@ -22,15 +24,20 @@ use Rattle.machine.specs.declared.row_log.Written.{Written}
 use Rattle.machine.specs.Screens.{text_of}
 use Rattle.seal.specs.declared.carrier.CarriedLog.{CarriedLog}
 use Rattle.seal.specs.Carried.{carried_of}
+use Rattle.seal.specs.Opening.{opened}
+use Rattle.seal.specs.declared.ring.Ring.{Ring}
 use Rattle.setup.specs.Carried.{WasCarried}
+use Rattle.setup.specs.Keys.{IsRingOf}
+use Rattle.setup.specs.declared.sealing.Sealing.{Sealing}
 use Rattle.station_texts.specs.declared.{notice_log.NoticeLog.NoticeLog, notices.Notice.Notice}
 use Rattle.station_texts.specs.NoticeLogs.{notices_of}
 use Rattle.streams.specs.declared.watched.WriteFailed.{WriteFailed}
 
--- the sheet of its match, what its link said and heard, what its socket carried for that, what was written to its screen, the
+-- the sheet of its match, the seals of its link, what its link said and heard, what its socket carried for that, what was written to its screen, the
 -- notices that it told, the books that it handed to its displays, what it told them that it heard, and how it ended
 pub record Traces : Type 0 where
   pub sheet : Sheet
+  pub ring : Ring
   pub passed : List Passed
   pub carried : List Passed
   pub told : List ℕ
@@ -48,9 +55,10 @@ innings_in book = book.innings_a_side
 
 -- the traces that these logs hold
 abbrev pub traces_of :
-    Sheet → Log → CarriedLog → Written → NoticeLog → SightLog CheckedBook → HearingLog → Result (Unit {0}) WriteFailed → Traces
-traces_of sheet passed carried told notices shown heard ended = record {
+    Sheet → Ring → Log → CarriedLog → Written → NoticeLog → SightLog CheckedBook → HearingLog → Result (Unit {0}) WriteFailed → Traces
+traces_of sheet ring passed carried told notices shown heard ended = record {
   sheet = sheet;
+  ring = ring;
   passed = passed_of passed;
   carried = carried_of carried;
   told = text_of told;
@@ -70,8 +78,12 @@ pub record IsFresh (sheet : Sheet) (board : MatchBoard) : Type 0 where
   pub game : game_of board ≡ sheet.game
   pub innings : innings_in (book_of board) ≡ sheet.innings
 
--- A board was kept, from before anything had passed or was told, until exactly this had passed at its socket, been written to
--- its screen, been told and been shown, and it ended so. Its displays were told exactly what it heard of what passed.
+-- a board's seals are made from its sheet and the bytes of its key file, if one is named
+abbrev pub WasSealed : Option (List ℕ) → Sheet → Sealing → Type 0
+WasSealed key sheet sealing = IsRingOf key (sealing.text).value.items Asker.Board (sheet_digest sheet) sealing.ring
+
+-- A board was kept, from when its link was opened with its ring, before anything had passed or was told, until exactly this had
+-- passed at its socket, sealed with that ring, been written to its screen, been told and been shown, and it ended so. Its displays were told exactly what it heard of what passed.
 pub record WasKept (traces : Traces) : Type 0 where
   pub begun : MatchBoard
   pub last : MatchBoard
@@ -79,7 +91,7 @@ pub record WasKept (traces : Traces) : Type 0 where
   pub after : List ℕ
   pub turns : ℕ
   pub fresh : IsFresh traces.sheet begun
-  pub carried : WasCarried traces.passed traces.carried
-  pub lives : BoardLives entries_in innings_in traces.sheet begun last (untyped [] before (Some []))
+  pub carried : WasCarried traces.ring traces.passed traces.carried
+  pub lives : BoardLives entries_in innings_in traces.sheet begun last (untyped (opened traces.ring ∷ []) before (Some []))
       (untyped traces.passed after (Some traces.told)) turns [] traces.notices [] traces.shown traces.ended
-  pub hears : Hears traces.sheet.game [] traces.passed before after [] traces.heard
+  pub hears : Hears traces.sheet.game (opened traces.ring ∷ []) traces.passed before after [] traces.heard

@@ -1,12 +1,13 @@
 //! `ground board`: a scoreboard.
 
-ghost use Rattle.std.specs.Prelude.{◌≡◌, [], IfOk, IsOk, false};
+ghost use Rattle.std.specs.Prelude.{◌≡◌, [], IfOk, IsOk, false, option_copied};
 ghost use Rattle.board_command.specs.Keeping.{IsFresh};
-ghost use Rattle.board_command.specs.Lives.{sheet_path_of, traces_in};
+ghost use Rattle.board_command.specs.Lives.{key_of, sheet_path_of, traces_in};
 
 use crate::files::{Displays, Files, Kept};
 use crate::hearing::{Hearings, Silence};
-use crate::life::{BoardLife, keep_on};
+use crate::life::{BoardLife, Sealed, keep_on};
+use crate::notes::Notes;
 use crate::page::Page;
 use agree_core::Asker;
 use board::{Board, Witness};
@@ -154,6 +155,7 @@ pub fn start_board<'a>(
     setting: &BoardSetting<'a>,
 ) -> Result<Ended<'a>, Stopped<'a>>
     ensures sheet { IfOk result (λ ended. sheet_path_of ended.life ≡ setting.now.sheet.now) }
+    ensures key { IfOk result (λ ended. key_of ended.life ≡ option_copied setting.now.key) }
     ensures answer { IfOk result (λ ended. IfOk ended.answer (λ refused.
         (refused ≡ false) × IsOk (traces_in ended.life).ended)) }
 {
@@ -197,8 +199,12 @@ pub fn start_board<'a>(
     };
     let lines = Watched::new(output);
     let scoreboard = Scoreboard { lines, state };
-    let told = Shared::of(&errors);
-    let life = keep_on(source, board, witness, link, &mut clock, scoreboard, told);
+    let watch = Notes::watching(witness, Shared::of(&errors));
+    let sealed = Sealed {
+        sealing: &sealing,
+        key: setting.key,
+    };
+    let life = keep_on(source, board, sealed, link, &mut clock, scoreboard, watch);
     let answer = answer_of(life.ended());
     Ok(Ended { life, answer })
 }

@@ -1,37 +1,42 @@
 //! The process of a board on this machine: a board has a life only if its process was kept.
 
-ghost use Rattle.std.specs.Prelude.{◌≡◌, []};
+ghost use Rattle.std.specs.Prelude.{◌≡◌, ◌∷◌, [], option_copied};
+ghost use Rattle.seal.specs.Opening.{opened};
 ghost use Rattle.setup.specs.SheetText.{IsSheetOf};
 ghost use Rattle.machine.specs.Screens.{written_of};
 ghost use Rattle.streams.specs.Watched.{stream_of};
-ghost use Rattle.board_command.specs.Keeping.{IsFresh, WasKept, entries_in, innings_in, traces_of};
+ghost use Rattle.board_command.specs.Keeping.{IsFresh, WasKept, WasSealed, entries_in, innings_in, traces_of};
 ghost use Rattle.live.specs.HearingLogs.{hearings_of};
 ghost use Rattle.live.specs.SightLogs.{sights_of};
+ghost use Rattle.station_texts.specs.NoticeLogs.{notices_of};
 
 use crate::notes::Notes;
 use agree_core::Message;
-use board::{Board, Trouble, Witness};
+use board::{Board, Trouble};
 use cards::MatchSheet;
 use corrections::CheckedBook;
 use links::{Clock, Log};
-use live::{HearingLog, Scoreboard, Shows, SightLog, keep_board};
+use live::{HearingLog, Scoreboard, Shows, SightLog, Watch, keep_board};
 use machine::{Outlet, Screen, Written};
 use seal::CarriedLog;
-use setup::{SheetFile, StationLink};
+use setup::{Sealing, SheetFile, StationLink};
 use station_texts::NoticeLog;
 use std::io::Write;
 use std::snapshot::Snapshot;
 use streams::{Sink, WriteFailed};
 
-/// The life of a board: the path of its sheet, and how it ended. Only clauses read the rest: the bytes of its sheet and the
-/// sheet read from them, what its link said and heard, what its socket carried for that, what was written to its screen, the
+/// The life of a board: the path of its sheet, that of its key file if one is named, and how it ended. Only clauses read the
+/// rest: the bytes of its sheet and the sheet read from them, its seals and the bytes of the key file that they are made from,
+/// what its link said and heard, what its socket carried for that, what was written to its screen, the
 /// notices that it told, the books that it handed to its displays, and what it told them that it heard.
 #[derive(Drop)]
 pub struct BoardLife<'a> {
     sheet_path: &'a str,
+    key: Option<&'a str>,
     ended: Result<(), WriteFailed>,
     text: Snapshot<Vec<u8>>,
     sheet: Snapshot<MatchSheet>,
+    sealing: Snapshot<Sealing>,
     passed: Snapshot<Log>,
     carried: Snapshot<CarriedLog>,
     told: Written,
@@ -39,7 +44,8 @@ pub struct BoardLife<'a> {
     shown: Snapshot<SightLog<CheckedBook>>,
     heard: Snapshot<HearingLog>,
     pub ghost read: { ∥ IsSheetOf text.value.items sheet.value ∥₁ },
-    pub ghost kept: { ∥ WasKept (traces_of sheet.value passed.value carried.value told notices.value shown.value heard.value ended) ∥₁ },
+    pub ghost sealed: { ∥ WasSealed (option_copied key) sheet.value sealing.value ∥₁ },
+    pub ghost kept: { ∥ WasKept (traces_of sheet.value (sealing.value).ring passed.value carried.value told notices.value shown.value heard.value ended) ∥₁ },
 }
 
 impl BoardLife<'_> {
@@ -91,8 +97,15 @@ impl<S: Shows<CheckedBook>> Shows<CheckedBook> for Noted<S> {
     }
 }
 
-/// Keeps a board that has heard nothing, over a link that has passed nothing, until a write to its screen fails. Returns its
-/// life.
+/// The seals of a board, and the path of the key file that they are made from, if one is named.
+#[derive(Clone, Copy)]
+pub struct Sealed<'a, 's> {
+    pub sealing: &'s Sealing,
+    pub key: Option<&'a str>,
+}
+
+/// Keeps a board that has heard nothing and told nothing, over a link that has passed nothing, until a write to its screen
+/// fails. Returns its life.
 #[inline(never)]
 pub fn keep_on<
     'a,
@@ -104,19 +117,22 @@ pub fn keep_on<
 >(
     source: SheetFile<'a>,
     board: Board<CheckedBook>,
-    witness: Witness,
+    sealed: Sealed<'a, '_>,
     link: StationLink<'_, '_, M>,
     clock: &mut C,
     scoreboard: Scoreboard<Screen<O>, S>,
-    errors: E,
+    watch: Watch<Notes<E>>,
 ) -> BoardLife<'a>
     requires fresh { IsFresh source.sheet board }
     requires read { IsSheetOf (source.text).value.items source.sheet }
-    requires witness { witness ≡ [] }
-    requires unsaid { link.above ≡ [] }
+    requires sealed { WasSealed (option_copied sealed.key) source.sheet (sealed.sealing).now }
+    requires witness { watch.witness ≡ [] }
+    requires unnoticed { notices_of (watch.notices).log ≡ [] }
+    requires opened { link.above ≡ opened (sealed.sealing).now.ring ∷ [] }
     requires unheard { S.heard scoreboard.state ≡ [] }
     requires untold { written_of (stream_of scoreboard.lines) ≡ [] }
     ensures sheet { result.sheet_path.now ≡ source.entry.path.now }
+    ensures key { option_copied result.key ≡ option_copied sealed.entry.key }
 {
     let SheetFile {
         path: sheet_path,
@@ -137,7 +153,7 @@ pub fn keep_on<
             heard: HearingLog::Empty,
         },
     };
-    let mut watch = Notes::watching(witness, errors);
+    let mut watch = watch;
     let ended = keep_board(
         &mut board,
         &sheet,
@@ -150,9 +166,11 @@ pub fn keep_on<
     let Scoreboard { lines, state } = noted;
     BoardLife {
         sheet_path,
+        key: sealed.key,
         ended,
         text,
         sheet: Snapshot::of(&sheet),
+        sealing: Snapshot::of(sealed.sealing),
         passed: Snapshot::of(link.passed()),
         carried: Snapshot::of(link.link().carrier().passed()),
         told: lines.into_inner().written(),

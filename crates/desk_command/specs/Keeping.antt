@@ -1,5 +1,5 @@
 -- The process of a desk on this machine.
-use Rattle.std.specs.Prelude.{◌≡◌, ◌++◌, ℕ, List, [], Option, Some, Result, OnOk}
+use Rattle.std.specs.Prelude.{◌≡◌, ◌∷◌, ◌++◌, ℕ, List, [], Option, Some, Result, OnOk}
 use Rattle.entry_log.specs.Format.{contents, room}
 use Rattle.entry_log.specs.Version2.{version_2}
 use Rattle.vote_store.specs.View.{file_view}
@@ -13,7 +13,9 @@ use Rattle.ahead.specs.Order.{CastsInOrder}
 use Rattle.live.specs.declared.desk_life.LifeEnd.{LifeEnd}
 use Rattle.live.specs.DeskLife.{DeskLives}
 use Rattle.live.specs.Desks.{FitsLongest}
-use Rattle.live.specs.Runs.{Logs}
+use Rattle.screen.specs.declared.told.Told.{Told}
+use Rattle.seal.specs.Opening.{opened}
+use Rattle.seal.specs.declared.ring.Ring.{Ring}
 use Rattle.setup.specs.Carried.{WasCarried}
 use Rattle.desk_command.specs.declared.desk_disk.DeskDisk.{DeskDisk}
 use Rattle.desk_command.specs.Disks.{cap_of, faults_of, file_of, images_of}
@@ -21,30 +23,31 @@ use Rattle.desk_command.specs.Ends.{last_told}
 use Rattle.desk_command.specs.OnFiles.{IsOnFiles}
 use Rattle.desk_command.specs.Traces.{Traces}
 
--- The process of this desk on a disk, which begins with an empty book of the sheet's match: it began before anything had
--- passed, was typed or was told, exactly this has passed, been given and been told since, and it ended so.
+-- The process of this desk on a disk, which begins with an empty book of the sheet's match: it began as its link was opened with
+-- this ring, before anything had passed, was typed or was told; exactly this has passed, been given and been told since, and it
+-- ended so.
 pub record LivesOn
-    (sheet : Sheet) (desk : DeskId) (disk : DeskDisk) (passed : List Passed) (given : List Input) (told : Option (List ℕ))
-    (ended : Result (Unit {0}) LifeEnd) : Type 0 where
+    (sheet : Sheet) (desk : DeskId) (disk : DeskDisk) (ring : Ring) (passed : List Passed) (given : List Input) (told : Option (List ℕ))
+    (tellings : List Told) (ended : Result (Unit {0}) LifeEnd) : Type 0 where
   pub before : List ℕ
   pub after : List ℕ
   pub turns : ℕ
   pub lives : DeskLives (file_view (contents version_2) file_of images_of desk sheet.game) file_of
       (record { faults = faults_of; FitsLongest = FitsLongest (room version_2) (cap_of disk) })
       sheet sheet.innings desk disk
-      (record { passed = []; typed = []; readings = before; told = Some [] })
-      (record { passed = passed; typed = given; readings = after; told = told }) turns ended
+      (record { passed = opened ring ∷ []; typed = []; readings = before; told = Some []; tellings = [] })
+      (record { passed = passed; typed = given; readings = after; told = told; tellings = tellings }) turns ended
 
 -- This desk was kept on the file of this path, and on a copy if its path is named, and left these traces. log says what became
 -- of all that was typed: it gave the desk its lines, and those that may be cast are in order. What it said and heard is what
--- passed at its socket, and it ended as traces.ended says. What it told was written to its screen, and after that only which
--- lines it drops, if it ended by itself; unless one of these writes failed.
+-- passed at its socket, sealed with its ring, and it ended as traces.ended says. What it told was told its page as values, too, and was written to its
+-- screen, and after that only which lines it drops, if it ended by itself; unless one of these writes failed.
 pub record WasKept (desk : DeskId) (path : List ℕ) (copy : Option (List ℕ)) (traces : Traces) : Type 0 where
   pub disk : DeskDisk
   pub log : AheadLog
   pub on : IsOnFiles path copy disk
   pub of_typed : traces.typed ≡ typed_of log
   pub in_order : CastsInOrder log
-  pub carried : WasCarried traces.passed traces.carried
-  pub lives : LivesOn traces.sheet desk disk traces.passed (given_of log) (Some traces.told) traces.ended
+  pub carried : WasCarried traces.ring traces.passed traces.carried
+  pub lives : LivesOn traces.sheet desk disk traces.ring traces.passed (given_of log) (Some traces.told) traces.tellings traces.ended
   pub dropped : OnOk traces.last (traces.written ≡ traces.told ++ last_told traces.ended (traces.sheet).columns log)

@@ -21,10 +21,14 @@ path_of life = life.file.now
 abbrev pub copy_of : Life → Option (List ℕ)
 copy_of life = option_copied life.copy
 
+-- the path of the desk's key file, if one is named
+abbrev pub key_of : Life → Option (List ℕ)
+key_of life = option_copied life.key
+
 -- what the desk's process left to be seen
 abbrev pub traces_in : Life → Traces
 traces_in life =
-    traces_of (life.sheet).value (life.typed).value (life.passed).value (life.carried).value life.told life.written life.ended life.last
+    traces_of (life.sheet).value ((life.sealing).value).ring (life.typed).value (life.passed).value (life.carried).value (life.tellings).value life.told life.written life.ended life.last
 
 -- the lines that were posted in the desk's page
 abbrev pub posted_in : Life → PostedLog

@@ -3,12 +3,12 @@
 ghost use Rattle.std.specs.Prelude.{◌≡◌, false, option_copied, true, IfErr, IfOk, IsOk, None, Some};
 ghost use Rattle.desk_command.specs.Ends as ends;
 ghost use Rattle.desk_command.specs.Ends.{WasStopped};
-ghost use Rattle.desk_command.specs.Lives.{copy_of, desk_of, path_of, sheet_path_of, traces_in};
+ghost use Rattle.desk_command.specs.Lives.{copy_of, desk_of, key_of, path_of, sheet_path_of, traces_in};
 ghost use Rattle.desk_command.specs.Traces.{IsWideSheetOf};
 
 use crate::desk_disk::{desk_disk_at, empty_book};
 use crate::desk_screen::{DeskScreen, LinkErrors};
-use crate::life::{Kept, Life, keep_on};
+use crate::life::{Kept, Life, Paths, keep_on};
 use crate::page::{Page, PageSquares};
 use ahead::Ahead;
 use cards::Columns;
@@ -18,7 +18,7 @@ use machine_files::{LastFault, WriteFault};
 use setup::{
     Sealing, SheetFile, StopFault, Stopped, sheet_file_at, station_of, with_cause, with_copys_cause,
 };
-use station_pages::{PageLines, PageWord, PageWords};
+use station_pages::{PageLines, PageTeller, PageWord, PageWords};
 use station_screens::{Shared, errors_at, output_at};
 use station_table::DeskSetting;
 use std::cell::RefCell;
@@ -167,6 +167,7 @@ pub fn start_desk<'a>(
 ) -> Result<Ended<'a>, Stopped<'a>>
     ensures desk { IfOk result (λ ended. desk_of ended.life ≡ setting.now.desk) }
     ensures sheet { IfOk result (λ ended. sheet_path_of ended.life ≡ setting.now.sheet.now) }
+    ensures key { IfOk result (λ ended. key_of ended.life ≡ option_copied setting.now.key) }
     ensures file { IfOk result (λ ended. path_of ended.life ≡ setting.now.file.now) }
     ensures copy { IfOk result (λ ended. copy_of ended.life ≡ option_copied setting.now.copy) }
     ensures answer { IfOk result (λ ended. IfOk ended.answer (λ refused.
@@ -221,13 +222,26 @@ pub fn start_desk<'a>(
         keys,
         clock: MonotonicClock::new(rt),
         out: Watched::new(screen),
+        teller: PageTeller::new(scorers),
     };
     let Kept {
         life,
         keys,
         screen,
         has_failed,
-    } = keep_on(rt, beginning, source, outside, page.audience(), file, copy);
+    } = keep_on(
+        rt,
+        beginning,
+        source,
+        outside,
+        page.audience(),
+        Paths {
+            file,
+            copy,
+            key: setting.key,
+        },
+        &sealing,
+    );
     let ended = life.ended();
     let is_seen = is_seen(screen, has_failed);
     let keyboard_failed = keys.keys().keys().has_failed();

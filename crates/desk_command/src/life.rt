@@ -1,12 +1,15 @@
 //! The process of a desk on this machine: a desk has a life only if its process was kept.
 
-ghost use Rattle.std.specs.Prelude.{◌≡◌, [], OnErr, Some, option_copied, true};
+ghost use Rattle.std.specs.Prelude.{◌≡◌, ◌∷◌, [], OnErr, Some, option_copied, true};
 ghost use Rattle.ahead.specs.Ahead.{given_of};
 ghost use Rattle.machine.specs.Screens.{text_of};
+ghost use Rattle.screen.specs.Telling.{tellings_of};
 ghost use Rattle.streams.specs.Watched.{stream_of};
 ghost use Rattle.desk_command.specs.Keeping.{LivesOn, WasKept};
 ghost use Rattle.desk_command.specs.OnFiles.{IsOnFiles};
-ghost use Rattle.desk_command.specs.Traces.{IsWideSheetOf, WasEntered, traces_of};
+ghost use Rattle.seal.specs.Opening.{opened};
+ghost use Rattle.seal.specs.declared.ring.Ring.{Ring as ARing};
+ghost use Rattle.desk_command.specs.Traces.{IsWideSheetOf, WasEntered, WasSealed, traces_of};
 
 use crate::desk_disk::DeskDisk;
 use crate::ending::{Ending, Recorded, end_screen};
@@ -20,39 +23,44 @@ use links::{Clock, InputLog, Keys, Link, Log, Window};
 use live::{Beginning, LifeEnd, Outside, keep_desk};
 use machine::{Keyboard, MonotonicClock, Written};
 use posts::PostedLog;
+use screen::{TellLog, Tells};
 use seal::CarriedLog;
-use setup::{SheetFile, StationLink};
-use station_pages::{PageLines, PageSight, PageWords, Squares};
+use setup::{Sealing, SheetFile, StationLink};
+use station_pages::{PageLines, PageSight, PageTeller, PageWords, Squares};
 use std::io::{Read, Write};
 use std::snapshot::Snapshot;
 use streams::{Sink, Watched, WriteFailed};
 
-/// The life of a desk: its letter, the paths of its sheet, its votes file and its copy if it has one, how it ended, and whether
-/// its last rows could be written. Only clauses read the rest: the bytes of its sheet and the sheet read from them, what was
-/// typed except the words of its page, all that its scorer entered, those words included, the lines of it that were posted in
-/// the page, what its link said and heard, what its socket carried for that, what it told until it ended, and all that was
-/// written to its screen.
+/// The life of a desk: its letter, the paths of its sheet, its key file and its copy if it has them, and its votes file, how it
+/// ended, and whether its last rows could be written. Only clauses read the rest: the bytes of its sheet and the sheet read from
+/// them, its seals and the bytes of the key file that they are made from, what was typed except the words of its page, all that its scorer entered, those words included, the lines of it that were posted in
+/// the page, what its link said and heard, what its socket carried for that, what it told its page as values, what it told until
+/// it ended, and all that was written to its screen.
 #[derive(Drop)]
 pub struct Life<'a> {
     desk: DeskId,
     sheet_path: &'a str,
+    key: Option<&'a str>,
     file: &'a str,
     copy: Option<&'a str>,
     ended: Result<(), LifeEnd>,
     last: Result<(), WriteFailed>,
     text: Snapshot<Vec<u8>>,
     sheet: Snapshot<MatchSheet>,
+    sealing: Snapshot<Sealing>,
     typed: Snapshot<InputLog>,
     entered: Snapshot<InputLog>,
     posted: Snapshot<PostedLog>,
     passed: Snapshot<Log>,
     carried: Snapshot<CarriedLog>,
+    tellings: Snapshot<TellLog>,
     told: Written,
     written: Written,
     pub ghost read: { ∥ IsWideSheetOf text.value.items sheet.value ∥₁ },
+    pub ghost sealed: { ∥ WasSealed desk (option_copied key) sheet.value sealing.value ∥₁ },
     pub ghost entries: { WasEntered typed.value entered.value posted.value },
     pub ghost kept: { ∥ WasKept desk file.now (option_copied copy)
-        (traces_of sheet.value typed.value passed.value carried.value told written ended last) ∥₁ },
+        (traces_of sheet.value (sealing.value).ring typed.value passed.value carried.value tellings.value told written ended last) ∥₁ },
 }
 
 impl Life<'_> {
@@ -66,23 +74,25 @@ impl Life<'_> {
 
 /// Keeps the desk's process on this disk until it ends.
 #[inline(never)]
-fn keep<L: Link, K: Keys, C: Clock, W: Sink>(
+fn keep<L: Link, K: Keys, C: Clock, W: Sink, T: Tells>(
     rt: &HostRuntime,
     beginning: Beginning<DeskDisk<'_>, CheckedBook>,
     sheet: &MatchSheet,
-    outside: &mut Outside<L, K, C, W>,
+    outside: &mut Outside<L, K, C, W, T>,
     audience: Audience<'_>,
 ) -> Result<(), LifeEnd>
     requires empty { (beginning.book).entries ≡ [] }
     requires innings { (beginning.book).innings_a_side ≡ sheet.now.innings }
-    requires unsaid { L.log outside.old.link ≡ [] }
     requires untyped { K.inputs outside.old.keys ≡ [] }
     requires untold { W.contents (stream_of outside.old.out) ≡ Some [] }
-    ensures { LivesOn sheet.now beginning.entry.desk beginning.entry.disk
-        (L.log outside.new.link) (K.inputs outside.new.keys) (W.contents (stream_of outside.new.out)) result }
+    requires none { T.tellings outside.old.teller ≡ [] }
+    ensures { (ring : ARing) → L.log outside.old.link ≡ opened ring ∷ []
+        → LivesOn sheet.now beginning.entry.desk beginning.entry.disk ring
+        (L.log outside.new.link) (K.inputs outside.new.keys) (W.contents (stream_of outside.new.out))
+        (T.tellings outside.new.teller) result }
 {
     let mut sight = PageSight::new(rt.alloc(), beginning.desk, audience.page, audience.called);
-    keep_desk::<Slots<DeskDisk<'_>>, CheckedBook, _, _, _, _, _>(
+    keep_desk::<Slots<DeskDisk<'_>>, CheckedBook, _, _, _, _, _, _>(
         rt.alloc(),
         beginning,
         sheet,
@@ -97,15 +107,16 @@ pub trait Carries: Link {
     ghost use Rattle.std.specs.Prelude.{◌≡◌};
     ghost use Rattle.links.specs.Logs.{passed_of};
     ghost use Rattle.seal.specs.Carried.{carried_of};
+    ghost use Rattle.seal.specs.declared.ring.Ring.{Ring as ARing};
     ghost use Rattle.setup.specs.Carried.{WasCarried};
 
     /// What the link said and heard.
     fn passed(&self) -> &Log
         ensures { passed_of result.now ≡ Self.log self.now };
 
-    /// What the link's socket carried.
+    /// What the link's socket carried, sealed with the link's ring.
     fn carried(&self) -> &CarriedLog
-        ensures { WasCarried (Self.log self.now) (carried_of result.now) };
+        ensures { (ring : ARing) × WasCarried ring (Self.log self.now) (carried_of result.now) };
 }
 
 impl<E: Write + Drop> Carries for StationLink<'_, '_, E> {
@@ -136,6 +147,14 @@ impl<R: Read, E: Write> Enters for Keyboard<R, PageLines<'_, E>> {
     }
 }
 
+/// The paths of a desk's votes file, and of its copy and its key file if they are named.
+#[derive(Clone, Copy)]
+pub struct Paths<'a> {
+    pub file: &'a str,
+    pub copy: Option<&'a str>,
+    pub key: Option<&'a str>,
+}
+
 /// A desk whose process was kept: its life, its scorer's lines, and its screen, with whether a write to it has failed. Its
 /// socket is closed.
 pub struct Kept<'a, K: Keys, W> {
@@ -151,21 +170,30 @@ pub fn keep_on<'a, L: Carries + Drop, K: Enters, S: Squares, C: Clock, W: Record
     rt: &HostRuntime,
     beginning: Beginning<DeskDisk<'_>, CheckedBook>,
     source: SheetFile<'a>,
-    outside: Outside<L, Ahead<PageWords<K, S>, C>, MonotonicClock<'_, HostRuntime>, W>,
+    outside: Outside<
+        L,
+        Ahead<PageWords<K, S>, C>,
+        MonotonicClock<'_, HostRuntime>,
+        W,
+        PageTeller<'_>,
+    >,
     audience: Audience<'_>,
-    file: &'a str,
-    copy: Option<&'a str>,
+    paths: Paths<'a>,
+    sealing: &Sealing,
 ) -> Kept<'a, Ahead<PageWords<K, S>, C>, W>
     requires empty { (beginning.book).entries ≡ [] }
     requires innings { (beginning.book).innings_a_side ≡ (source.sheet).innings }
     requires read { IsWideSheetOf (source.text).value.items source.sheet }
-    requires unsaid { L.log outside.link ≡ [] }
+    requires opened { L.log outside.link ≡ opened sealing.now.ring ∷ [] }
+    requires sealed { WasSealed beginning.desk (option_copied paths.key) source.sheet sealing.now }
     requires untyped { given_of ((outside.keys).queue).log ≡ [] }
     requires untold { W.contents (stream_of outside.out) ≡ Some [] }
-    requires on { IsOnFiles file.now (option_copied copy) beginning.disk }
+    requires none { tellings_of (outside.teller).log ≡ [] }
+    requires on { IsOnFiles paths.file.now (option_copied paths.copy) beginning.disk }
     ensures desk { (result.life).desk ≡ beginning.entry.desk }
-    ensures file { (result.life).file.now ≡ file.now }
-    ensures copy { option_copied (result.life).copy ≡ option_copied copy.entry }
+    ensures key { option_copied (result.life).key ≡ option_copied paths.entry.key }
+    ensures file { (result.life).file.now ≡ paths.entry.file.now }
+    ensures copy { option_copied (result.life).copy ≡ option_copied paths.entry.copy }
     ensures sheet { (result.life).sheet_path.now ≡ source.entry.path.now }
     ensures typed { ((result.life).typed).value ≡ ((result.keys).keys).given }
     ensures written { W.contents result.screen ≡ Some (text_of (result.life).written) }
@@ -184,6 +212,7 @@ pub fn keep_on<'a, L: Carries + Drop, K: Enters, S: Squares, C: Clock, W: Record
         mut keys,
         clock: _clock,
         out,
+        teller,
     } = outside;
     let Ending {
         screen,
@@ -193,20 +222,24 @@ pub fn keep_on<'a, L: Carries + Drop, K: Enters, S: Squares, C: Clock, W: Record
         has_failed,
     } = end_screen(out, sheet.columns(), ended, &mut keys);
     let (entered, posted) = keys.keys().keys().entered();
+    let Paths { file, copy, key } = paths;
     let life = Life {
         desk,
         sheet_path,
+        key,
         file,
         copy,
         ended,
         last,
         text,
         sheet: Snapshot::of(&sheet),
+        sealing: Snapshot::of(sealing),
         typed: Snapshot::of(keys.keys().given()),
         entered: Snapshot::of(entered),
         posted: Snapshot::of(posted),
         passed: Snapshot::of(link.passed()),
         carried: Snapshot::of(link.carried()),
+        tellings: Snapshot::of(teller.log()),
         told,
         written,
     };

@@ -1,8 +1,9 @@
 -- What passes at a window.
 use Rattle.std.proofs.lemmas.Grind.{common_steps}
-use Rattle.std.proofs.Common.{arith, ◌≡◌, ◌⊎◌, ℕ, Option, Some, List, [], ◌∷◌, ◌++◌, append-nil, append_assoc, refl, sym, ◌∙◌, subst, inl, inr, ⊎_elim}
+use Rattle.std.proofs.Common.{arith, ◌≡◌, ◌⊎◌, ℕ, Bool, Option, Some, List, [], ◌∷◌, ◌++◌, append-nil, append_assoc, refl, sym, ◌∙◌, subst, inl, inr, ⊎_elim}
 use Rattle.std.specs.Prelude.{IfSome, ◌≤◌, take}
-use Rattle.links.specs.Passed.{Passed, Sent, Came, IsRead, IsTaken, taken_of}
+use Rattle.links.specs.Passed.{Passed, Opened, Sent, Came, IsRead, IsTaken, taken_of}
+use Rattle.agree_core.specs.declared.messages.Asker.{Asker}
 use Rattle.links.specs.declared.link.{Arrival.Arrival, Receivers.Receivers, Taken.Taken}
 use Rattle.links.specs.Windows.{AreOf, BringsVote, Has, HasAsked, HasSince, IsAsk, IsBrought, IsFaithful, IsGrown, IsHanded, IsQuietOrAsks, IsQuietUntilNews, IsStill, IsWindow, Windowed}
 
@@ -34,6 +35,11 @@ came_isn't_sent m to n e = cc
 sent_isn't_came : (to : Receivers) (m n : List ℕ) → Sent to m ≡ Came n → ⊥
 sent_isn't_came to m n e = cc
 
+-- an opening was among these, or is none of those added
+opened_before : (log : List Passed) (q : Passed) (station : Asker) (seals : List (List ℕ)) (is_of_pairs : Bool) → (q ≡ Opened station seals is_of_pairs → ⊥)
+    → Has (log ++ q ∷ []) (Opened station seals is_of_pairs) → Has log (Opened station seals is_of_pairs)
+opened_before log q station seals is_of_pairs none h = ⊎_elim (λ k. k) (λ e. absurd (none e)) (has_split log q (Opened station seals is_of_pairs) h)
+
 came_is : (m n : List ℕ) → Came m ≡ Came n → m ≡ n
 came_is m n e = cc
 
@@ -52,6 +58,7 @@ pub sent_above : (game : ℕ) (above below : List Passed) (to : Receivers) (m : 
 sent_above game above below to m f = record {
   given = λ n h. ⊎_elim (f.given n) (λ e. absurd (sent_isn't_came to m n e)) (has_split above (Sent to m) (Came n) h);
   handed = λ one n h. handed_more game above (Sent to m ∷ []) one n (f.handed one n h);
+  opened = λ station seals is_of_pairs h. has_more above (Sent to m ∷ []) (Opened station seals is_of_pairs) (f.opened station seals is_of_pairs h);
 }
 
 pub came_above : (game : ℕ) (above below : List Passed) (m : List ℕ) → IsBrought game below m → IsFaithful game above below
@@ -59,6 +66,7 @@ pub came_above : (game : ℕ) (above below : List Passed) (m : List ℕ) → IsB
 came_above game above below m b f = record {
   given = λ n h. ⊎_elim (f.given n) (λ e. subst (λ (l : List ℕ). IsBrought game below l) (came_is m n e) b) (has_split above (Came m) (Came n) h);
   handed = λ one n h. handed_more game above (Came m ∷ []) one n (f.handed one n h);
+  opened = λ station seals is_of_pairs h. has_more above (Came m ∷ []) (Opened station seals is_of_pairs) (f.opened station seals is_of_pairs h);
 }
 
 pub sent_below : (game : ℕ) (above below : List Passed) (to : Receivers) (m : List ℕ) → IsHanded game above to m → IsFaithful game above below
@@ -66,16 +74,22 @@ pub sent_below : (game : ℕ) (above below : List Passed) (to : Receivers) (m : 
 sent_below game above below to m b f = record {
   given = λ n h. brought_more game below (Sent to m ∷ []) n (f.given n h);
   handed = λ one n h. ⊎_elim (f.handed one n) (λ e. same_handed game above to one m n e b) (has_split below (Sent to m) (Sent one n) h);
+  opened = λ station seals is_of_pairs h. f.opened station seals is_of_pairs (opened_before below (Sent to m) station seals is_of_pairs (λ e. cc) h);
 }
 
 pub came_below : (game : ℕ) (above below : List Passed) (m : List ℕ) → IsFaithful game above below → IsFaithful game above (below ++ Came m ∷ [])
 came_below game above below m f = record {
   given = λ n h. brought_more game below (Came m ∷ []) n (f.given n h);
   handed = λ one n h. ⊎_elim (f.handed one n) (λ e. absurd (came_isn't_sent m one n e)) (has_split below (Came m) (Sent one n) h);
+  opened = λ station seals is_of_pairs h. f.opened station seals is_of_pairs (opened_before below (Came m) station seals is_of_pairs (λ e. cc) h);
 }
 
 pub some_of : (P : List ℕ → Type 0) (o : Option (List ℕ)) (m : List ℕ) → IfSome o P → o ≡ Some m → P m
 some_of P o m h e = subst (λ (x : Option (List ℕ)). IfSome x P) e h
+
+-- a window that begins knows just what its link does
+pub begins_faithful : (game : ℕ) (log : List Passed) → IsFaithful game log log
+begins_faithful game log = record { given = λ m h. inl h; handed = λ to m h. inl h; opened = λ station seals is_of_pairs h. h }
 
 -- the same for a whole window, whose kept votes stay
 pub above_sent : (game : ℕ) (above below : List Passed) (early : List (List ℕ)) (ask : Option (List ℕ)) (to : Receivers) (m : List ℕ)

@@ -1,12 +1,14 @@
 -- What passes between a station and its link.
-use Rattle.std.specs.Prelude.{◌≡◌, ◌≤◌, ℕ, List, [], ◌∷◌, ◌++◌, map, take}
-use Rattle.agree_core.specs.declared.messages.Message.{Message}
+use Rattle.std.specs.Prelude.{◌≡◌, ◌≤◌, ℕ, Bool, List, [], ◌∷◌, ◌++◌, map, take}
+use Rattle.agree_core.specs.declared.messages.{Asker.Asker, Message.Message}
 use Rattle.wire.specs.Layout.{written}
 use Rattle.wire.specs.Reading.{Reads}
 use Rattle.links.specs.declared.link.{Arrival.Arrival, Receivers.Receivers, Taken.Taken}
 
--- a datagram that the link was handed for these receivers, or that it gave
+-- the link was opened for a station, with these seals, which are or aren't of keys for each pair of stations; a datagram that
+-- the link was handed for these receivers; or one that it gave
 pub data Passed : Type 0 where
+  Opened : Asker → List (List ℕ) → Bool → Passed
   Sent : Receivers → List ℕ → Passed
   Came : List ℕ → Passed
 

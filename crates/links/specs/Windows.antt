@@ -7,7 +7,7 @@ use Rattle.agree_core.specs.declared.position.Position.{Position}
 use Rattle.agree_core.specs.Positions.{position_of}
 use Rattle.links.specs.declared.times.TheConstants.{LONGEST_ASK_PAUSE}
 use Rattle.wire.specs.Layout.{Says, is_at, written}
-use Rattle.links.specs.Passed.{Passed, Sent, Came}
+use Rattle.links.specs.Passed.{Passed, Opened, Sent, Came}
 use Rattle.links.specs.declared.link.{Receivers.Receivers, Taken.Taken}
 use Rattle.links.specs.declared.link.Receivers.TheVariants.{ToAll}
 
@@ -56,10 +56,12 @@ abbrev pub IsBrought : ℕ → List Passed → List ℕ → Type 0
 IsBrought game below m = Has below (Came m) ⊎ IsAsk game m
 
 -- in a match, the link below gave each message that the window gave, and the window was handed each message that the link was
--- handed, for all or for one, asks aside
+-- handed, for all or for one, asks aside; and what is known of how the link was opened is known of the window
 pub record IsFaithful (game : ℕ) (above below : List Passed) : Type 0 where
   pub given : (m : List ℕ) → Has above (Came m) → IsBrought game below m
   pub handed : (to : Receivers) (m : List ℕ) → Has below (Sent to m) → IsHanded game above to m
+  pub opened : (station : Asker) (seals : List (List ℕ)) (is_of_pairs : Bool)
+      → Has below (Opened station seals is_of_pairs) → Has above (Opened station seals is_of_pairs)
 
 -- a window: the number of its match; what passed at it and at the link below it; the votes that it keeps; its clock's
 -- readings; and since when it is quiet: when its station's ask was last sent to all, or a missing vote came

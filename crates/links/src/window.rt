@@ -110,12 +110,12 @@ impl<L: PeerLink, C: Clock> Window<L, C> {
     ghost use Rattle.links.specs.Windows.{IsQuietUntilNews, IsSaid, IsStill, IsVote};
     ghost use Rattle.links.specs.declared.link.Receivers.TheVariants.{ToAll, ToOne};
 
-    /// Returns a window over a link, in the match of this number.
-    pub fn new(alloc: Global, link: L, clock: C, game: u64) -> Window<L, C>
-        requires { L.log link ≡ [] }
+    /// Returns a window over a link, in the match of this number. `log` says what passed at the link until now.
+    pub fn new(alloc: Global, link: L, clock: C, game: u64, log: Log) -> Window<L, C>
+        requires { passed_of log ≡ L.log link }
         ensures game { result.game ≡ game }
-        ensures above { result.above ≡ [] }
-        ensures below { result.below ≡ [] }
+        ensures above { result.above ≡ passed_of log }
+        ensures below { result.below ≡ L.log link }
         ensures kept { result.kept ≡ [] }
         ensures quiet { result.quiet_since ≡ 0 }
     {
@@ -126,7 +126,7 @@ impl<L: PeerLink, C: Clock> Window<L, C> {
             company: Company::new(),
             known: Known::new(alloc),
             silence: Silence::new(),
-            log: Log::Empty,
+            log,
         }
     }
 

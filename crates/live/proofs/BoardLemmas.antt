@@ -60,8 +60,9 @@ module _ {B : Type 0} {g : _} {content : B → List Entry} {innings_of : B → �
   called : {l : Board B g} {p q : BoardTurn} {a b : Logs} (call : BoardCall) (out : List Message) → SameMatch innings_of k l → All IsMessage out
       → TurnStep sheet (game_of k) (innings_of (book_of k)) p call out q → b.passed ≡ a.passed ++ (given call ++ sends ToAll (game_of k) out) → b.typed ≡ a.typed
       → b.readings ≡ a.readings ++ reads (beat_of call) → Appends a.told b.told (shown sheet (innings_of (book_of k)) p call q)
-      → BoardGoes content innings_of sheet k l p q a b
-  called call out same fine step passed types times text = record { same = same; goes = one call out fine step passed (rw (types, append-nil)) times text }
+      → b.tellings ≡ a.tellings → BoardGoes content innings_of sheet k l p q a b
+  called call out same fine step passed types times text tells =
+      record { same = same; goes = one call out fine step passed (rw (types, append-nil)) times text (rw (tells, append-nil)) }
 
   module _ {turns had taken : ℕ} {memory : Memory} {ticking : Ticking} {noted : List Notice} {seen : List Sight} {a : Logs} where
     -- it was given a datagram
@@ -74,7 +75,7 @@ module _ {B : Type 0} {g : _} {content : B → List Entry} {innings_of : B → �
         a (record a { passed = a.passed ++ Came bytes ∷ [] })
     given_to {l = l} bytes answer beats stands few running kept same takes tells notices =
         called (Given bytes answer) [] same (All-nil IsMessage)
-        ((few, running, kept), (takes, refl), (λ i. in_turn content l turns had (taken + 1) (tells i) (stands i) (notices i) seen), beats) refl refl (rw append-nil) (appends_none a.told)
+        ((few, running, kept), (takes, refl), (λ i. in_turn content l turns had (taken + 1) (tells i) (stands i) (notices i) seen), beats) refl refl (rw append-nil) (appends_none a.told) refl
 
     -- a datagram shows that a desk's file lacks lines, and the desk's own vote went back to it
     pub parted : (bytes back : List ℕ) (v : Vote) {later : Memory} {passed : Ticking} {notes : List Notice} {after : List Passed} → IsInTime ticking → passed ≡ ticking
@@ -86,7 +87,7 @@ module _ {B : Type 0} {g : _} {content : B → List Entry} {innings_of : B → �
     parted bytes back v beats stands few running says recalls tells notices passed =
         called (Parted bytes back) [] same_here (All-nil IsMessage)
         ((few, running, v, says, recalls), (refl, refl), (λ i. in_turn content k turns had (taken + 1) (tells i) (stands i) (notices i) seen), beats)
-        passed refl (rw append-nil) (appends_none a.told)
+        passed refl (rw append-nil) (appends_none a.told) refl
 
     -- a datagram may show that a desk's file lacks lines, and the desk's own vote went back to it
     pub gone_back : (bytes back : List ℕ) (m : Message) {after : List Passed} → IsInTime ticking → taken < MOST_TAKEN → Says (game_of k) bytes m
@@ -95,14 +96,14 @@ module _ {B : Type 0} {g : _} {content : B → List Entry} {innings_of : B → �
         a (record a { passed = after })
     gone_back bytes back m beats few says nothing recalls passed =
         called (Recalled bytes back) [] same_here (All-nil IsMessage) ((few, m, says, nothing, recalls), (refl, refl), refl, beats)
-        passed refl (rw append-nil) (appends_none a.told)
+        passed refl (rw append-nil) (appends_none a.told) refl
 
     -- a datagram came once the board had stopped
     pub passed_by : (bytes : List ℕ) → IsInTime ticking → taken < MOST_TAKEN → is_stopped memory.telling ≡ true → RecallsNone (game_of k) memory.rounds bytes
         → BoardGoes content innings_of sheet k k (in_turn content k turns had taken memory ticking noted seen) (in_turn content k turns had (taken + 1) memory ticking noted seen)
         a (record a { passed = a.passed ++ Came bytes ∷ [] })
     passed_by bytes beats few over kept =
-        called (PassedBy bytes) [] same_here (All-nil IsMessage) ((few, over, kept), (refl, refl), refl, beats) refl refl (rw append-nil) (appends_none a.told)
+        called (PassedBy bytes) [] same_here (All-nil IsMessage) ((few, over, kept), (refl, refl), refl, beats) refl refl (rw append-nil) (appends_none a.told) refl
 
     -- it told that the desks told it different lines
     pub told_apart : {later : Memory} {passed : Ticking} {notes : List Notice} → IsInTime ticking → passed ≡ ticking
@@ -113,7 +114,7 @@ module _ {B : Type 0} {g : _} {content : B → List Entry} {innings_of : B → �
     told_apart beats stands apart untold tells notices =
         called ToldApart [] same_here (All-nil IsMessage)
         ((apart, untold), (refl, refl), (λ i. in_turn content k turns had taken (tells i) (stands i) (notices i) seen), beats)
-        (rw append-nil) refl (rw append-nil) (appends_none a.told)
+        (rw append-nil) refl (rw append-nil) (appends_none a.told) refl
 
     -- a datagram came that doesn't open
     pub passed_over : {later : Memory} {passed : Ticking} {notes : List Notice} {after : List Passed} → IsInTime ticking → passed ≡ ticking → taken < MOST_TAKEN
@@ -123,7 +124,7 @@ module _ {B : Type 0} {g : _} {content : B → List Entry} {innings_of : B → �
     passed_over beats stands few tells notices is =
         called Unopened [] same_here (All-nil IsMessage)
         (few, (refl, refl), (λ i. in_turn content k turns had (taken + 1) (tells i) (stands i) (notices i) seen), beats)
-        (rw (is, append-nil)) refl (rw append-nil) (appends_none a.told)
+        (rw (is, append-nil)) refl (rw append-nil) (appends_none a.told) refl
 
     -- it has looked at its clock
     pub looks : {n : List ℕ} {saw : Ticking} (now : ℕ) → IsInTime ticking → n ≡ a.readings ++ now ∷ [] → saw ≡ record ticking { looked = Some now }
@@ -131,7 +132,7 @@ module _ {B : Type 0} {g : _} {content : B → List Entry} {innings_of : B → �
         a (record a { readings = n })
     looks now beats times is =
         called (Looked now) [] same_here (All-nil IsMessage) (tt, (refl, refl), (λ i. in_turn content k turns had taken memory (is i) noted seen), beats)
-        (rw append-nil) refl times (appends_none a.told)
+        (rw append-nil) refl times (appends_none a.told) refl
 
     -- it has looked at its clock, and ticked
     pub speaks : {after : List Passed} {n : List ℕ} {said : Ticking} (now : ℕ) → IsInTime ticking → n ≡ a.readings ++ now ∷ [] → said ≡ after_look true ticking now
@@ -141,14 +142,14 @@ module _ {B : Type 0} {g : _} {content : B → List Entry} {innings_of : B → �
     speaks now beats times is asked =
         then (looks now beats times refl)
         (called Ticked asked.out same_here asked.fine (tt, (asked.step, refl), (λ i. in_turn content k turns had taken memory (is i) noted seen), refl)
-        asked.passed refl (rw append-nil) (appends_none a.told))
+        asked.passed refl (rw append-nil) (appends_none a.told) refl)
 
     -- it has read its clock
     pub reads_clock : {n : List ℕ} (now : ℕ) → IsInTime ticking → n ≡ a.readings ++ now ∷ []
         → BoardGoes content innings_of sheet k k (in_turn content k turns had taken memory ticking noted seen) (in_turn content k turns had taken memory ticking noted seen)
         a (record a { readings = n })
     reads_clock now beats times =
-        called (Read now) [] same_here (All-nil IsMessage) (tt, (refl, refl), refl, beats) (rw append-nil) refl times (appends_none a.told)
+        called (Read now) [] same_here (All-nil IsMessage) (tt, (refl, refl), refl, beats) (rw append-nil) refl times (appends_none a.told) refl
 
     -- its turn is over
     pub turn_over : {t : Option (List ℕ)} {rested : Ticking} {sees : List Sight} → IsSome ticking.looked → IsInTime ticking → rested ≡ record ticking { looked = None }
@@ -158,7 +159,7 @@ module _ {B : Type 0} {g : _} {content : B → List Entry} {innings_of : B → �
         a (record a { told = t })
     turn_over looked beats is sights text =
         called TurnEnded [] same_here (All-nil IsMessage)
-        (tt, (refl, refl), (λ i. at_turn content k (turns + 1) memory (is i) noted (sights i)), (looked, beats)) (rw append-nil) refl (rw append-nil) text
+        (tt, (refl, refl), (λ i. at_turn content k (turns + 1) memory (is i) noted (sights i)), (looked, beats)) (rw append-nil) refl (rw append-nil) text refl
 
   -- what was seen of its clock is unchanged
   pub unread : {turns had taken : ℕ} {memory : Memory} {ticking saw : Ticking} {noted : List Notice} {seen : List Sight} {a : Logs} → saw ≡ ticking

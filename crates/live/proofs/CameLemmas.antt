@@ -12,6 +12,7 @@ use Rattle.cards.specs.Sheet.{Sheet}
 use Rattle.desk.specs.Takes.{Takes}
 use Rattle.station_texts.specs.declared.{doubt.Evidence.Evidence, warned.Warned.Warned}
 use Rattle.station_texts.specs.Texts.{came_text}
+use Rattle.station_texts.specs.ToldValues.{came_told}
 use Rattle.live.specs.Desks.{entry_in}
 use Rattle.live.proofs.HiddenLemmas.{entry_of_vote}
 
@@ -30,3 +31,11 @@ module _ {Disk : Type 0} (view : FileView Disk) (game : ℕ) (k l : DeskState Di
   came_so bytes read (What.Heard h) out other t reads e sheet innings place own book warned evidence =
       ap (λ (o : Option Entry). came_text sheet innings place own o book warned evidence (What.Heard h)) (entry_so bytes read h out other t.0 t.1 t.2 reads e)
   came_so bytes read what out other t reads e sheet innings place own book warned evidence = refl
+
+  pub told_so : (bytes : List ℕ) (read : Result Message WireFault) (what : What) (out : List Message) (other : Option Entry) → Takes view game k bytes what l out
+      → Reads game bytes read → ((v : Vote) → read ≡ Ok (Message.Vote v) → other ≡ Some v.entry)
+      → (place : ℕ) (own : Option Entry) (warned : Warned) (evidence : Evidence)
+      → came_told place own other warned evidence what ≡ came_told place own (entry_in bytes) warned evidence what
+  told_so bytes read (What.Heard h) out other t reads e place own warned evidence =
+      ap (λ (o : Option Entry). came_told place own o warned evidence (What.Heard h)) (entry_so bytes read h out other t.0 t.1 t.2 reads e)
+  told_so bytes read what out other t reads e place own warned evidence = refl

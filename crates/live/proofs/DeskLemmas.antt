@@ -1,7 +1,7 @@
 -- Runs of a desk.
 use Rattle.std.proofs.Common.{◌≡◌, ◌≤◌, ◌+◌, ℕ, List, [], ◌∷◌, ◌++◌, None, Some, Option, Result, Ok, Err}
 use Rattle.std.proofs.Common.{Bool, true, false, refl, sym, ap, ◌∙◌, subst, append-nil, append_assoc, arith, length, map, All}
-use Rattle.std.specs.Prelude.{IsErrOf, IsErrAnd, IsSome, is_some, nat_lt}
+use Rattle.std.specs.Prelude.{IsErrOf, IsErrAnd, IsSome, is_some, nat_lt, option_to_list}
 use Rattle.std.specs.Bool.{⊤}
 use Rattle.std.specs.Io.KnownBytes.{Appends, Keeps}
 use Rattle.std.proofs.lemmas.List.Elements.{All-nil}
@@ -31,10 +31,12 @@ use Rattle.links.specs.Typing.{Input, Line, End}
 use Rattle.links.specs.declared.aside.Aside.{Aside}
 use Rattle.station_texts.specs.Asides.{aside_text}
 use Rattle.station_texts.specs.Doubts.{holds_up}
+use Rattle.screen.specs.declared.told.Told.{Told}
+use Rattle.station_texts.specs.ToldValues.{aside_told, came_told, reminder_told, said_told, unopened_told}
 use Rattle.station_texts.specs.Texts.{came_text, reminder_text, said_text, unopened_text, warned_after, warned_reminded, warned_said, warned_unopened}
 use Rattle.live.specs.Ends.{Course, course_of, end_at, end_of, ending, further, known_at, known_in, known_until, turns_after}
 use Rattle.live.specs.Desks.{Blames, disks_of, Calls, DeskCall, DeskGoes, DeskProcess, DeskStep, Given, FitsLongest, MayCall, MayRemind, MaySay, Looked, Read, Reminded, Ticked, ToldAside, TurnEnded, Typed}
-use Rattle.live.specs.Desks.{TypingEnded, Unopened, after_call, beat_of, course_after, desk_kind, entry_in, given, innings_of, kind_of, own_line, process_of, receivers_of, shown_by, told_of, typed}
+use Rattle.live.specs.Desks.{TypingEnded, Unopened, after_call, beat_of, course_after, desk_kind, entry_in, given, innings_of, kind_of, own_line, process_of, receivers_of, shown_by, tells_of, told_of, typed}
 use Rattle.live.specs.Ticks.{IsInTime, MayBeat, Ticking, after_look, reads}
 use Rattle.live.specs.declared.ends.DeskEnd.{DeskEnd}
 use Rattle.station_texts.specs.declared.{reminder.Reminder.Reminder, said.Said.Said, warned.Warned.Warned}
@@ -104,21 +106,23 @@ module _ {S B D : Type 0} {g : Files S D} {h : Disks D} {b : Books B} where
       → before ≡ a.passed ++ given call → c.typed ≡ a.typed ++ typed call → c.readings ≡ a.readings ++ reads (beat_of call)
       → q ≡ after_call (process_of k warned turns ticking further) call (state_of l)
       → Appends a.told c.told (told_of sheet (innings_of k) (process_of k warned turns ticking further) call q)
+      → c.tellings ≡ a.tellings ++ tells_of (process_of k warned turns ticking further) call
       → DeskGoes sheet k l (process_of k warned turns ticking further) q a c
-  called {k = k} call {a = a} may beats calls came types times is text =
+  called {k = k} call {a = a} may beats calls came types times is text tells =
       let out = sends (receivers_of call) (game_of k) calls.out in
       let path = calls.passed ∙ (ap (λ (xs : List Passed). xs ++ out) came ∙ append_assoc a.passed (given call) out) in
-      record { same = calls.same; goes = rw is (one call calls.out calls.fine (refl, calls.step, calls.blame, refl, may, beats) path types times (rw is at text)) }
+      record { same = calls.same; goes = rw is (one call calls.out calls.fine (refl, calls.step, calls.blame, refl, may, beats) path types times (rw is at text) tells) }
 
   module _ {sheet : Sheet} {k l : Desk S B D g h b} {warned : Warned} {turns : ℕ} {ticking : Ticking} {a : Logs} where
     -- its scorer typed a line
-    pub says : {line : List ℕ} (answer : Said) {course : Course} {later : Warned} {after : List Passed} {y : List Input} {t : Option (List ℕ)}
+    pub says : {line : List ℕ} (answer : Said) {course : Course} {later : Warned} {after : List Passed} {y : List Input} {t : Option (List ℕ)} {v : List Told}
         → IsInTime ticking → MaySay (holds_up warned.doubt) answer → Calls sheet k l (Typed line answer) a.passed after
         → y ≡ a.typed ++ Line line ∷ [] → later ≡ warned_said warned answer → course ≡ end_of answer
         → Appends a.told t (said_text sheet (innings_of k) (state_of k).seat.position (own_line (state_of k)) (state_of k).seat.theirs warned (state_of l).book answer)
+        → v ≡ a.tellings ++ option_to_list (said_told (state_of k).seat.position (state_of k).seat.theirs answer)
         → DeskGoes sheet k l (process_of k warned turns ticking further) (process_of l later turns ticking course) a
-        (record a { passed = after; typed = y; told = t })
-    says answer beats may c types tells is text = called (Typed _ answer) {ticking = ticking} may beats c (rw append-nil) types (rw append-nil) (rw (tells, is)) text
+        (record a { passed = after; typed = y; told = t; tellings = v })
+    says answer beats may c types tells is text values = called (Typed _ answer) {ticking = ticking} may beats c (rw append-nil) types (rw append-nil) (rw (tells, is)) text values
 
     -- a typed line at which the process ends
     pub says_last : {line : List ℕ} (answer : Said) (end : DeskEnd) {later : Warned} {after : List Passed} {y : List Input} → IsInTime ticking
@@ -127,22 +131,23 @@ module _ {S B D : Type 0} {g : Files S D} {h : Disks D} {b : Books B} where
         → DeskGoes sheet k l (process_of k warned turns ticking further) (process_of l later turns ticking (ending end)) a
         (record a { passed = after; typed = y })
     says_last answer end beats may c types tells e =
-        says answer beats may c types tells (grind arith) (grind (arith, appends_none))
+        says answer beats may c types tells (grind arith) (grind (arith, appends_none)) (grind (arith, append-nil))
 
     -- it was given a datagram
-    pub hears : {bytes : List ℕ} (what : What) {course : Course} {later : Warned} {heard : Ticking} {before after : List Passed} {t : Option (List ℕ)}
+    pub hears : {bytes : List ℕ} (what : What) {course : Course} {later : Warned} {heard : Ticking} {before after : List Passed} {t : Option (List ℕ)} {v : List Told}
         → IsInTime ticking → heard ≡ ticking → Calls sheet k l (Given bytes what) before after
         → before ≡ a.passed ++ Came bytes ∷ [] → later ≡ warned_after warned (shown_by (state_of k) bytes what) what → course ≡ end_at what
         → Appends a.told t (came_text sheet (innings_of k) (state_of k).seat.position.place (own_line (state_of k)) (entry_in bytes) (state_of l).book warned (shown_by (state_of k) bytes what) what)
-        → DeskGoes sheet k l (process_of k warned turns ticking further) (process_of l later turns heard course) a (record a { passed = after; told = t })
-    hears what beats same c came tells is text = called (Given _ what) {ticking = ticking} tt beats c came (rw append-nil) (rw append-nil) (rw (tells, same, is)) text
+        → v ≡ a.tellings ++ option_to_list (came_told (state_of k).seat.position.place (own_line (state_of k)) (entry_in bytes) warned (shown_by (state_of k) bytes what) what)
+        → DeskGoes sheet k l (process_of k warned turns ticking further) (process_of l later turns heard course) a (record a { passed = after; told = t; tellings = v })
+    hears what beats same c came tells is text values = called (Given _ what) {ticking = ticking} tt beats c came (rw append-nil) (rw append-nil) (rw (tells, same, is)) text values
 
     -- a datagram at which the process ends
     pub hears_last : {bytes : List ℕ} (what : What) (end : DeskEnd) {later : Warned} {heard : Ticking} {before after : List Passed} → IsInTime ticking
         → heard ≡ ticking → Calls sheet k l (Given bytes what) before after → before ≡ a.passed ++ Came bytes ∷ [] → later ≡ warned_after warned (shown_by (state_of k) bytes what) what → end_at what ≡ Err end
         → DeskGoes sheet k l (process_of k warned turns ticking further) (process_of l later turns heard (ending end)) a (record a { passed = after })
     hears_last what end beats same c came tells e =
-        hears what beats same c came tells (grind arith) (grind (arith, appends_none))
+        hears what beats same c came tells (grind arith) (grind (arith, appends_none)) (grind (arith, append-nil))
 
   unmoved : {sheet : Sheet} {k : Desk S B D g h b} (call : DeskCall) {log : List Passed}
       → DeskStep sheet (view_of k) (game_of k) (innings_of k) (state_of k) call [] (state_of k) → (IsErrOf (course_after (state_of k) call) DeskEnd.Device → ⊥)
@@ -158,40 +163,42 @@ module _ {S B D : Type 0} {g : Files S D} {h : Disks D} {b : Books B} where
 
   module _ {sheet : Sheet} {k : Desk S B D g h b} {warned : Warned} {turns : ℕ} {ticking : Ticking} {a : Logs} where
     -- a datagram came that doesn't open
-    pub passes : {later : Warned} {passed : Ticking} {course : Course} {t : Option (List ℕ)} → IsInTime ticking → passed ≡ ticking
-        → later ≡ warned_unopened warned → course ≡ further → Appends a.told t (unopened_text warned)
-        → DeskGoes sheet k k (process_of k warned turns ticking further) (process_of k later turns passed course) a (record a { told = t })
-    passes beats same tells is text =
-        called Unopened {ticking = ticking} tt beats (unmoved Unopened (refl, refl) (λ e. (cc))) (rw append-nil) (rw append-nil) (rw append-nil) (rw (tells, same, is)) text
+    pub passes : {later : Warned} {passed : Ticking} {course : Course} {t : Option (List ℕ)} {v : List Told} → IsInTime ticking → passed ≡ ticking
+        → later ≡ warned_unopened warned → course ≡ further → Appends a.told t (unopened_text warned) → v ≡ a.tellings ++ option_to_list (unopened_told warned)
+        → DeskGoes sheet k k (process_of k warned turns ticking further) (process_of k later turns passed course) a (record a { told = t; tellings = v })
+    passes beats same tells is text values =
+        called Unopened {ticking = ticking} tt beats (unmoved Unopened (refl, refl) (λ e. (cc))) (rw append-nil) (rw append-nil) (rw append-nil) (rw (tells, same, is)) text values
 
     -- its scorer is given a reminder about the other desk
-    pub reminds : (reminder : Reminder) {later : Warned} {told : Ticking} {course : Course} {t : Option (List ℕ)} → IsInTime ticking → told ≡ ticking
+    pub reminds : (reminder : Reminder) {later : Warned} {told : Ticking} {course : Course} {t : Option (List ℕ)} {v : List Told} → IsInTime ticking → told ≡ ticking
         → MayRemind (process_of k warned turns ticking further) reminder
         → later ≡ warned_reminded warned reminder → course ≡ further → Appends a.told t (reminder_text (state_of k).seat.position.place reminder)
-        → DeskGoes sheet k k (process_of k warned turns ticking further) (process_of k later turns told course) a (record a { told = t })
-    reminds reminder beats same may tells is text =
+        → v ≡ a.tellings ++ reminder_told (state_of k).seat.position.place reminder ∷ []
+        → DeskGoes sheet k k (process_of k warned turns ticking further) (process_of k later turns told course) a (record a { told = t; tellings = v })
+    reminds reminder beats same may tells is text values =
         called (Reminded reminder) {ticking = ticking} may beats (unmoved (Reminded reminder) (refl, refl) (λ e. (cc))) (rw append-nil) (rw append-nil) (rw append-nil)
-        (rw (tells, same, is)) text
+        (rw (tells, same, is)) text values
 
     -- its scorer is told of lines that the desk isn't given
-    pub tells_aside : (aside : Aside) {course : Course} {y : List Input} {t : Option (List ℕ)} → IsInTime ticking → y ≡ a.typed → course ≡ further → Appends a.told t (aside_text sheet.columns aside)
+    pub tells_aside : (aside : Aside) {course : Course} {y : List Input} {t : Option (List ℕ)} {v : List Told} → IsInTime ticking → y ≡ a.typed → course ≡ further → Appends a.told t (aside_text sheet.columns aside)
+        → v ≡ a.tellings ++ option_to_list (aside_told aside)
         → DeskGoes sheet k k (process_of k warned turns ticking further) (process_of k warned turns ticking course) a
-        (record a { typed = y; told = t })
-    tells_aside aside beats types is text =
-        called (ToldAside aside) {ticking = ticking} tt beats (unmoved (ToldAside aside) (refl, refl) (λ e. (cc))) (rw append-nil) (rw (append-nil, types)) (rw append-nil) (rw is) text
+        (record a { typed = y; told = t; tellings = v })
+    tells_aside aside beats types is text values =
+        called (ToldAside aside) {ticking = ticking} tt beats (unmoved (ToldAside aside) (refl, refl) (λ e. (cc))) (rw append-nil) (rw (append-nil, types)) (rw append-nil) (rw is) text values
 
     -- its scorer's input is over
     pub typing_over : {y : List Input} → IsInTime ticking → y ≡ a.typed ++ End ∷ []
         → DeskGoes sheet k k (process_of k warned turns ticking further) (process_of k warned turns ticking (Err DeskEnd.NoMoreLines)) a
         (record a { typed = y })
     typing_over beats types =
-        called TypingEnded {ticking = ticking} tt beats (unmoved TypingEnded (refl, refl) (λ e. (cc))) (rw append-nil) types (rw append-nil) refl (appends_none a.told)
+        called TypingEnded {ticking = ticking} tt beats (unmoved TypingEnded (refl, refl) (λ e. (cc))) (rw append-nil) types (rw append-nil) refl (appends_none a.told) (rw append-nil)
 
     -- it has looked at its clock
     pub looks : {n : List ℕ} {seen : Ticking} (now : ℕ) → IsInTime ticking → n ≡ a.readings ++ now ∷ [] → seen ≡ record ticking { looked = Some now }
         → DeskGoes sheet k k (process_of k warned turns ticking further) (process_of k warned turns seen further) a (record a { readings = n })
     looks now beats times is =
-        called (Looked now) {ticking = ticking} tt beats (unmoved (Looked now) (refl, refl) (λ e. (cc))) (rw append-nil) (rw append-nil) times (rw is) (appends_none a.told)
+        called (Looked now) {ticking = ticking} tt beats (unmoved (Looked now) (refl, refl) (λ e. (cc))) (rw append-nil) (rw append-nil) times (rw is) (appends_none a.told) (rw append-nil)
 
     -- what was seen of its clock is unchanged
     pub unread : {seen : Ticking} → seen ≡ ticking
@@ -204,13 +211,13 @@ module _ {S B D : Type 0} {g : Files S D} {h : Disks D} {b : Books B} where
         → DeskGoes sheet k k (process_of k warned turns ticking further) (process_of k warned turns said further) a (record a { passed = after; readings = n })
     speaks now beats times is c =
         then (looks now beats times refl)
-        (called Ticked {ticking = record { ticked = ticking.ticked; looked = Some now }} tt refl c (rw append-nil) (rw append-nil) (rw append-nil) (rw is) (appends_none a.told))
+        (called Ticked {ticking = record { ticked = ticking.ticked; looked = Some now }} tt refl c (rw append-nil) (rw append-nil) (rw append-nil) (rw is) (appends_none a.told) (rw append-nil))
 
     -- it has read its clock
     pub reads_clock : {n : List ℕ} {seen : Ticking} (now : ℕ) → IsInTime ticking → n ≡ a.readings ++ now ∷ [] → seen ≡ ticking
         → DeskGoes sheet k k (process_of k warned turns ticking further) (process_of k warned turns seen further) a (record a { readings = n })
     reads_clock now beats times is =
-        called (Read now) {ticking = ticking} tt beats (unmoved (Read now) (refl, refl) (λ e. (cc))) (rw append-nil) (rw append-nil) times (rw is) (appends_none a.told)
+        called (Read now) {ticking = ticking} tt beats (unmoved (Read now) (refl, refl) (λ e. (cc))) (rw append-nil) (rw append-nil) times (rw is) (appends_none a.told) (rw append-nil)
 
   -- ---- the calls themselves
 
@@ -309,7 +316,7 @@ module _ {S B D : Type 0} {g : Files S D} {h : Disks D} {b : Books B} where
         → DeskGoes sheet k l p (process_of l warned (turns + 1) rested further) a (record c { told = u })
     turn_done {ticking = ticking} {u = u} looked beats is v w =
         then (kept v w) (called TurnEnded {ticking = ticking} tt (looked, beats) (unmoved TurnEnded (refl, refl) (λ e. (cc)))
-        (rw append-nil) (rw append-nil) (rw append-nil) (rw is) (appends_none u))
+        (rw append-nil) (rw append-nil) (rw append-nil) (rw is) (appends_none u) (rw append-nil))
 
     -- the flush at the end of a turn failed
     pub not_flushed : {T : Type 0} (r : Result T DeskEnd) (met : DeskEnd) {warned : Warned} {turns : ℕ} {ticking : Ticking} (u : Option (List ℕ))

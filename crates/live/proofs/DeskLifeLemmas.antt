@@ -16,9 +16,9 @@ use Rattle.live.specs.DeskLife.{BeginsOn, DeskLives, ended, fresh}
 use Rattle.live.specs.declared.desk_life.LifeEnd.TheVariants.{NotBegun}
 use Rattle.screen.specs.Sights.{DeskSight}
 use Rattle.live.specs.DeskSights.{IsShown, IsShownFrom}
-use Rattle.live.specs.Desks.{DeskCall, DeskProcess, DeskRuns, DiskView, FitsLongest, desk_kind, innings_of, kind_of, own_line}
+use Rattle.live.specs.Desks.{DeskCall, DeskProcess, DeskRuns, DiskView, FitsLongest, desk_kind, innings_of, kind_of, own_line, with_greeting}
 use Rattle.live.specs.Ends.{known_in}
-use Rattle.live.specs.Runs.{Goes, Kind, Logs, with_told}
+use Rattle.live.specs.Runs.{Goes, Kind, Logs}
 use Rattle.station_texts.specs.Texts.{greeting}
 use Rattle.live.specs.declared.ends.DeskEnd.{DeskEnd}
 
@@ -52,7 +52,7 @@ module _ {S B D : Type 0} {g : Files S D} {h : Disks D} {b : Books B} {k : Desk 
   pub begun_ran : {l : Desk S B D g h b} {before after : Logs} {turns : ℕ} {end : Result (Unit {0}) DeskEnd} → DeskRuns sheet k l before after turns end
       → DeskLives (file_view g.contents h.seen h.images d sheet.game) h.seen (disks_with h.faults g.room (h.cap disk)) sheet innings d disk before after turns (ended end)
   begun_ran {before = before} {after = after} {end = end} r =
-      let told = with_told before (greeting sheet innings (state_of k).book (state_of k).seat.position (own_line (state_of k))) in
+      let told = with_greeting before (greeting sheet innings (state_of k).book (state_of k).seat.position (own_line (state_of k))) in
       let goes = subst (λ (kind : Kind (DeskProcess D) DeskCall). Goes kind (fresh (state_of k)) r.last (known_in end told) (known_in end after)) is_here (rw (← owner.innings_a_side) r.goes.goes) in
       record { opening = Opened (state_of k); begins = begins_here; follows = (end, r.last, refl, goes, r.ended) }
 

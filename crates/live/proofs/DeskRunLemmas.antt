@@ -1,5 +1,5 @@
 -- Whole runs of a desk's process.
-use Rattle.std.proofs.Common.{arith, ◌≡◌, ℕ, List, [], Option, Result, Ok, Err, false, refl, subst}
+use Rattle.std.proofs.Common.{arith, ◌≡◌, ◌∷◌, ◌++◌, ℕ, List, [], Option, Result, Ok, Err, false, refl, subst}
 use Rattle.std.specs.Prelude.{IsErrAnd}
 use Rattle.std.specs.Io.KnownBytes.{Appends, Keeps}
 use Rattle.cards.specs.Sheet.{Sheet}
@@ -10,11 +10,13 @@ use Rattle.entry_log.specs.declared.{disk.Disk.Ghosts as Disks, slots_of.SlotsOf
 use Rattle.agree_core.specs.Desks.{DeskState}
 use Rattle.desk.specs.declared.desk.Desk.{Desk}
 use Rattle.desk.specs.Desk.{disk_of, game_of, state_of, view_of}
-use Rattle.live.specs.Runs.{Logs, with_told}
+use Rattle.live.specs.Runs.{Logs}
+use Rattle.screen.specs.declared.told.Told.{Told}
+use Rattle.screen.specs.declared.told.Told.TheVariants.{Stands}
 use Rattle.station_texts.specs.Texts.{greeting, unwarned}
 use Rattle.live.specs.Ticks.{Ticking, unticked}
 use Rattle.live.specs.Ends.{Course, end_told, ending, further, known_until, written}
-use Rattle.live.specs.Desks.{DeskGoes, DeskProcess, DeskRuns, Ended, FitsLongest, disks_of, innings_of, own_line, process_of}
+use Rattle.live.specs.Desks.{DeskGoes, DeskProcess, DeskRuns, Ended, FitsLongest, disks_of, innings_of, own_line, process_of, with_greeting}
 use Rattle.live.specs.declared.ends.DeskEnd.{DeskEnd}
 use Rattle.station_texts.specs.declared.warned.Warned.{Warned}
 use Rattle.live.proofs.DeskLemmas.{kept, muted, rests, same_here, silent, then}
@@ -33,21 +35,23 @@ module _ {S B D : Type 0} {g : Files S D} {h : Disks D} {b : Books B} where
   greeting_of sheet k = greeting sheet (innings_of k) (state_of k).book (state_of k).seat.position (own_line (state_of k))
 
   -- the greeting couldn't be written
-  pub not_greeted : {sheet : Sheet} {k : Desk S B D g h b} {turns : ℕ} {a : Logs} {t : Option (List ℕ)}
-      (r : Result (Unit {0}) DeskEnd) (met : DeskEnd) → IsErrAnd r (λ end. end ≡ met) → met ≡ DeskEnd.Write → DeskRuns sheet k k a (record a { told = t }) turns r
-  not_greeted (Ok done) met e w = absurd e
-  not_greeted {k = k} (Err end) met e w =
-      rw (e, w) (record { last = process_of k unwarned 0 unticked further; is = refl; goes = rests; ended = λ q. (cc) })
+  pub not_greeted : {sheet : Sheet} {k : Desk S B D g h b} {turns : ℕ} {a : Logs} {t : Option (List ℕ)} {v : List Told}
+      (r : Result (Unit {0}) DeskEnd) (met : DeskEnd) → IsErrAnd r (λ end. end ≡ met) → met ≡ DeskEnd.Write → v ≡ a.tellings ++ Stands ∷ []
+      → DeskRuns sheet k k a (record a { told = t; tellings = v }) turns r
+  not_greeted (Ok done) met e w told = absurd e
+  not_greeted {k = k} (Err end) met e w told =
+      rw (e, w, told) (record { last = process_of k unwarned 0 unticked further; is = refl; goes = rests; ended = λ q. (cc) })
 
 module _ {S B D : Type 0} {g : Files S D} {h : Disks D} {b : Books B} {sheet : Sheet} {k l : Desk S B D g h b} where
-  module _ {warned : Warned} {n : ℕ} {ticking : Ticking} {t : Option (List ℕ)} {c : Logs} (a : Logs) (first : Appends a.told t (greeting_of sheet k))
-      (v : DeskGoes sheet k l (process_of k unwarned 0 unticked further) (process_of l warned n ticking further) (record a { told = t }) c) where
+  module _ {warned : Warned} {n : ℕ} {ticking : Ticking} {t : Option (List ℕ)} {w : List Told} {c : Logs} (a : Logs) (first : Appends a.told t (greeting_of sheet k))
+      (stands : w ≡ a.tellings ++ Stands ∷ [])
+      (v : DeskGoes sheet k l (process_of k unwarned 0 unticked further) (process_of l warned n ticking further) (record a { told = t; tellings = w }) c) where
     -- the greeting comes first
-    greeted : DeskGoes sheet k l (process_of k unwarned 0 unticked further) (process_of l warned n ticking further) (with_told a (greeting_of sheet k)) c
+    greeted : DeskGoes sheet k l (process_of k unwarned 0 unticked further) (process_of l warned n ticking further) (with_greeting a (greeting_of sheet k)) c
     greeted = then (record {
       same = same_here k;
       goes = record { moments = []; run = tt; last = refl; logs = none_logged (told_first a.told t (greeting_of sheet k) first) };
-    }) v
+    }) (rw stands at v)
 
     -- all turns are over
     pub all_over : (turns : ℕ) → n ≡ turns → DeskRuns sheet k l a c turns (Ok tt)

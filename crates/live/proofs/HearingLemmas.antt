@@ -1,7 +1,7 @@
 -- What is told of whom a board heard, from one moment to the next.
 use Rattle.std.proofs.Common.{◌≡◌, ◌⊎◌, ℕ, List, [], ◌∷◌, ◌++◌, Result, Ok, Err, inl, inr, refl, append-nil, append_assoc, subst}
 use Rattle.agree_core.specs.declared.messages.Message.{Message}
-use Rattle.links.specs.Passed.{IsRead, Passed, Came, Sent, sends}
+use Rattle.links.specs.Passed.{IsRead, Passed, Came, Opened, Sent, sends}
 use Rattle.links.specs.declared.link.{Arrival.Arrival, Receivers.Receivers}
 use Rattle.live.specs.Hearings.{AreHeard, Hearing, Hears, heard_at, hearing_of}
 use Rattle.wire.specs.Reading.{Reads}
@@ -19,6 +19,7 @@ module _ (game : ℕ) where
   more_times : (passed : List Passed) (before times : List ℕ) (heard : List Hearing) → AreHeard game passed times heard
       → AreHeard game passed (before ++ times) heard
   more_times [] before times heard none = none
+  more_times (Opened station seals is_of_pairs ∷ passed) before times heard rest = more_times passed before times heard rest
   more_times (Sent to bytes ∷ passed) before times heard rest = more_times passed before times heard rest
   more_times (Came bytes ∷ passed) before times heard (inl said) = inl (said.0, more_times passed before times heard said.1)
   more_times (Came bytes ∷ passed) before times heard (inr (h, later, earlier, after, is, shown, says, rest)) =
@@ -28,6 +29,7 @@ module _ (game : ℕ) where
   both_heard : (p q : List Passed) (s t : List ℕ) (h k : List Hearing) → AreHeard game p s h → AreHeard game q t k
       → AreHeard game (p ++ q) (s ++ t) (h ++ k)
   both_heard [] q s t h k none then = rw none (more_times q s t k then)
+  both_heard (Opened station seals is_of_pairs ∷ p) q s t h k first then = both_heard p q s t h k first then
   both_heard (Sent to bytes ∷ p) q s t h k first then = both_heard p q s t h k first then
   both_heard (Came bytes ∷ p) q s t h k (inl said) then = inl (said.0, both_heard p q s t h k said.1 then)
   both_heard (Came bytes ∷ p) q s t h k (inr (one, later, earlier, after, is, shown, says, rest)) then =

@@ -1,5 +1,5 @@
 -- What a scorer can't see.
-use Rattle.std.proofs.Common.{◌≡◌, ◌≢◌, ◌⊎◌, ℕ, List, Option, Some, arith, refl, ap, ◌∙◌, inl, inr}
+use Rattle.std.proofs.Common.{◌≡◌, ◌≢◌, ◌⊎◌, ◌∷◌, [], ℕ, List, Option, Some, arith, refl, ap, ◌∙◌, inl, inr}
 use Rattle.notation.specs.declared.entry.Entry.{Entry}
 use Rattle.agree_core.specs.declared.{messages.Message.Message, messages.Vote.Vote, position.Position.Position, seat.Heard.Heard}
 use Rattle.agree_core.specs.FileView.{FileView}
@@ -12,6 +12,7 @@ use Rattle.live.specs.Desks.{entry_in}
 use Rattle.live.specs.Hidden.{HidesTheOther, TellsBoth}
 use Rattle.live.specs.LostLines.{bearing_of, evidence_of}
 use Rattle.live.specs.declared.lost_lines.Bearing.{Bearing}
+use Rattle.screen.specs.declared.told.Told.TheVariants.{Differs}
 use Rattle.station_texts.specs.declared.doubt.Evidence.TheVariants.{Nothing}
 use Rattle.wire.specs.declared.what.What.{What}
 use Rattle.station_texts.specs.Texts.{differs_text}
@@ -37,6 +38,9 @@ hides_the_other view = record {
   cast = λ s t v h none. cc (none, h.2.1);
   noted = λ sheet innings k l call e f n w. grind arith;
   whether = λ sheet innings k l call e f o p n. grind arith;
+  no_value = λ k bytes. refl;
+  value_of_bytes = λ k one other what n same. grind arith;
+  value_of_noted = λ k call e n. grind arith;
   shown = λ sheet innings k e. refl;
   told = λ k reminder e f may. grind arith;
   stored = λ rules k l own out h. h.1.4;
@@ -52,4 +56,8 @@ tells_both Disk = record {
   came = λ sheet innings game k l bytes v own mine says.
       ap (λ (one : Option Entry). differs_text k.desk.seat.position.place one (entry_in bytes)) mine
       ∙ ap (differs_text k.desk.seat.position.place (Some own)) (entry_of_vote game bytes v says);
+  penned_value = λ k line own other noted. ap (λ (o : Option Entry). Differs k.desk.seat.position.place (Some own) o ∷ []) noted;
+  came_value = λ game k bytes v own mine says.
+      ap (λ (one : Option Entry). Differs k.desk.seat.position.place one (entry_in bytes) ∷ []) mine
+      ∙ ap (λ (o : Option Entry). Differs k.desk.seat.position.place (Some own) o ∷ []) (entry_of_vote game bytes v says);
 }

@@ -5,7 +5,7 @@ use Rattle.std.specs.Io.KnownBytes.{Appends}
 use Rattle.agree_core.specs.declared.messages.Message.{Message}
 use Rattle.wire.specs.Layout.{IsMessage}
 use Rattle.streams.proofs.Appending.{appends_both, appends_none}
-use Rattle.live.specs.Runs.{Goes, Kind, Logs, LogsGrow, Moment, Run, last_of, passed_at, passed_in, printed_in, read_in, typed_in}
+use Rattle.live.specs.Runs.{Goes, Kind, Logs, LogsGrow, Moment, Run, last_of, passed_at, passed_in, printed_in, read_in, told_in, typed_in}
 use Rattle.live.specs.Ticks.{reads}
 
 module _ {State Call : Type 0} (kind : Kind State Call) where
@@ -32,14 +32,18 @@ module _ {State Call : Type 0} (kind : Kind State Call) where
   printed_both k [] ms = sym (append-nil (printed_in kind k ms))
   printed_both k (n ∷ ns) ms = grind (arith, append_assoc, last_both k ns ms, printed_both k ns ms)
 
+  told_both : (k : State) (ns ms : List (Moment State Call)) → told_in kind k (ns ++ ms) ≡ told_in kind k ms ++ told_in kind (last_of k ms) ns
+  told_both k [] ms = sym (append-nil (told_in kind k ms))
+  told_both k (n ∷ ns) ms = grind (arith, append_assoc, last_both k ns ms, told_both k ns ms)
+
 -- nothing is logged but text
 pub none_logged : {State Call : Type 0} {kind : Kind State Call} {k : State} {a : Logs} {t : Option (List ℕ)} → Appends a.told t [] → LogsGrow kind k [] a (record a { told = t })
-none_logged text = record { passed = rw append-nil; inputs = rw append-nil; readings = rw append-nil; printed = text }
+none_logged text = record { passed = rw append-nil; inputs = rw append-nil; readings = rw append-nil; printed = text; tellings = rw append-nil }
 
 -- the logs with another text
 pub retold : {State Call : Type 0} {kind : Kind State Call} {k : State} {ms : List (Moment State Call)} {a b : Logs} {s t : Option (List ℕ)} → LogsGrow kind k ms a b
     → Appends s t (printed_in kind k ms) → LogsGrow kind k ms (record a { told = s }) (record b { told = t })
-retold logs text = record { passed = logs.passed; inputs = logs.inputs; readings = logs.readings; printed = text }
+retold logs text = record { passed = logs.passed; inputs = logs.inputs; readings = logs.readings; printed = text; tellings = logs.tellings }
 
 -- nothing happens
 pub stays : {State Call : Type 0} {kind : Kind State Call} {k : State} {a : Logs} → Goes kind k k a a
@@ -67,6 +71,7 @@ module _ {State Call : Type 0} {kind : Kind State Call} {k l : State} {a b : Log
           printed =
               rw (printed_both kind k ns ms, g.last)
               (appends_both a.told b.told c.told (printed_in kind k ms) (printed_in kind l ns) g.logs.printed h.logs.printed);
+          tellings = rw (h.logs.tellings, g.logs.tellings, told_both kind k ns ms, g.last, append_assoc);
         };
       }
 
@@ -77,10 +82,10 @@ module _ {State Call : Type 0} {kind : Kind State Call} {k l : State} {a b : Log
   -- one call
   pub one : (call : Call) (out : List Message) → All IsMessage out → kind.Step k call out l → b.passed ≡ a.passed ++ passed_at kind call out
       → b.typed ≡ a.typed ++ kind.typed call → b.readings ≡ a.readings ++ reads (kind.beat call) → Appends a.told b.told (kind.prints k call l)
-      → Goes kind k l a b
-  one call out fine step passed types times prints = record {
+      → b.tellings ≡ a.tellings ++ kind.tells k call → Goes kind k l a b
+  one call out fine step passed types times prints tells = record {
     moments = record { call = call; out = out; after = l } ∷ [];
     run = (tt, fine, step);
     last = refl;
-    logs = record { passed = passed; inputs = types; readings = times; printed = prints };
+    logs = record { passed = passed; inputs = types; readings = times; printed = prints; tellings = tells };
   }

@@ -252,6 +252,7 @@ board_kind sheet game innings = record {
   beat = beat_of;
   ticking = λ k. k.ticking;
   prints = shown sheet innings;
+  tells = λ k call. [];
 }
 
 module _ {B : Type 0} {g : _} (content : B → List Entry) where

@@ -10,9 +10,9 @@ use Rattle.desk.specs.declared.refusal.OpenRefusal.{OpenRefusal}
 use Rattle.desk.specs.Answers.{open_cause}
 use Rattle.live.specs.declared.{desk_life.LifeEnd.LifeEnd, ends.DeskEnd.DeskEnd}
 use Rattle.live.specs.declared.desk_life.LifeEnd.TheVariants.{Ended as EndedSo, NotBegun}
-use Rattle.live.specs.Desks.{DeskProcess, DiskView, Ended, desk_kind, own_line}
+use Rattle.live.specs.Desks.{DeskProcess, DiskView, Ended, desk_kind, own_line, with_greeting}
 use Rattle.live.specs.Ends.{further, known_in}
-use Rattle.live.specs.Runs.{Goes, Logs, with_told}
+use Rattle.live.specs.Runs.{Goes, Logs}
 use Rattle.station_texts.specs.Texts.{greeting, unwarned}
 use Rattle.live.specs.Ticks.{unticked}
 
@@ -46,7 +46,7 @@ abbrev pub Follows :
 Follows sheet view disks innings (Opened k) before after turns result =
     (end : Result (Unit {0}) DeskEnd) × (last : DeskProcess _) × (result ≡ ended end)
     × Goes (desk_kind sheet view disks sheet.game innings) (fresh k) last
-    (known_in end (with_told before (greeting sheet innings k.book k.seat.position (own_line k)))) (known_in end after)
+    (known_in end (with_greeting before (greeting sheet innings k.book k.seat.position (own_line k)))) (known_in end after)
     × Ended turns end last
 Follows sheet view disks innings (NotOpened cause left) before after turns result =
     (why : OpenRefusal) × (open_cause why ≡ cause) × (result ≡ Err (NotBegun why)) × (after ≡ before)

@@ -1,5 +1,5 @@
 -- A desk's process, call by call.
-use Rattle.std.specs.Prelude.{◌≡◌, ◌≢◌, ◌≤◌, ◌+◌, ℕ, Bool, true, false, List, [], ◌∷◌, ◌++◌, All, Option, None, is_some, Result, Ok, Err}
+use Rattle.std.specs.Prelude.{◌≡◌, ◌≢◌, ◌≤◌, ◌+◌, ℕ, Bool, true, false, List, [], ◌∷◌, ◌++◌, All, Option, None, is_some, Result, Ok, Err, option_to_list}
 use Rattle.notation.specs.declared.entry.Entry.{Entry}
 use Rattle.corrections.specs.declared.book_of.BookOf.{Ghosts as Books}
 use Rattle.corrections.specs.Refusal.{book_refusal}
@@ -28,9 +28,12 @@ use Rattle.live.specs.LostLines.{evidence}
 use Rattle.links.specs.Passed.{Passed, Came, sends}
 use Rattle.links.specs.declared.link.Receivers.{Receivers}
 use Rattle.links.specs.declared.link.Receivers.TheVariants.{ToAll, ToOne}
-use Rattle.live.specs.Runs.{Goes, Kind, Logs, with_told}
+use Rattle.live.specs.Runs.{Goes, Kind, Logs, with_text}
+use Rattle.screen.specs.declared.told.Told.{Told}
+use Rattle.screen.specs.declared.told.Told.TheVariants.{Stands}
 use Rattle.station_texts.specs.Saying.{Types}
 use Rattle.live.specs.Ticks.{Beat, Look, MayBeat, Other, Reading, Tick, Ticking, TurnEnd, after_beat, unticked}
+use Rattle.station_texts.specs.ToldValues.{aside_told, came_told, reminder_told, said_told, unopened_told}
 use Rattle.station_texts.specs.Texts.{came_text, greeting, reminder_text, said_text, unopened_text, unwarned, warned_after, warned_reminded, warned_said, warned_unopened}
 use Rattle.links.specs.Typing.{Input, Line, End}
 
@@ -185,6 +188,16 @@ told_of sheet innings k (Reminded reminder) l = reminder_text k.desk.seat.positi
 told_of sheet innings k (ToldAside aside) l = aside_text sheet.columns aside
 told_of sheet innings k call l = []
 
+-- what is told of a call as values: the book and the sheet aren't needed
+abbrev pub tells_of : {Disk : Type 0} → DeskProcess Disk → DeskCall → List Told
+tells_of k (Typed line said) = option_to_list (said_told k.desk.seat.position k.desk.seat.theirs said)
+tells_of k (Given bytes what) =
+    option_to_list (came_told k.desk.seat.position.place (own_line k.desk) (entry_in bytes) k.warned (shown_by k.desk bytes what) what)
+tells_of k Unopened = option_to_list (unopened_told k.warned)
+tells_of k (Reminded reminder) = reminder_told k.desk.seat.position.place reminder ∷ []
+tells_of k (ToldAside aside) = option_to_list (aside_told aside)
+tells_of k call = []
+
 abbrev pub desk_kind : {Disk : Type 0} → Sheet → FileView Disk → DiskView Disk → ℕ → ℕ → Kind (DeskProcess Disk) DeskCall
 desk_kind sheet view disks game innings = record {
   game = game;
@@ -195,7 +208,12 @@ desk_kind sheet view disks game innings = record {
   beat = beat_of;
   ticking = λ k. k.ticking;
   prints = told_of sheet innings;
+  tells = tells_of;
 }
+
+-- the logs once the scorer is told where the desk stands
+abbrev pub with_greeting : Logs → List ℕ → Logs
+with_greeting logs text = record logs { told = with_text logs.told text; tellings = logs.tellings ++ Stands ∷ [] }
 
 -- a file of this many slots has `room` many bytes, and the longest file is within the cap
 abbrev pub FitsLongest : (ℕ → ℕ) → ℕ → Type 0
@@ -244,7 +262,7 @@ module _ {S B D : Type 0} {g : Files S D} {h : Disks D} {b : Books B} where
     pub last : DeskProcess D
     pub is : last.desk ≡ state_of new
     pub goes : DeskGoes sheet old new (process_of old unwarned 0 unticked further) last
-        (known_in result (with_told before
+        (known_in result (with_greeting before
         (greeting sheet (innings_of old) (state_of old).book (state_of old).seat.position (own_line (state_of old)))))
         (known_in result after)
     pub ended : Ended turns result last

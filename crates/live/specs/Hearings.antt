@@ -1,7 +1,7 @@
 -- What is shown of a board is told whom the board heard, and when.
 use Rattle.std.specs.Prelude.{◌≡◌, ◌⊎◌, ℕ, List, [], ◌∷◌, ◌++◌, Result, Ok, Err}
 use Rattle.agree_core.specs.declared.messages.Message.{Message}
-use Rattle.links.specs.Passed.{Passed, Came, Sent}
+use Rattle.links.specs.Passed.{Passed, Came, Opened, Sent}
 use Rattle.wire.specs.Layout.{Says}
 use Rattle.wire.specs.declared.fault.WireFault.{WireFault}
 
@@ -26,6 +26,7 @@ SaysNothing game bytes = (m : Message) → Says game bytes m → ⊥
 -- said that came, if it said one, in the order in which they came; each at a time that was shown after that of the one before.
 abbrev pub AreHeard : ℕ → List Passed → List ℕ → List Hearing → Type 0
 AreHeard game [] times heard = heard ≡ []
+AreHeard game (Opened station seals is_of_pairs ∷ passed) times heard = AreHeard game passed times heard
 AreHeard game (Sent to bytes ∷ passed) times heard = AreHeard game passed times heard
 AreHeard game (Came bytes ∷ passed) times heard =
     (SaysNothing game bytes × AreHeard game passed times heard)

@@ -13,8 +13,9 @@ use Rattle.wire.specs.Layout.{Says}
 use Rattle.wire.specs.declared.what.What.{What}
 use Rattle.cards.specs.Sheet.{Sheet}
 use Rattle.screen.specs.declared.word.Word.{Word}
+use Rattle.screen.specs.declared.told.Told.TheVariants.{Differs}
 use Rattle.station_texts.specs.declared.{doubt.Evidence.Evidence, reminder.Reminder.Reminder, said.Said.Said}
-use Rattle.live.specs.Desks.{DeskCall, DeskProcess, Given, MayRemind, Typed, own_line, shown_by, told_of}
+use Rattle.live.specs.Desks.{DeskCall, DeskProcess, Given, MayRemind, Typed, own_line, shown_by, tells_of, told_of}
 use Rattle.live.specs.DeskSights.{desk_sight}
 use Rattle.station_texts.specs.Texts.{at_place, both_lines}
 
@@ -42,8 +43,8 @@ AsksWhere call = (line : List ℕ) × (call ≡ Typed line (Said.Asks Word.Where
 -- only asks, votes for other positions and own votes do; except for `Differ`, which is answered only after the own vote is
 -- cast. The text for a call depends on no noted vote, unless the call pens a vote that differs from it, which is then stored.
 -- When the scorer asks where the desk stands, and for reminders, it matters whether a vote is noted, but not which. What is
--- seen of the desk besides its rows depends on no noted vote. So two runs that differ only in that entry print the same until
--- then.
+-- told as values depends on neither either, nor does what is seen of the desk besides its rows. So two runs that differ only in
+-- that entry tell and print the same until then.
 pub record HidesTheOther {Disk : Type 0} (view : FileView Disk) : Type 0 where
   pub answer : (s t : SeatState) (v : Vote) (h : Heard) → s.mine ≡ None → s.theirs ≡ None → IsForNow s v → Hears s v h t
       → h ≡ Heard.Noted
@@ -62,6 +63,12 @@ pub record HidesTheOther {Disk : Type 0} (view : FileView Disk) : Type 0 where
       → (IsPennedDiffering call → ⊥)
       → told_of sheet innings (process_with k (Some e)) call (process_with l o)
       ≡ told_of sheet innings (process_with k (Some f)) call (process_with l p)
+  pub no_value : (k : DeskProcess Disk) (bytes : List ℕ) → tells_of k (Given bytes (What.Heard Heard.Noted)) ≡ []
+  pub value_of_bytes : (k : DeskProcess Disk) (one other : List ℕ) (what : What)
+      → what ≢ What.Heard Heard.Differ → shown_by k.desk one what ≡ shown_by k.desk other what
+      → tells_of k (Given one what) ≡ tells_of k (Given other what)
+  pub value_of_noted : (k : DeskProcess Disk) (call : DeskCall) (e : Option Entry)
+      → (IsPennedDiffering call → ⊥) → tells_of (process_with k e) call ≡ tells_of k call
   pub shown : (sheet : Sheet) (innings : ℕ) (k : DeskState Disk) (e : Option Entry)
       → desk_sight sheet innings (desk_with k e) ≡ desk_sight sheet innings k
   pub told : (k : DeskProcess Disk) (reminder : Reminder) (e f : Entry)
@@ -70,8 +77,8 @@ pub record HidesTheOther {Disk : Type 0} (view : FileView Disk) : Type 0 where
       → Pens view rules k own (desks.Penned Settled.Differ) l out
       → Holds view l.disk (next_ballot k own ∷ k.votes)
 
--- Once both votes of a position are stored and differ, the scorer is told both: if the own vote is penned second, the other's
--- that was noted; if the other's comes second, what its datagram says.
+-- Once both votes of a position are stored and differ, the scorer is told both, in the rows and as a value: if the own vote is
+-- penned second, the other's that was noted; if the other's comes second, what its datagram says.
 pub record TellsBoth (Disk : Type 0) : Type 0 where
   pub penned : (sheet : Sheet) (innings : ℕ) (k l : DeskProcess Disk) (line : List ℕ) (own other : Entry)
       → k.desk.seat.theirs ≡ Some other
@@ -81,3 +88,16 @@ pub record TellsBoth (Disk : Type 0) : Type 0 where
       → own_line k.desk ≡ Some own → Says game bytes (Message.Vote v)
       → told_of sheet innings k (Given bytes (What.Heard Heard.Differ)) l
       ≡ at_place k.desk.seat.position.place (both_lines own v.entry)
+  pub penned_value : (k : DeskProcess Disk) (line : List ℕ) (own other : Entry) → k.desk.seat.theirs ≡ Some other
+      → tells_of k (Typed line (Said.Penned own Settled.Differ))
+      ≡ Differs k.desk.seat.position.place (Some own) (Some other) ∷ []
+  pub came_value : (game : ℕ) (k : DeskProcess Disk) (bytes : List ℕ) (v : Vote) (own : Entry)
+      → own_line k.desk ≡ Some own → Says game bytes (Message.Vote v)
+      → tells_of k (Given bytes (What.Heard Heard.Differ))
+      ≡ Differs k.desk.seat.position.place (Some own) (Some v.entry) ∷ []
+
+-- a call that tells no value prints no row
+abbrev pub RowsAreValues : Type 0 → Type 0
+RowsAreValues Disk =
+    (sheet : Sheet) (innings : ℕ) (k l : DeskProcess Disk) (call : DeskCall) → tells_of k call ≡ []
+    → told_of sheet innings k call l ≡ []

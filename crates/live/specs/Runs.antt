@@ -6,6 +6,7 @@ use Rattle.wire.specs.Layout.{IsMessage}
 use Rattle.links.specs.Passed.{Passed, sends}
 use Rattle.links.specs.declared.link.Receivers.{Receivers}
 use Rattle.links.specs.Typing.{Input}
+use Rattle.screen.specs.declared.told.Told.{Told}
 use Rattle.live.specs.Ticks.{Beat, Ticking, reads}
 
 -- the writer's text; unknown if a write failed
@@ -18,12 +19,14 @@ abbrev pub with_text : Option (List ℕ) → List ℕ → Option (List ℕ)
 with_text None text = None
 with_text (Some told) text = Some (told ++ text)
 
--- what has passed at a station's link, what was typed there, what its clock has shown, and its writer's text
+-- what has passed at a station's link, what was typed there, what its clock has shown, its writer's text, and what was told as
+-- values
 pub record Logs : Type 0 where
   pub passed : List Passed
   pub typed : List Input
   pub readings : List ℕ
   pub told : Option (List ℕ)
+  pub tellings : List Told
 
 -- the logs once the writer has written this too
 abbrev pub with_told : Logs → List ℕ → Logs
@@ -33,9 +36,15 @@ with_told logs text = record logs { told = with_text logs.told text }
 abbrev pub known_where : {T E : Type 0} → Result T E → Logs → Logs
 known_where result logs = record logs { told = known result logs.told }
 
--- the logs of a station at which nothing is typed
+-- the logs of a station at which nothing is typed, and which tells no values
 abbrev pub untyped : List Passed → List ℕ → Option (List ℕ) → Logs
-untyped passed readings told = record { passed = passed; typed = []; readings = readings; told = told }
+untyped passed readings told = record {
+  passed = passed;
+  typed = [];
+  readings = readings;
+  told = told;
+  tellings = [];
+}
 
 -- a call of a station, the messages that it sent, and the station after it
 pub record Moment (State Call : Type 0) : Type 0 where
@@ -44,7 +53,7 @@ pub record Moment (State Call : Type 0) : Type 0 where
   pub after : State
 
 -- a kind of station in a match: what its calls do, the datagrams and the lines that a call is given, to whom its messages go,
--- what a call is to the clock, what the station saw of the clock, and what a call prints
+-- what a call is to the clock, what the station saw of the clock, what a call prints, and what it tells as values
 pub record Kind (State Call : Type 0) : Type 1 where
   pub game : ℕ
   pub Step : State → Call → List Message → State → Type 0
@@ -54,6 +63,7 @@ pub record Kind (State Call : Type 0) : Type 1 where
   pub beat : Call → Beat
   pub ticking : State → Ticking
   pub prints : State → Call → State → List ℕ
+  pub tells : State → Call → List Told
 
 module _ {State Call : Type 0} where
   -- the station after these moments, the newest first
@@ -91,13 +101,19 @@ module _ {State Call : Type 0} where
   printed_in kind k [] = []
   printed_in kind k (m ∷ ms) = printed_in kind k ms ++ kind.prints (last_of k ms) m.call m.after
 
+  -- what was told as values
+  abbrev pub told_in : Kind State Call → State → List (Moment State Call) → List Told
+  told_in kind k [] = []
+  told_in kind k (m ∷ ms) = told_in kind k ms ++ kind.tells (last_of k ms) m.call
+
   -- The logs have grown by these moments of a station: its datagrams are exactly those that passed, its lines those that were
-  -- typed, its times those that were read, and its texts those that were written.
+  -- typed, its times those that were read, its texts those that were written, and its values those that were told.
   pub record LogsGrow (kind : Kind State Call) (k : State) (moments : List (Moment State Call)) (before after : Logs) : Type 0 where
     pub passed : after.passed ≡ before.passed ++ passed_in kind moments
     pub inputs : after.typed ≡ before.typed ++ typed_in kind moments
     pub readings : after.readings ≡ before.readings ++ read_in kind moments
     pub printed : Appends before.told after.told (printed_in kind k moments)
+    pub tellings : after.tellings ≡ before.tellings ++ told_in kind k moments
 
   -- there is a run between two states of a station and of its logs
   pub record Goes (kind : Kind State Call) (k l : State) (before after : Logs) : Type 0 where

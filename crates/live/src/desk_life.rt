@@ -1,6 +1,6 @@
 //! A desk's process, from its beginning on a disk to its end.
 
-ghost use Rattle.std.specs.Prelude.{◌≡◌, [], true, false, Err, IfErr, OnOk};
+ghost use Rattle.std.specs.Prelude.{◌≡◌, ◌∷◌, ◌++◌, [], true, false, Err, IfErr, OnOk};
 ghost use Rattle.entry_log.specs.Blame.{BlamesDisk};
 ghost use Rattle.agree_core.specs.Openings.{Opening};
 ghost use Rattle.vote_store.specs.View.{file_view};
@@ -13,6 +13,7 @@ ghost use Rattle.live.specs.Desks as desks;
 ghost use Rattle.live.specs.Desks.{DeskRuns, FitsLongest, desk_kind, innings_of, kind_of};
 ghost use Rattle.live.specs.Ends.{end_told};
 ghost use Rattle.live.specs.Outside.{logs_of};
+ghost use Rattle.screen.specs.declared.told.Told.TheVariants.{Stands};
 ghost use Rattle.station_texts.specs.Texts.{greeting};
 
 use crate::begin::{Beginning, begin_desk};
@@ -45,19 +46,20 @@ pub enum LifeEnd {
 }
 
 /// Tells the scorer where the desk stands.
-fn greet<S: SlotsOf, B: BookOf + Drop, W: Sink, P: Tells>(
+fn greet<S: SlotsOf, B: BookOf + Drop, W: Sink, T: Tells>(
     desk: &Desk<S, B>,
     sheet: &MatchSheet,
     out: &mut Watched<W>,
-    page: &P,
+    teller: &mut T,
 ) -> Result<(), DeskEnd>
     ensures text { OnOk result (Prints W.contents out.old out.new
         (greeting sheet.now (innings_of desk.now) (state_of desk.now).book
         (state_of desk.now).seat.position (desks.own_line (state_of desk.now)))) }
+    ensures told { T.tellings teller.new ≡ T.tellings teller.old ++ Stands ∷ [] }
     ensures only { IfErr result (λ end. end ≡ DeskEnd.Write) }
     ensures failed { TellsFailure result out.old out.new }
 {
-    page.tell(Told::Stands);
+    teller.tell(Told::Stands);
     told(print_greeting(out, sheet, desk.position(), own_line(desk), desk.book()))?;
     told(out.flush())
 }
@@ -84,23 +86,24 @@ fn take_turns<
     K: Keys,
     C: Clock,
     W: Sink,
-    P: ShowsDesk<B> + Tells,
+    T: Tells,
+    P: ShowsDesk<B>,
 >(
     alloc: Global,
     desk: &mut Desk<S, B>,
     own: DeskId,
     sheet: &MatchSheet,
-    outside: &mut Outside<L, K, C, W>,
+    outside: &mut Outside<L, K, C, W, T>,
     page: &mut P,
     turns: u64,
 ) -> Result<(), DeskEnd>
-    ensures runs { DeskRuns sheet.now desk.old desk.new (logs_of L.log K.inputs C.readings W.contents outside.old)
-        (logs_of L.log K.inputs C.readings W.contents outside.new) turns result }
+    ensures runs { DeskRuns sheet.now desk.old desk.new (logs_of L.log K.inputs C.readings W.contents T.tellings outside.old)
+        (logs_of L.log K.inputs C.readings W.contents T.tellings outside.new) turns result }
     ensures shown { IsShown (kind_of sheet.now desk.old) sheet.now (innings_of desk.old) P.goes_on
         (state_of desk.old) page.old page.new }
     ensures failed { result ≡ Err DeskEnd.Write → has_failed outside.new.out ≡ true }
 {
-    greet(desk, sheet, &mut outside.out, page)?;
+    greet(desk, sheet, &mut outside.out, &mut outside.teller)?;
     let now = outside.clock.millis();
     let mut between = Between {
         pace: Pace::new(),
@@ -110,7 +113,7 @@ fn take_turns<
         shown_wait: page.longest_wait(),
     };
     for number in 0..turns {
-        turn(alloc, desk, sheet, outside, page, &mut between)?;
+        turn(alloc, desk, sheet, outside, &mut between)?;
         show(desk, sheet, &outside.keys, page, between.now);
         between.shown_wait = page.longest_wait();
     }
@@ -132,8 +135,8 @@ fn end_told(end: Result<(), DeskEnd>, flushed: Result<(), DeskEnd>) -> Result<()
 /// scorer's lines, tells their outcomes, sends votes and replies, asks for what it lacks, and reminds the scorer by its clock
 /// that the other has written, that the other desk isn't heard, or that it is heard again. However it ends, it is a run by the
 /// definitions of a desk: its datagrams are exactly those that passed at the link, its lines those that were typed, its times
-/// those that its clock showed, its texts those that were written. The page is handed, after each turn, exactly what is seen of
-/// the desk then.
+/// those that its clock showed, its texts those that were written, its values those that were told, even if a row of theirs
+/// can't be written. The page is handed, after each turn, exactly what is seen of the desk then.
 pub fn run_desk<
     S: SlotsOf,
     B: BookOf + Drop,
@@ -141,18 +144,19 @@ pub fn run_desk<
     K: Keys,
     C: Clock,
     W: Sink,
-    P: ShowsDesk<B> + Tells,
+    T: Tells,
+    P: ShowsDesk<B>,
 >(
     alloc: Global,
     desk: &mut Desk<S, B>,
     own: DeskId,
     sheet: &MatchSheet,
-    outside: &mut Outside<L, K, C, W>,
+    outside: &mut Outside<L, K, C, W, T>,
     page: &mut P,
     turns: u64,
 ) -> Result<(), DeskEnd>
-    ensures runs { DeskRuns sheet.now desk.old desk.new (logs_of L.log K.inputs C.readings W.contents outside.old)
-        (logs_of L.log K.inputs C.readings W.contents outside.new) turns result }
+    ensures runs { DeskRuns sheet.now desk.old desk.new (logs_of L.log K.inputs C.readings W.contents T.tellings outside.old)
+        (logs_of L.log K.inputs C.readings W.contents T.tellings outside.new) turns result }
     ensures shown { IsShown (kind_of sheet.now desk.old) sheet.now (innings_of desk.old) P.goes_on
         (state_of desk.old) page.old page.new }
     // `Device` is answered exactly if the disk failed in this run.
@@ -176,12 +180,13 @@ pub fn keep_desk<
     K: Keys,
     C: Clock,
     W: Sink,
-    P: ShowsDesk<B> + Tells,
+    T: Tells,
+    P: ShowsDesk<B>,
 >(
     alloc: Global,
     beginning: Beginning<S::Disk, B>,
     sheet: &MatchSheet,
-    outside: &mut Outside<L, K, C, W>,
+    outside: &mut Outside<L, K, C, W, T>,
     page: &mut P,
     turns: u64,
 ) -> Result<(), LifeEnd>
@@ -191,8 +196,8 @@ where
     ensures lives { DeskLives (file_view S.contents S.Disk.seen S.Disk.images beginning.desk sheet.now.game) S.Disk.seen
         (record { faults = S.Disk.faults; FitsLongest = FitsLongest S.room (S.Disk.cap beginning.disk) })
         sheet.now (B.innings_a_side beginning.book) beginning.desk beginning.disk
-        (logs_of L.log K.inputs C.readings W.contents outside.old)
-        (logs_of L.log K.inputs C.readings W.contents outside.new) turns result }
+        (logs_of L.log K.inputs C.readings W.contents T.tellings outside.old)
+        (logs_of L.log K.inputs C.readings W.contents T.tellings outside.new) turns result }
     ensures shown { (opening : Opening S.Disk)
         × BeginsOn (file_view S.contents S.Disk.seen S.Disk.images beginning.desk sheet.now.game) S.Disk.seen
         (B.innings_a_side beginning.book) beginning.desk beginning.disk opening

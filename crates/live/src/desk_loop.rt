@@ -1,6 +1,6 @@
 //! A desk's turn: it takes a line of its scorer and answers it, and then takes the datagrams.
 
-ghost use Rattle.std.specs.Prelude.{◌≡◌, ℕ, true, Err, IsSome, OnOk, is_some};
+ghost use Rattle.std.specs.Prelude.{◌≡◌, ◌++◌, ℕ, true, Err, IsSome, OnOk, is_some, option_to_list};
 ghost use Rattle.std.specs.Io.KnownBytes.{Appends};
 ghost use Rattle.streams.specs.Watched.{has_failed, stream_of};
 ghost use Rattle.desk.specs.Desk.{state_of};
@@ -12,6 +12,7 @@ ghost use Rattle.live.specs.Outside.{logs_of};
 ghost use Rattle.live.specs.Paces.{ticking_of};
 ghost use Rattle.station_texts.specs.Asides.{aside_text};
 ghost use Rattle.station_texts.specs.Doubts.{holds_up};
+ghost use Rattle.station_texts.specs.ToldValues as values;
 
 use crate::between::Between;
 use crate::ends::{DeskEnd, told};
@@ -93,35 +94,35 @@ fn end_of(said: &Said) -> Result<(), DeskEnd>
 }
 
 /// Tells the scorer of lines that the desk isn't given.
-fn tell_aside<W: Sink, P: Tells>(
+fn tell_aside<W: Sink, T: Tells>(
     out: &mut Watched<W>,
-    page: &P,
+    teller: &mut T,
     sheet: &MatchSheet,
     aside: &Aside,
 ) -> Result<(), DeskEnd>
     ensures text { Appends (known_at result (W.contents (stream_of out.old)))
         (known_at result (W.contents (stream_of out.new))) (aside_text sheet.now.columns aside.now) }
+    ensures told { T.tellings teller.new ≡ T.tellings teller.old ++ option_to_list (values.aside_told aside.now) }
     ensures course { course_of result ≡ further }
     ensures failed { result ≡ Err DeskEnd.Write → has_failed out.new ≡ true }
 {
-    page.tell(aside_told(aside));
+    tell_if(teller, aside_told(aside));
     told(print_aside(out, sheet.columns(), aside))
 }
 
 /// Takes a typed line, if there is one, and tells the scorer what it came to.
-fn take_line<S: SlotsOf, B: BookOf + Drop, L: Link, K: Keys, C: Clock, W: Sink, P: Tells>(
+fn take_line<S: SlotsOf, B: BookOf + Drop, L: Link, K: Keys, C: Clock, W: Sink, T: Tells>(
     alloc: Global,
     desk: &mut Desk<S, B>,
     sheet: &MatchSheet,
-    outside: &mut Outside<L, K, C, W>,
-    page: &P,
+    outside: &mut Outside<L, K, C, W, T>,
     between: &mut Between,
 ) -> Result<(), DeskEnd>
     ensures goes { (turns : ℕ) → DeskGoes sheet.now desk.old desk.new
         (process_of desk.old between.old.warned turns (ticking_of between.old.pace) further)
         (process_of desk.new between.new.warned turns (ticking_of between.new.pace) (course_of result))
-        (known_in result (logs_of L.log K.inputs C.readings W.contents outside.old))
-        (known_in result (logs_of L.log K.inputs C.readings W.contents outside.new)) }
+        (known_in result (logs_of L.log K.inputs C.readings W.contents T.tellings outside.old))
+        (known_in result (logs_of L.log K.inputs C.readings W.contents T.tellings outside.new)) }
     ensures pace { between.new.pace ≡ between.old.pace }
     ensures failed { result ≡ Err DeskEnd.Write → has_failed outside.new.out ≡ true }
 {
@@ -137,7 +138,12 @@ fn take_line<S: SlotsOf, B: BookOf + Drop, L: Link, K: Keys, C: Clock, W: Sink, 
         Typed::Nothing => return Ok(()),
         Typed::Ended => return Err(DeskEnd::NoMoreLines),
         Typed::Line(count) => count,
-        Typed::Aside(aside) => return tell_aside(&mut outside.out, page, sheet, &aside),
+        Typed::Aside(aside) => return tell_aside(
+            &mut outside.out,
+            &mut outside.teller,
+            sheet,
+            &aside,
+        ),
     };
     let line = &buffer[..count];
     let warned = between.warned;
@@ -146,77 +152,74 @@ fn take_line<S: SlotsOf, B: BookOf + Drop, L: Link, K: Keys, C: Clock, W: Sink, 
     if let Err(end) = end_of(&said) {
         return Err(end);
     }
-    tell_if(page, said_told(at, both.other, &said));
+    tell_if(&mut outside.teller, said_told(at, both.other, &said));
     let out = &mut outside.out;
     told(print_said(out, sheet, both, warned, &said, desk.book()))
 }
 
 /// Takes the datagrams of a turn, and gives the scorer the reminders about the other desk that are due.
-fn listen<S: SlotsOf, B: BookOf + Drop, L: Link, K: Keys, C: Clock, W: Sink, P: Tells>(
+fn listen<S: SlotsOf, B: BookOf + Drop, L: Link, K: Keys, C: Clock, W: Sink, T: Tells>(
     desk: &mut Desk<S, B>,
     sheet: &MatchSheet,
-    outside: &mut Outside<L, K, C, W>,
-    page: &P,
+    outside: &mut Outside<L, K, C, W, T>,
     between: &mut Between,
 ) -> Result<(), DeskEnd>
     ensures goes { (turns : ℕ) → DeskGoes sheet.now desk.old desk.new
         (process_of desk.old between.old.warned turns (ticking_of between.old.pace) further)
         (process_of desk.new between.new.warned turns (ticking_of between.new.pace) (course_of result))
-        (known_in result (logs_of L.log K.inputs C.readings W.contents outside.old))
-        (known_in result (logs_of L.log K.inputs C.readings W.contents outside.new)) }
+        (known_in result (logs_of L.log K.inputs C.readings W.contents T.tellings outside.old))
+        (known_in result (logs_of L.log K.inputs C.readings W.contents T.tellings outside.new)) }
     ensures looked { IsSome (ticking_of between.new.pace).looked }
     ensures failed { result ≡ Err DeskEnd.Write → has_failed outside.new.out ≡ true }
 {
-    take_all(desk, sheet, outside, page, between)?;
+    take_all(desk, sheet, outside, between)?;
     let now = outside.clock.millis();
     between.now = now;
-    remind(desk, &mut outside.out, page, between, now)
+    remind(desk, &mut outside.out, &mut outside.teller, between, now)
 }
 
 /// Does a turn's work up to the flush: takes a line of the scorer, and then the datagrams.
-fn act<S: SlotsOf, B: BookOf + Drop, L: Link, K: Keys, C: Clock, W: Sink, P: Tells>(
+fn act<S: SlotsOf, B: BookOf + Drop, L: Link, K: Keys, C: Clock, W: Sink, T: Tells>(
     alloc: Global,
     desk: &mut Desk<S, B>,
     sheet: &MatchSheet,
-    outside: &mut Outside<L, K, C, W>,
-    page: &P,
+    outside: &mut Outside<L, K, C, W, T>,
     between: &mut Between,
 ) -> Result<(), DeskEnd>
     ensures goes { (turns : ℕ) → DeskGoes sheet.now desk.old desk.new
         (process_of desk.old between.old.warned turns (ticking_of between.old.pace) further)
         (process_of desk.new between.new.warned turns (ticking_of between.new.pace) (course_of result))
-        (known_in result (logs_of L.log K.inputs C.readings W.contents outside.old))
-        (known_in result (logs_of L.log K.inputs C.readings W.contents outside.new)) }
+        (known_in result (logs_of L.log K.inputs C.readings W.contents T.tellings outside.old))
+        (known_in result (logs_of L.log K.inputs C.readings W.contents T.tellings outside.new)) }
     ensures looked { OnOk result (IsSome (ticking_of between.new.pace).looked) }
     ensures failed { result ≡ Err DeskEnd.Write → has_failed outside.new.out ≡ true }
 {
     let at = desk.position();
     let votes = desk.votes();
-    take_line(alloc, desk, sheet, outside, page, between)?;
+    take_line(alloc, desk, sheet, outside, between)?;
     let has_voted = desk.votes() != votes;
     let now = outside.clock.millis();
     between.pace.note(desk.position() != at, has_voted, now);
     between.pace.set_waits(!outside.keys.has_more());
-    listen(desk, sheet, outside, page, between)
+    listen(desk, sheet, outside, between)
 }
 
 /// Takes a desk's turn: takes a line of its scorer, looks at the clock and says what is due, takes the datagrams, and flushes.
-pub(crate) fn turn<S: SlotsOf, B: BookOf + Drop, L: Link, K: Keys, C: Clock, W: Sink, P: Tells>(
+pub(crate) fn turn<S: SlotsOf, B: BookOf + Drop, L: Link, K: Keys, C: Clock, W: Sink, T: Tells>(
     alloc: Global,
     desk: &mut Desk<S, B>,
     sheet: &MatchSheet,
-    outside: &mut Outside<L, K, C, W>,
-    page: &P,
+    outside: &mut Outside<L, K, C, W, T>,
     between: &mut Between,
 ) -> Result<(), DeskEnd>
     ensures goes { (turns : ℕ) → DeskGoes sheet.now desk.old desk.new
         (process_of desk.old between.old.warned turns (ticking_of between.old.pace) further)
         (process_of desk.new between.new.warned (turns_after turns result) (ticking_of between.new.pace) (course_of result))
-        (known_in result (logs_of L.log K.inputs C.readings W.contents outside.old))
-        (known_in result (logs_of L.log K.inputs C.readings W.contents outside.new)) }
+        (known_in result (logs_of L.log K.inputs C.readings W.contents T.tellings outside.old))
+        (known_in result (logs_of L.log K.inputs C.readings W.contents T.tellings outside.new)) }
     ensures failed { result ≡ Err DeskEnd.Write → has_failed outside.new.out ≡ true }
 {
-    act(alloc, desk, sheet, outside, page, between)?;
+    act(alloc, desk, sheet, outside, between)?;
     told(outside.out.flush())?;
     between.pace.end_turn();
     Ok(())

@@ -1,6 +1,6 @@
 //! What a desk hears and tells its scorer of it, and what it says unasked.
 
-ghost use Rattle.std.specs.Prelude.{◌≡◌, ◌++◌, ◌∷◌, [], ℕ, List, true, Err, IfSome, IsSome, Some};
+ghost use Rattle.std.specs.Prelude.{◌≡◌, ◌++◌, ◌∷◌, [], ℕ, List, true, Err, IfSome, IsSome, Some, option_to_list};
 ghost use Rattle.std.specs.Io.KnownBytes.{Appends};
 ghost use Rattle.std.specs.Result.{ForOk};
 ghost use Rattle.agree_core.specs.declared.messages.Vote.{Vote as AVote};
@@ -18,6 +18,7 @@ ghost use Rattle.links.specs.Passed.{Came, sent_to};
 ghost use Rattle.links.specs.declared.link.Receivers.TheVariants.{ToOne};
 ghost use Rattle.notation.specs.Written.{IsEntry};
 ghost use Rattle.station_texts.specs.Texts.{unopened_text, warned_unopened};
+ghost use Rattle.station_texts.specs.ToldValues as values;
 ghost use Rattle.wire.specs.Layout.{IsMessage, is_at};
 ghost use Rattle.wire.specs.Reading.{Reads};
 
@@ -110,13 +111,13 @@ pub fn give<S: SlotsOf, B: BookOf + Drop, L: Link>(
 }
 
 /// Gives a desk a message, as read at the time of `between`, and tells the scorer what is news.
-fn hear<S: SlotsOf, B: BookOf + Drop, L: Link, W: Sink, P: Tells>(
+fn hear<S: SlotsOf, B: BookOf + Drop, L: Link, W: Sink, T: Tells>(
     desk: &mut Desk<S, B>,
     sheet: &MatchSheet,
     read: &Result<Message, WireFault>,
     link: &mut L,
     out: &mut Watched<W>,
-    page: &P,
+    teller: &mut T,
     between: &mut Between,
 ) -> Result<(), DeskEnd>
     requires { ForOk read.now IsMessage }
@@ -124,8 +125,8 @@ fn hear<S: SlotsOf, B: BookOf + Drop, L: Link, W: Sink, P: Tells>(
         Reads (game_of desk.old) bytes read.now → L.log link.old ≡ logs.passed ++ Came bytes ∷ [] → DeskGoes sheet.now desk.old desk.new
         (process_of desk.old between.old.warned turns (ticking_of between.old.pace) further)
         (process_of desk.new between.new.warned turns (ticking_of between.new.pace) (course_of result))
-        (record logs { told = known_at result (W.contents (stream_of out.old)) })
-        (record logs { passed = L.log link.new; told = known_at result (W.contents (stream_of out.new)) }) }
+        (record logs { told = known_at result (W.contents (stream_of out.old)); tellings = T.tellings teller.old })
+        (record logs { passed = L.log link.new; told = known_at result (W.contents (stream_of out.new)); tellings = T.tellings teller.new }) }
     ensures ticking { ticking_of between.new.pace ≡ ticking_of between.old.pace }
     ensures failed { result ≡ Err DeskEnd.Write → has_failed out.new ≡ true }
 {
@@ -151,15 +152,15 @@ fn hear<S: SlotsOf, B: BookOf + Drop, L: Link, W: Sink, P: Tells>(
         return Err(end);
     }
     let votes = both;
-    tell_if(page, came_told(warned, votes, evidence, what));
+    tell_if(teller, came_told(warned, votes, evidence, what));
     told(print_came(out, sheet, warned, both, evidence, what, desk.book()))
 }
 
 /// Tells the scorer that a datagram doesn't open, unless that was told since the last vote that was news. What is said unasked
 /// and when, and when the other desk was heard, stay unchanged.
-fn pass_over<W: Sink, P: Tells>(
+fn pass_over<W: Sink, T: Tells>(
     out: &mut Watched<W>,
-    page: &P,
+    teller: &mut T,
     between: &mut Between,
 ) -> Result<(), DeskEnd>
     ensures warned { between.new.warned ≡ warned_unopened between.old.warned }
@@ -167,12 +168,13 @@ fn pass_over<W: Sink, P: Tells>(
     ensures peer { between.new.peer ≡ between.old.peer }
     ensures text { Appends (known_at result (W.contents (stream_of out.old)))
         (known_at result (W.contents (stream_of out.new))) (unopened_text between.old.warned) }
+    ensures told { T.tellings teller.new ≡ T.tellings teller.old ++ option_to_list (values.unopened_told between.old.warned) }
     ensures course { course_of result ≡ further }
     ensures failed { result ≡ Err DeskEnd.Write → has_failed out.new ≡ true }
 {
     let warned = between.warned;
     between.warned = warned.after_unopened();
-    tell_if(page, unopened_told(warned));
+    tell_if(teller, unopened_told(warned));
     told(print_unopened(out, warned))
 }
 
@@ -209,18 +211,17 @@ fn say<S: SlotsOf, B: BookOf + Drop, L: Link, C: Clock>(
 
 /// Says what is due, and takes the next datagram. The first one of a turn is waited for until something is due. Returns whether
 /// a datagram was taken.
-fn take_next<S: SlotsOf, B: BookOf + Drop, L: Link, K: Keys, C: Clock, W: Sink, P: Tells>(
+fn take_next<S: SlotsOf, B: BookOf + Drop, L: Link, K: Keys, C: Clock, W: Sink, T: Tells>(
     desk: &mut Desk<S, B>,
     sheet: &MatchSheet,
-    outside: &mut Outside<L, K, C, W>,
-    page: &P,
+    outside: &mut Outside<L, K, C, W, T>,
     between: &mut Between,
 ) -> Result<bool, DeskEnd>
     ensures goes { (turns : ℕ) → DeskGoes sheet.now desk.old desk.new
         (process_of desk.old between.old.warned turns (ticking_of between.old.pace) further)
         (process_of desk.new between.new.warned turns (ticking_of between.new.pace) (course_of result))
-        (known_in result (logs_of L.log K.inputs C.readings W.contents outside.old))
-        (known_in result (logs_of L.log K.inputs C.readings W.contents outside.new)) }
+        (known_in result (logs_of L.log K.inputs C.readings W.contents T.tellings outside.old))
+        (known_in result (logs_of L.log K.inputs C.readings W.contents T.tellings outside.new)) }
     ensures looked { IsSome (ticking_of between.new.pace).looked }
     ensures failed { result ≡ Err DeskEnd.Write → has_failed outside.new.out ≡ true }
 {
@@ -228,6 +229,7 @@ fn take_next<S: SlotsOf, B: BookOf + Drop, L: Link, K: Keys, C: Clock, W: Sink, 
         link,
         clock,
         out,
+        teller,
         ..
     } = outside;
     let wait = say(desk, link, clock, &mut between.pace);
@@ -237,11 +239,11 @@ fn take_next<S: SlotsOf, B: BookOf + Drop, L: Link, K: Keys, C: Clock, W: Sink, 
         Arrival::Datagram(_, read) => {
             let now = clock.millis();
             between.now = now;
-            hear(desk, sheet, &read, link, out, page, between)?;
+            hear(desk, sheet, &read, link, out, teller, between)?;
             Ok(true)
         }
         Arrival::Unopened => {
-            pass_over(out, page, between)?;
+            pass_over(out, teller, between)?;
             Ok(true)
         }
         Arrival::Nothing | Arrival::Lost => Ok(false),
@@ -249,23 +251,22 @@ fn take_next<S: SlotsOf, B: BookOf + Drop, L: Link, K: Keys, C: Clock, W: Sink, 
 }
 
 /// Takes the datagrams of a turn.
-pub(crate) fn take_all<S: SlotsOf, B: BookOf + Drop, L: Link, K: Keys, C: Clock, W: Sink, P: Tells>(
+pub(crate) fn take_all<S: SlotsOf, B: BookOf + Drop, L: Link, K: Keys, C: Clock, W: Sink, T: Tells>(
     desk: &mut Desk<S, B>,
     sheet: &MatchSheet,
-    outside: &mut Outside<L, K, C, W>,
-    page: &P,
+    outside: &mut Outside<L, K, C, W, T>,
     between: &mut Between,
 ) -> Result<(), DeskEnd>
     ensures goes { (turns : ℕ) → DeskGoes sheet.now desk.old desk.new
         (process_of desk.old between.old.warned turns (ticking_of between.old.pace) further)
         (process_of desk.new between.new.warned turns (ticking_of between.new.pace) (course_of result))
-        (known_in result (logs_of L.log K.inputs C.readings W.contents outside.old))
-        (known_in result (logs_of L.log K.inputs C.readings W.contents outside.new)) }
+        (known_in result (logs_of L.log K.inputs C.readings W.contents T.tellings outside.old))
+        (known_in result (logs_of L.log K.inputs C.readings W.contents T.tellings outside.new)) }
     ensures looked { IsSome (ticking_of between.new.pace).looked }
     ensures failed { result ≡ Err DeskEnd.Write → has_failed outside.new.out ≡ true }
 {
     for taken in 0..MOST_TAKEN {
-        if !take_next(desk, sheet, outside, page, between)? {
+        if !take_next(desk, sheet, outside, between)? {
             break;
         }
     }

@@ -11,7 +11,7 @@ ghost use Rattle.cards.specs.Sheet.{Sheet};
 ghost use Rattle.live.specs.Before.{VotesWereTyped};
 ghost use Rattle.live.specs.Boards.{board_kind};
 ghost use Rattle.live.specs.Desks.{FitsLongest, desk_kind};
-ghost use Rattle.live.specs.Hidden.{HidesTheOther, TellsBoth};
+ghost use Rattle.live.specs.Hidden.{HidesTheOther, RowsAreValues, TellsBoth};
 ghost use Rattle.live.specs.Reminding.{RemindsOnce};
 ghost use Rattle.live.specs.Silences.{IsNeverSilent};
 ghost use Rattle.live.specs.Splits.{SplitsAreTold};
@@ -26,10 +26,16 @@ pub fn the_other_is_hidden<S: SlotsOf>()
     ensures { (desk : ADesk) (game : ℕ) → HidesTheOther (file_view S.contents S.Disk.seen S.Disk.images desk game) }
 {}
 
-/// Once both votes of a position are stored and differ, a desk's scorer is told both entries.
+/// Once both votes of a position are stored and differ, a desk's scorer is told both entries, in a row and as a value.
 #[tactic(auto, using(crate::proofs::HiddenLemmas::tells_both))]
 pub fn both_lines_are_told<D>()
     ensures { TellsBoth D }
+{}
+
+/// Whatever rows a desk prints, it tells as a value, too.
+#[tactic(auto, using(crate::proofs::ToldLemmas::rows_are_values))]
+pub fn rows_are_told_as_values<D>()
+    ensures { RowsAreValues D }
 {}
 
 /// That the other has written is told once, until the other desk's next vote that is news. That the other desk isn't heard, and

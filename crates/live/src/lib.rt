@@ -32,8 +32,8 @@ pub use desk_life::{LifeEnd, keep_desk, run_desk};
 pub use ends::{DeskEnd, end_at};
 pub use hearing_log::HearingLog;
 pub use laws::{
-    both_lines_are_told, nothing_is_asked_in_vain, reminders_come_once, splits_are_told,
-    stations_are_never_silent, the_other_is_hidden,
+    both_lines_are_told, nothing_is_asked_in_vain, reminders_come_once, rows_are_told_as_values,
+    splits_are_told, stations_are_never_silent, the_other_is_hidden,
 };
 pub use outside::Outside;
 pub use scoreboard::Scoreboard;

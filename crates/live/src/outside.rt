@@ -1,12 +1,15 @@
 //! What a desk's process works with.
 
 use links::{Clock, Keys, Link};
+use screen::Tells;
 use streams::{Sink, Watched};
 
-/// What a desk's process works with: its link, its scorer's keys, its clock, and its scorer's screen.
-pub struct Outside<L: Link, K: Keys, C: Clock, W: Sink> {
+/// What a desk's process works with: its link, its scorer's keys, its clock, its scorer's screen, and who is told what the
+/// rows of the screen tell.
+pub struct Outside<L: Link, K: Keys, C: Clock, W: Sink, T: Tells> {
     pub link: L,
     pub keys: K,
     pub clock: C,
     pub out: Watched<W>,
+    pub teller: T,
 }

@@ -7,7 +7,7 @@ use corrections::Book;
 use desk::Desk;
 use entry_log::{MemDisk, Slots};
 use live::{Outside, run_desk};
-use screen::RowsAlone;
+use screen::{RowsAlone, TellLog};
 use std::alloc::Global;
 use std::process::Abort;
 use streams::Watched;
@@ -84,6 +84,7 @@ fn run<'a>(
         keys,
         clock: Hand::new(world),
         out: Watched::new(Screen::new(alloc, world)),
+        teller: TellLog::Empty,
     };
     let answer = run_desk(
         alloc,
@@ -99,6 +100,7 @@ fn run<'a>(
         keys: _keys,
         clock: _clock,
         out,
+        teller: _teller,
     } = outside;
     assert!(rt; answer.is_ok());
     (out.into_inner(), link)

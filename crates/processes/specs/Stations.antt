@@ -24,7 +24,7 @@ use Rattle.desk.specs.declared.{desk.Desk.Desk, refusal.OpenRefusal.OpenRefusal}
 use Rattle.desk.specs.Desk.{game_of, opening, state_of, view_of}
 use Rattle.live.specs.Boards as boards
 use Rattle.live.specs.Boards.{BoardTurn, board_kind}
-use Rattle.live.specs.Desks.{DeskCall, DeskProcess, DeskRuns, DiskView, FitsLongest, desk_kind, innings_of, kind_of}
+use Rattle.live.specs.Desks.{DeskCall, DeskProcess, DeskRuns, DiskView, FitsLongest, desk_kind, innings_of, kind_of, with_greeting}
 use Rattle.live.specs.Ends.{known_in}
 use Rattle.live.specs.Runs as own
 use Rattle.live.specs.Runs.{Logs, LogsGrow, known_where, with_told}
@@ -48,8 +48,8 @@ module _ {S B D : Type 0} {g : Files S D} {h : Disks D} {b : Books B} where
 
   -- By what `run_desk` ensures, from the desk at the start of its process to the desk at its end: the moments are a run from
   -- its beginning on; their datagrams are exactly those that passed, their lines those that were typed, their times those that
-  -- its clock showed, and their texts those that were written. The first text says how the match stands, and each later one
-  -- belongs to the book that the desk has after its call.
+  -- its clock showed, their texts those that were written, and their values those that were told. The first text says how the
+  -- match stands, and each later one belongs to the book that the desk has after its call.
   abbrev pub DeskRunIsStage : (old new : Desk S B D g h b) → Type 0
   DeskRunIsStage old new =
       (sheet : Sheet) (before after : Logs) (turns : ℕ) (result : Result (Unit {0}) DeskEnd)
@@ -58,7 +58,7 @@ module _ {S B D : Type 0} {g : Files S D} {h : Disks D} {b : Books B} where
       × RunsFrom sheet (view_of old) h.faults (game_of old) (innings_of old) (state_of old) ms
       × (after_calls (state_of old) ms ≡ Running (state_of new))
       × LogsGrow (kind_of sheet old) (fresh (state_of old)) ms
-      (known_in result (with_told before (greeting_of sheet (innings_of old) (state_of old)))) (known_in result after)
+      (known_in result (with_greeting before (greeting_of sheet (innings_of old) (state_of old)))) (known_in result after)
 
 module _ {Disk : Type 0} where
   -- the stages of one process of a desk: its beginning, and its calls if the desk was opened
@@ -76,7 +76,7 @@ module _ {Disk : Type 0} where
         Opening Disk → List (own.Moment (DeskProcess Disk) DeskCall) → Logs → Logs → Result (Unit {0}) LifeEnd → Type 0
     ProcessLogs (Opened k) calls before after result =
         (end : Result (Unit {0}) DeskEnd) × (result ≡ ended end)
-        × LogsGrow process_kind (fresh k) calls (known_in end (with_told before (greeting_of sheet innings k))) (known_in end after)
+        × LogsGrow process_kind (fresh k) calls (known_in end (with_greeting before (greeting_of sheet innings k))) (known_in end after)
     ProcessLogs (NotOpened cause left) calls before after result = after ≡ before
 
 -- for disks of this kind, with `seen` as what is read, `images` as what a power loss may leave, and `faults` as what is told of

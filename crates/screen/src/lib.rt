@@ -17,7 +17,7 @@ pub use near::print_unknown;
 pub use sentences::{fault_sentence, refusal_sentence};
 pub use shows_desk::{RowsAlone, ShowsDesk};
 pub use sides::{print_player, print_sides};
-pub use told::{Tells, Told};
+pub use told::{TellLog, Tells, Told};
 pub use topic::{HELP, Topic, help_on};
 pub use waiting::print_waiting;
 pub use word::{Word, behind_plan, is_end, word_of};

@@ -3,7 +3,6 @@
 ghost use Rattle.std.specs.Prelude.{◌≡◌, IfSome};
 ghost use Rattle.notation.specs.Written.{IsEntry};
 
-use crate::told::{Tells, Told};
 use agree_core::Position;
 use cards::MatchSheet;
 use corrections::BookOf;
@@ -55,8 +54,4 @@ impl<B: BookOf> ShowsDesk<B> for RowsAlone {
     fn longest_wait(&self) -> u64 {
         u64::MAX
     }
-}
-
-impl Tells for RowsAlone {
-    fn tell(&self, _told: Told) {}
 }

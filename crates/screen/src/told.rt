@@ -1,8 +1,10 @@
 //! What a desk tells its scorer, as values.
 
-ghost use Rattle.screen.specs.Telling.{IsTold};
+ghost use Rattle.std.specs.Prelude.{◌≡◌, ◌∷◌, ◌++◌, List, []};
+ghost use Rattle.screen.specs.Telling.{IsTold, tellings_of};
 
 use notation::Entry;
+use std::snapshot::Snapshot;
 
 /// What a desk tells its scorer: one value for the rows that it prints at once. Numbers are those that the rows show: mostly the
 /// place that they are about. An entry of the other desk is in it only where the two agree or differ.
@@ -78,7 +80,37 @@ pub enum Told {
 
 /// Is told what a desk tells its scorer, beside the rows.
 pub trait Tells {
+    ghost use Rattle.screen.specs.declared.told.Told.{Told};
+
+    /// The values handed to `tell`, the oldest first.
+    ghost tellings: { Self → List Told };
+
     /// Takes what the rows that are printed next tell.
-    fn tell(&self, told: Told)
-        requires { IsTold told };
+    fn tell(&mut self, told: Told)
+        requires { IsTold told }
+        ensures { tellings self.new ≡ tellings self.old ++ told ∷ [] };
+}
+
+/// All values that were told, in order. Only clauses read it.
+#[derive(Drop)]
+pub enum TellLog {
+    Empty,
+    Told(Snapshot<TellLog>, Snapshot<Told>),
+}
+
+impl TellLog {
+    /// Returns this log with a value added at its end.
+    pub fn told(&self, told: Told) -> TellLog
+        ensures { tellings_of result ≡ tellings_of self.now ++ told ∷ [] }
+    {
+        TellLog::Told(Snapshot::of(self), Snapshot::of(&told))
+    }
+}
+
+impl Tells for TellLog {
+    ghost tellings = { λ log. tellings_of log };
+
+    fn tell(&mut self, told: Told) {
+        *self = self.told(told);
+    }
 }

@@ -14,7 +14,7 @@ use Rattle.seal.specs.declared.receipts.Receipts.{Receipts}
 use Rattle.seal.specs.declared.ring.Ring.{Ring}
 use Rattle.seal.proofs.SealedForms.{front, front_outgoing, long, of_untagged, sized, whole}
 use Rattle.seal.specs.Opening.{GivenWasBrought, WasBrought, came_open, opening, opening_of, opens}
-use Rattle.links.specs.Passed.{Passed, Sent, Came}
+use Rattle.links.specs.Passed.{Passed, Opened, Sent, Came}
 use Rattle.links.specs.declared.link.Receivers.{Receivers}
 
 -- one more item in the log
@@ -158,5 +158,7 @@ pub given_was_brought : GivenWasBrought
 given_was_brought ring [] i m e = absurd (cc)
 given_was_brought ring (Sent to bytes ∷ carried) zero m e = absurd (cc)
 given_was_brought ring (Sent to bytes ∷ carried) (suc i) m e = later ring (Sent to bytes) carried m (given_was_brought ring carried i m e)
+given_was_brought ring (Opened station seals is_of_pairs ∷ carried) i m e =
+    later ring (Opened station seals is_of_pairs) carried m (given_was_brought ring carried i m e)
 given_was_brought ring (Came bytes ∷ carried) i m e =
     came_first ring bytes carried m (λ k f. given_was_brought ring carried k m f) (opens ring bytes) refl i e

@@ -81,13 +81,13 @@ impl<R: SealedCarrier> Sealed<R> {
 }
 
 impl<R: SealedCarrier> Link for Sealed<R> {
-    ghost use Rattle.seal.specs.Opening.{opening};
+    ghost use Rattle.seal.specs.Opening.{passing};
 
-    ghost log = { λ sealed. opening sealed.ring (R.carried sealed.carrier) };
+    ghost log = { λ sealed. passing sealed.ring (R.carried sealed.carrier) };
 
     fn send(&mut self, bytes: &MessageBytes)
-        ensures log { opening self.new.ring (R.carried self.new.carrier)
-            ≡ opening self.old.ring (R.carried self.old.carrier) ++ Sent ToAll bytes.now ∷ [] }
+        ensures log { passing self.new.ring (R.carried self.new.carrier)
+            ≡ passing self.old.ring (R.carried self.old.carrier) ++ Sent ToAll bytes.now ∷ [] }
         ensures sent { R.carried self.new.carrier
             ≡ R.carried self.old.carrier ++ Sent ToAll (bytes_of (laws.outgoing self.old.ring self.old.receipts bytes.now)) ∷ [] }
         ensures same { (self.new.ring ≡ self.old.ring) × (self.new.receipts ≡ self.old.receipts) }
@@ -97,8 +97,8 @@ impl<R: SealedCarrier> Link for Sealed<R> {
     }
 
     fn reply(&mut self, bytes: &MessageBytes)
-        ensures log { opening self.new.ring (R.carried self.new.carrier)
-            ≡ opening self.old.ring (R.carried self.old.carrier) ++ Sent ToOne bytes.now ∷ [] }
+        ensures log { passing self.new.ring (R.carried self.new.carrier)
+            ≡ passing self.old.ring (R.carried self.old.carrier) ++ Sent ToOne bytes.now ∷ [] }
         ensures sent { R.carried self.new.carrier
             ≡ R.carried self.old.carrier ++ Sent ToOne (bytes_of (laws.outgoing self.old.ring self.old.receipts bytes.now)) ∷ [] }
         ensures same { (self.new.ring ≡ self.old.ring) × (self.new.receipts ≡ self.old.receipts) }
@@ -108,8 +108,8 @@ impl<R: SealedCarrier> Link for Sealed<R> {
     }
 
     fn take(&mut self, buffer: &mut DatagramBuffer, wait: u64) -> Taken
-        ensures taken { IsTaken result buffer.new (opening self.old.ring (R.carried self.old.carrier))
-            (opening self.new.ring (R.carried self.new.carrier)) }
+        ensures taken { IsTaken result buffer.new (passing self.old.ring (R.carried self.old.carrier))
+            (passing self.new.ring (R.carried self.new.carrier)) }
         ensures kept { laws.KeepsOf self.old.ring result self.old.receipts self.new.receipts
             (R.carried self.old.carrier) (R.carried self.new.carrier) }
         ensures same { self.new.ring ≡ self.old.ring }
@@ -129,11 +129,11 @@ impl<R: SealedCarrier> Link for Sealed<R> {
 }
 
 impl<R: SealedCarrier> PeerLink for Sealed<R> {
-    ghost use Rattle.seal.specs.Opening.{opening};
+    ghost use Rattle.seal.specs.Opening.{passing};
 
     fn send_to(&mut self, peer: usize, bytes: &MessageBytes)
-        ensures log { opening self.new.ring (R.carried self.new.carrier)
-            ≡ opening self.old.ring (R.carried self.old.carrier) ++ Sent ToOne bytes.now ∷ [] }
+        ensures log { passing self.new.ring (R.carried self.new.carrier)
+            ≡ passing self.old.ring (R.carried self.old.carrier) ++ Sent ToOne bytes.now ∷ [] }
         ensures sent { R.carried self.new.carrier
             ≡ R.carried self.old.carrier ++ Sent ToOne (bytes_of (laws.outgoing self.old.ring self.old.receipts bytes.now)) ∷ [] }
         ensures same { (self.new.ring ≡ self.old.ring) × (self.new.receipts ≡ self.old.receipts) }

@@ -1,7 +1,9 @@
 //! A station's seals, one for each of its peers, and which of them open a datagram.
 
-ghost use Rattle.std.specs.Prelude.{◌≡◌, ◌<◌, ◌≤◌, ◌+◌, ◌++◌, [], ℕ, List, drop, false, if◌then◌else◌, length, nat_eq, slice_get, take, true};
+ghost use Rattle.std.specs.Prelude.{◌≡◌, ◌<◌, ◌≤◌, ◌+◌, ◌∷◌, ◌++◌, [], ℕ, List, drop, false, if◌then◌else◌, length, nat_eq, slice_get, take, true};
 ghost use Rattle.arrayvec.specs.ArrayVec.{array_vec_len};
+ghost use Rattle.links.specs.Logs.{passed_of};
+ghost use Rattle.seal.specs.Opening.{opened};
 ghost use Rattle.seal.specs.Receipts.{keeps};
 ghost use Rattle.seal.specs.Rings as rings;
 ghost use Rattle.seal.specs.Sealed.{covered, sealed};
@@ -10,7 +12,7 @@ use crate::carrier::{Tag, TaggedMessage};
 use crate::datagram::{Seal, has_size};
 use agree_core::Asker;
 use arrayvec::ArrayVec;
-use links::{DatagramBuffer, ROOM};
+use links::{DatagramBuffer, Log, ROOM};
 use wire::MessageBytes;
 
 /// How many peers a station has at most: a desk has the other desk and four boards.
@@ -133,6 +135,21 @@ impl Ring {
             ],
             is_of_pairs: self.is_of_pairs,
         }
+    }
+
+    /// Returns the log of a link that is opened with this ring. Only clauses read it.
+    pub fn opened_log(&self) -> Log
+        ensures { passed_of result ≡ opened self.now ∷ [] }
+    {
+        let [first, second, third, fourth, fifth] = &self.seals;
+        let seals = [
+            *first.key(),
+            *second.key(),
+            *third.key(),
+            *fourth.key(),
+            *fifth.key(),
+        ];
+        Log::opened(self.station, &seals, self.is_of_pairs)
     }
 
     /// Returns the seal that is shared with a peer.

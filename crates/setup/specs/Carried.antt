@@ -2,12 +2,11 @@
 use Rattle.std.specs.Prelude.{ℕ, List}
 use Rattle.links.specs.Passed.{Passed}
 use Rattle.links.specs.Windows.{IsFaithful}
-use Rattle.seal.specs.Opening.{opening}
+use Rattle.seal.specs.Opening.{passing}
 use Rattle.seal.specs.declared.ring.Ring.{Ring}
 
--- What a station said and heard passed through a window over sealed datagrams, which were carried: nothing but asks was sent
--- that it hadn't said, and nothing but asks was heard that hadn't come sealed.
-pub record WasCarried (passed carried : List Passed) : Type 0 where
+-- What a station said and heard passed through a window over datagrams sealed with this ring, which were carried: nothing but
+-- asks was sent that it hadn't said, and nothing but asks was heard that hadn't come sealed.
+pub record WasCarried (ring : Ring) (passed carried : List Passed) : Type 0 where
   pub game : ℕ
-  pub ring : Ring
-  pub faithful : IsFaithful game passed (opening ring carried)
+  pub faithful : IsFaithful game passed (passing ring carried)

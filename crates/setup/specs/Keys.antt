@@ -1,5 +1,5 @@
 -- Keys: one for all stations, or one for each pair that hear each other's votes; in files, and the text of a new one.
-use Rattle.std.specs.Prelude.{ℕ, false, true, ◌≡◌, ◌≤◌, ◌⊎◌, ◌+◌, List, [], ◌∷◌, ◌++◌, codes, length, replicate, take}
+use Rattle.std.specs.Prelude.{ℕ, Option, None, Some, false, true, ◌≡◌, ◌≤◌, ◌⊎◌, ◌+◌, List, [], ◌∷◌, ◌++◌, codes, length, replicate, take}
 use Rattle.std.specs.Str.{IsTrimAsciiEnd}
 use Rattle.hex.specs.Hex.{encode_lower}
 use Rattle.agree_core.specs.declared.messages.Asker.{Asker}
@@ -66,9 +66,10 @@ HasRing bytes station digest ring =
     ⊎ ((first : List ℕ) × ((second : List ℕ) × HasPairKeys bytes station first second
     × (ring ≡ ring_of station (pair_seals station first second digest) true)))
 
--- a station's ring, made from a file of some bytes
-abbrev pub IsRingOfSome : Asker → List ℕ → Ring → Type 0
-IsRingOfSome station digest ring = (bytes : List ℕ) × HasRing bytes station digest ring
+-- a station's ring, made from the bytes of its key file, if one is named, and otherwise of no key
+abbrev pub IsRingOf : Option (List ℕ) → List ℕ → Asker → List ℕ → Ring → Type 0
+IsRingOf None bytes station digest ring = ring ≡ ring_of_one station (seal_of [] digest)
+IsRingOf (Some path) bytes station digest ring = HasRing bytes station digest ring
 
 -- the text of a new key: its digits, and the end of a line
 abbrev pub key_line : List ℕ → List ℕ

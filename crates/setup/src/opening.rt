@@ -10,9 +10,8 @@ use crate::sheet::sheet_run;
 use agree_core::DeskId;
 use cards::MatchSheet;
 use entry_log::OldSlots;
-use machine::{Address, MOST_PEERS, Peers, StandardStream, WaitEnds};
+use machine::{Address, MOST_PEERS, Peers, StandardStream, Strangers, WaitEnds};
 use machine_files::{FileDisk, OpenFault};
-use seal::Opener;
 use std::cell::Cell;
 use std::fs::File;
 use std::io::{BufWriter, Write};
@@ -94,7 +93,7 @@ pub fn output(rt: &HostRuntime) -> Result<Output<'_>, Stopped<'static>> {
     Ok(Watched::new(printer(rt)?))
 }
 
-/// Opens a station's socket at its address, for the match whose datagrams `opener` opens. `ends` is what else ends a wait; a
+/// Opens a station's socket at its address, in a match whose datagrams `strangers` knows. `ends` is what else ends a wait; a
 /// wait that ends because of the page sets `called`.
 pub fn peers_at<'a, 'w, E: Write + Drop>(
     net: &impl Net,
@@ -102,12 +101,12 @@ pub fn peers_at<'a, 'w, E: Write + Drop>(
     peers: [Option<SocketAddr>; MOST_PEERS],
     ends: WaitEnds,
     called: &'w Cell<bool>,
-    opener: Opener,
+    strangers: Strangers,
     errors: E,
 ) -> Result<Peers<'w, E>, Stopped<'a>>
     ensures { IfOk result (λ peers. carried_of peers.log ≡ []) }
 {
-    match Peers::new(net, at.socket, peers, ends, called, opener, errors) {
+    match Peers::new(net, at.socket, peers, ends, called, strangers, errors) {
         Ok(peers) => Ok(peers),
         Err(_) => Err(Stopped {
             path: at.text,

@@ -1,9 +1,10 @@
 //! What a station's datagrams are sealed with: the keys in a file, or no key, and the match sheet.
 
-ghost use Rattle.std.specs.Prelude.{◌≡◌, ◌≤◌, ◌+◌, [], None, IfOk, IfSome, is_some, length};
+ghost use Rattle.std.specs.Prelude.{◌≡◌, ◌≤◌, ◌+◌, ◌∷◌, [], IfOk, IfSome, is_some, length, option_copied};
 ghost use Rattle.agree_core.specs.Desks.{asker};
 ghost use Rattle.cards.specs.Digest.{sheet_digest};
 ghost use Rattle.seal.specs.Carried.{carried_of};
+ghost use Rattle.seal.specs.Opening.{opened};
 ghost use Rattle.seal.specs.Rings as rings;
 ghost use Rattle.seal.specs.Sealed.{seal_of};
 ghost use Rattle.streams.specs.Watched.{stream_of};
@@ -17,7 +18,7 @@ use agree_core::{Asker, DeskId};
 use cards::{MatchSheet, digest_of};
 use hex::encode_to_slice;
 use links::Window;
-use machine::{Address, MOST_PEERS, MonotonicClock, Peers, WaitEnds};
+use machine::{Address, MOST_PEERS, MonotonicClock, Peers, Strangers, WaitEnds};
 use machine_files::is_same_file;
 use seal::{Receipts, Ring, Seal, Sealed};
 use std::alloc::Global;
@@ -26,6 +27,7 @@ use std::fs;
 use std::io::{self, Write};
 use std::net::SocketAddr;
 use std::os::unix::fs::MetadataExt;
+use std::snapshot::Snapshot;
 use streams::{Feed, Watched, read_all};
 
 /// A station's link: a window over sealed datagrams, at a socket.
@@ -181,6 +183,13 @@ fn seals_of(
     })
 }
 
+/// A station's seals, and the bytes of the file that they are made from, which only clauses read.
+#[derive(Drop)]
+struct FileSeals {
+    seals: Seals,
+    text: Snapshot<Vec<u8>>,
+}
+
 /// Returns the seals of a station, made from its key file, which is read to its end. Refuses a file that hasn't `size` bytes:
 /// such a file isn't on a disk, for example `/proc/version`.
 fn seals_run<R: Feed>(
@@ -189,16 +198,19 @@ fn seals_run<R: Feed>(
     size: u64,
     station: Asker,
     digest: &[u8; 32],
-) -> Result<Seals, StopFault>
-    ensures ring { IfOk result (λ seals. keys.IsRingOfSome station digest.now seals.ring) }
-    ensures read { IfSome (R.remaining (stream_of reader.old)) (λ bytes.
-        IfOk result (λ seals. keys.HasRing bytes station digest.now seals.ring)) }
+) -> Result<FileSeals, StopFault>
+    ensures ring { IfOk result (λ file. keys.HasRing (file.text).value.items station digest.now (file.seals).ring) }
+    ensures read { IfSome (R.remaining (stream_of reader.old)) (λ bytes. IfOk result (λ file. (file.text).value.items ≡ bytes)) }
 {
     let bytes = read_all(alloc, reader)?;
     if bytes.len() as u64 != size {
         return Err(StopFault::Key(KeyFault::NotAFile));
     }
-    seals_of(alloc, bytes.as_slice(), station, digest)
+    let seals = seals_of(alloc, bytes.as_slice(), station, digest)?;
+    Ok(FileSeals {
+        seals,
+        text: Snapshot::of(&bytes),
+    })
 }
 
 /// The size of a key file, and who may read it.
@@ -240,8 +252,8 @@ fn seals_at<'a>(
     sheet: &str,
     station: Asker,
     digest: &[u8; 32],
-) -> Result<Seals, Stopped<'a>>
-    ensures { IfOk result (λ seals. keys.IsRingOfSome station digest.now seals.ring) }
+) -> Result<FileSeals, Stopped<'a>>
+    ensures { IfOk result (λ file. keys.HasRing (file.text).value.items station digest.now (file.seals).ring) }
 {
     let file = key_file_at(rt, path, sheet)?;
     let mut reader = open_input(rt, path)?;
@@ -260,10 +272,11 @@ fn keep_out_of_dumps(rt: &HostRuntime) {
 }
 
 /// What a station's datagrams are sealed with, made from its keys (which aren't kept) and the sheet's digest; that digest; and
-/// the number of the match.
+/// the number of the match. Only clauses read the bytes of its key file.
 #[derive(Drop)]
 pub struct Sealing {
     ring: Ring,
+    text: Snapshot<Vec<u8>>,
     station: Asker,
     /// Whether the station has a key.
     has_key: bool,
@@ -280,15 +293,18 @@ impl Sealing {
         digest: [u8; 32],
         station: Asker,
         has_key: bool,
-        seals: Seals,
+        file: FileSeals,
     ) -> Sealing
-        ensures ring { result.ring ≡ seals.ring }
+        ensures ring { result.ring ≡ (file.seals).ring }
+        ensures text { result.text ≡ file.text }
         ensures has_key { result.has_key ≡ has_key }
         ensures digest { result.digest ≡ digest }
         ensures game { result.game ≡ sheet.now.game }
     {
+        let FileSeals { seals, text } = file;
         Sealing {
             ring: seals.ring,
+            text,
             station,
             has_key,
             is_of_pairs: seals.is_of_pairs,
@@ -308,24 +324,24 @@ impl Sealing {
         ensures digest { IfOk result (λ sealing. sealing.digest ≡ sheet_digest sheet.now) }
         ensures game { IfOk result (λ sealing. sealing.game ≡ sheet.now.game) }
         ensures has_key { IfOk result (λ sealing. sealing.has_key ≡ is_some key.entry) }
-        ensures none { key.entry ≡ None
-            → IfOk result (λ sealing. sealing.ring ≡ keys.ring_of_one station (seal_of [] (sheet_digest sheet.now))) }
-        ensures key { IfSome key.entry (λ path.
-            IfOk result (λ sealing. keys.IsRingOfSome station (sheet_digest sheet.now) sealing.ring)) }
+        ensures ring { IfOk result (λ sealing. keys.IsRingOf (option_copied key.entry) (sealing.text).value.items station
+            (sheet_digest sheet.now) sealing.ring) }
     {
         let digest = digest_of(sheet);
         match key {
             Some(path) => {
                 keep_out_of_dumps(rt);
-                let seals = seals_at(rt, path, sheet_path, station, &digest)?;
-                Ok(Sealing::with(sheet, digest, station, true, seals))
+                let file = seals_at(rt, path, sheet_path, station, &digest)?;
+                Ok(Sealing::with(sheet, digest, station, true, file))
             }
             None => {
                 let seals = Seals {
                     ring: ring_of_one(b"", station, &digest),
                     is_of_pairs: false,
                 };
-                Ok(Sealing::with(sheet, digest, station, false, seals))
+                let text = Snapshot::of(&Vec::new(rt.alloc()));
+                let file = FileSeals { seals, text };
+                Ok(Sealing::with(sheet, digest, station, false, file))
             }
         }
     }
@@ -400,23 +416,26 @@ impl Sealing {
         ensures log { IfOk result (λ sealed. carried_of sealed.carrier.log ≡ []) }
     {
         let receipts = self.receipts(rt.alloc(), at.text)?;
-        let peers = peers_at(rt, at, peers, ends, called, self.ring.opener(), errors)?;
+        let strangers = Strangers::new(self.ring.opener(), self.station, self.game, self.has_key);
+        let peers = peers_at(rt, at, peers, ends, called, strangers, errors)?;
         Ok(Sealed::new(peers, self.ring.copied(), receipts))
     }
 
-    /// Returns a station's link over its sealed datagrams, of which none has passed yet. The link has no other socket.
+    /// Returns a station's link over its sealed datagrams, with the station's seals; none has passed yet. The link has no other
+    /// socket.
     pub fn link_over<'r, 'w, E: Write + Drop>(
         &self,
         alloc: Global,
         clock: MonotonicClock<'r, HostRuntime>,
         sealed: Sealed<Peers<'w, E>>,
     ) -> StationLink<'r, 'w, E>
-        requires { carried_of sealed.carrier.log ≡ [] }
+        requires ring { sealed.ring ≡ self.now.ring }
+        requires log { carried_of sealed.carrier.log ≡ [] }
         ensures game { result.game ≡ self.now.game }
-        ensures above { result.above ≡ [] }
-        ensures below { result.below ≡ [] }
+        ensures above { result.above ≡ opened self.now.ring ∷ [] }
+        ensures below { result.below ≡ opened self.now.ring ∷ [] }
     {
-        Window::new(alloc, sealed, clock, self.game)
+        Window::new(alloc, sealed, clock, self.game, self.ring.opened_log())
     }
 }
 

@@ -23,6 +23,7 @@ use Rattle.desk_command.specs.Typed as typed
 use Rattle.board_command.specs.Keeping.{innings_in}
 use Rattle.board_command.specs.Lives.{traces_in}
 use Rattle.board.specs.Board as board
+use Rattle.seal.specs.Opening.{opened}
 use Rattle.processes.specs.Happenings.{BoardCalled, DeskCalled, Happening}
 use Rattle.processes.specs.Lives.{CallsMade, Stage, board_calls, board_happens, first_turn, life_happens, stage_happens}
 use Rattle.processes.specs.Lives as lives
@@ -55,7 +56,7 @@ undropped given (suc n) (m ∷ ms) x h = inr (undropped given n ms x h)
 
 module _
     {Disk : Type 0} {view : FileView Disk} {seen : Disk → List ℕ} {disks : DiskView Disk} {sheet : Sheet} {innings : ℕ} {d : DeskId} {disk : Disk}
-    {before after : Logs} {turns : ℕ} {result : Result (Unit {0}) LifeEnd} (none : before.passed ≡ []) where
+    {before after : Logs} {turns : ℕ} {result : Result (Unit {0}) LifeEnd} where
   -- a desk's process took what its calls were given
   process_took : (ls : DeskLives view seen disks sheet innings d disk before after turns result) (n : ℕ) (x : Passed)
       → IsGivenIn desks.given (drop n (typed.calls_of ls)) x → Has after.passed x
@@ -67,9 +68,8 @@ module _
           record { opening = opening; begins = begins; follows = follows } in IsGivenIn desks.given (drop n (typed.calls_of these)) x → Has after.passed x
       of (Opened k) begins run h =
           let goes = run.3 in
-          let all : after.passed ≡ passed_in (desk_kind sheet view disks sheet.game innings) goes.moments = rw none at goes.logs.passed in
-          subst (λ (l : List Passed). Has l x) (sym all)
-          (in_passed (desk_kind sheet view disks sheet.game innings) goes.moments x (undropped desks.given n goes.moments x h))
+          subst (λ (l : List Passed). Has l x) (sym goes.logs.passed)
+          (has_behind before.passed (passed_in (desk_kind sheet view disks sheet.game innings) goes.moments) x (in_passed (desk_kind sheet view disks sheet.game innings) goes.moments x (undropped desks.given n goes.moments x h)))
       of (NotOpened cause left) begins follows h = absurd (undropped desks.given n [] x h)
 
 -- a board's life took what its calls were given
@@ -77,7 +77,8 @@ board_took : (b : LifeOfBoard) (x : Passed) → IsGivenIn boards.given (board_pr
 board_took b x h =
     let goes = b.kept.lives.runs.goes.goes in
     let kind = board_kind (board_sheet b) (board.game_of b.kept.begun) (innings_in (board.book_of b.kept.begun)) in
-    subst (λ (l : List Passed). Has l x) (sym goes.logs.passed) (in_passed kind goes.moments x (undropped boards.given b.unmade goes.moments x h))
+    subst (λ (l : List Passed). Has l x) (sym goes.logs.passed)
+    (has_behind (opened (traces_in b.life).ring ∷ []) (passed_in kind goes.moments) x (in_passed kind goes.moments x (undropped boards.given b.unmade goes.moments x h)))
 
 -- ---- of happenings
 
@@ -148,7 +149,7 @@ module _ {Disk : Type 0} where
 
 module _ {desk : DeskId} (innings : ℕ) where
   took : (l : LifeOfDesk desk) (x : Passed) → IsGivenIn desks.given (calls_of l) x → Has l.process.traces.passed x
-  took l x h = process_took refl l.process.kept.lives.lives l.unmade x h
+  took l x h = process_took l.process.kept.lives.lives l.unmade x h
 
   abbrev Took : (LifeOfDesk desk → Type 0) → Passed → Type 0
   Took IsOne x = (l : LifeOfDesk desk) × IsOne l × Has l.process.traces.passed x

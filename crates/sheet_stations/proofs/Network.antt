@@ -7,7 +7,7 @@ use Rattle.wire.specs.Layout.{Says, body, written}
 use Rattle.wire.proofs.MessageLemmas.{message_body_length}
 use Rattle.links.specs.Passed.{Came, Passed}
 use Rattle.links.specs.Windows.{Has, IsAsk}
-use Rattle.seal.specs.Opening.{WasBrought, opening}
+use Rattle.seal.specs.Opening.{WasBrought, opening, passing}
 use Rattle.seal.specs.Rings.{Seals, is_by_first, ring_of_board, seals_by, sender_in}
 use Rattle.seal.specs.Sealed.{IsSealed, sealed}
 use Rattle.seal.specs.declared.ring.Ring.{Ring}
@@ -39,6 +39,11 @@ no_ask game other message v says ask =
     let kinds : 2 ≡ 1 = ap (λ (m : List ℕ). slice_index m 3) (sym ask.1 ∙ says.1) in
     absurd (omega (arith, kinds))
 
+-- what came of a link is an opening of what was carried
+came_open : (ring : Ring) (carried : List Passed) (message : List ℕ) → Has (passing ring carried) (Came message) → Has (opening ring carried) (Came message)
+came_open ring carried message (inl e) = absurd (cc)
+came_open ring carried message (inr h) = h
+
 -- the seals of a match without keys: what was sent can be sealed with these as with any others
 abbrev pub no_seals : Seals
 no_seals = record { desks = []; a = λ n. []; b = λ n. [] }
@@ -61,27 +66,27 @@ module _ (game : ℕ) (sent : List Message) (message : List ℕ) where
   abbrev IsSent : Type 0
   IsSent = (i : ℕ) × ((m : Message) × (slice_get sent i ≡ Some m) × (message ≡ written game m))
 
-  module _ {passed carried : List Passed} (was : WasCarried passed carried) (has : Has passed (Came message)) (v : Vote) (says : Says game message (Message.Vote v)) where
+  module _ {one : Ring} {passed carried : List Passed} (was : WasCarried one passed carried) (has : Has passed (Came message)) (v : Vote) (says : Says game message (Message.Vote v)) where
     -- the vote came to the socket, and opens there
-    brought : WasBrought was.ring carried message
+    brought : WasBrought one carried message
     brought = elim (was.faithful.given message has) [
-      | inl came ↦ let at = has_index (opening was.ring carried) (Came message) came in given_was_brought was.ring carried at.0 message at.1
+      | inl came ↦ let at = has_index (opening one carried) (Came message) (came_open one carried message came) in given_was_brought one carried at.0 message at.1
       | inr ask ↦ absurd (no_ask game was.game message v says ask)
     ]
 
-    was_sent : NoneForges game sent message was.ring carried → IsSent
+    was_sent : NoneForges game sent message one carried → IsSent
     was_sent none =
         let bytes = brought.0 in
         let form = brought.2 in
         let by = form.1 in
         let came = index_has carried (Came bytes) brought.3.0 brought.3.1 in
-        let found = none v says bytes by.0 came (index_has (seals_by was.ring message) by.0 form.0 by.1) by.2 message brought.1 by.2 in
+        let found = none v says bytes by.0 came (index_has (seals_by one message) by.0 form.0 by.1) by.2 message brought.1 by.2 in
         let m = found.1.0 in
         (found.0, (m, found.1.1, sym (front by.0 message bytes brought.1 by.2) ∙ front by.0 (written game m) bytes (long game m) found.1.2))
 
   -- what a life took at its socket is authentic, if nobody made it up
-  pub authentic : (ring : Ring) → slice_get (seals_by ring message) 0 ≡ Some [] → {passed carried : List Passed} (was : WasCarried passed carried)
-      → Has passed (Came message) → NoneForges game sent message was.ring carried → IsAuthentic ring game sent message
+  pub authentic : (ring : Ring) → slice_get (seals_by ring message) 0 ≡ Some [] → {one : Ring} {passed carried : List Passed} (was : WasCarried one passed carried)
+      → Has passed (Came message) → NoneForges game sent message one carried → IsAuthentic ring game sent message
   authentic ring first was has none v says =
       let is = was_sent was has v says none in
       let size : length message ≡ 48 = ap length says.1 ∙ long game (Message.Vote v) in (

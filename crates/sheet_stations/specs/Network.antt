@@ -33,11 +33,11 @@ module _ (game : ℕ) (sent : List Message) (message : List ℕ) where
   -- at the sockets of a desk's lives, and at those of a board's
   abbrev pub NoneForgesAtDesk : {desk : DeskId} → LivesOfDesk desk → Type 0
   NoneForgesAtDesk lives =
-      (l : LifeOfDesk _) → IsLifeOf lives l → NoneForges l.process.kept.carried.ring l.process.traces.carried
+      (l : LifeOfDesk _) → IsLifeOf lives l → NoneForges l.process.traces.ring l.process.traces.carried
 
   abbrev pub NoneForgesAtBoard : List LifeOfBoard → Type 0
   NoneForgesAtBoard lives =
-      (b : LifeOfBoard) → Has lives b → NoneForges b.kept.carried.ring (traces_in b.life).carried
+      (b : LifeOfBoard) → Has lives b → NoneForges (traces_in b.life).ring (traces_in b.life).carried
 
 -- so it is with the message that a call is given, if any
 module _ (game : ℕ) (sent : List Message) where

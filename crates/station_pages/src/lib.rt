@@ -8,6 +8,7 @@ mod page_lines;
 mod page_words;
 mod scorers_page;
 mod sight;
+mod teller;
 mod tellings;
 mod told;
 
@@ -17,3 +18,4 @@ pub use page_lines::PageLines;
 pub use page_words::{PageWord, PageWords, Squares};
 pub use scorers_page::ScorersPage;
 pub use sight::PageSight;
+pub use teller::PageTeller;

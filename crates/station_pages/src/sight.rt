@@ -15,7 +15,7 @@ use corrections::BookOf;
 use desk_state::{book_text, open_text, state_text};
 use links::{HeldLine, HeldLines};
 use notation::Entry;
-use screen::{ShowsDesk, Tells, Told};
+use screen::ShowsDesk;
 use std::alloc::{AllocError, Global};
 use std::cell::{Cell, RefCell};
 use std::snapshot::Snapshot;
@@ -228,16 +228,6 @@ impl<B: BookOf> ShowsDesk<B> for PageSight<'_> {
                 Err(_) => u64::MAX,
             },
             None => u64::MAX,
-        }
-    }
-}
-
-impl Tells for PageSight<'_> {
-    fn tell(&self, told: Told) {
-        if let Some(page) = self.page
-            && let Ok(mut page) = page.try_borrow_mut()
-        {
-            page.tell(told);
         }
     }
 }

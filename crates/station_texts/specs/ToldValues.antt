@@ -1,6 +1,7 @@
 -- What a desk tells its scorer as values, one for the rows that it prints at once: chosen by what came or what was typed, alike
 -- for every sheet and book.
-use Rattle.std.specs.Prelude.{ℕ, Bool, true, false, Option, Some, None, vec_len}
+use Rattle.std.specs.Prelude.{ℕ, Bool, true, false, List, [], ◌∷◌, Option, Some, None, vec_len}
+use Rattle.arrayvec.specs.ArrayString.{ArrayString}
 use Rattle.notation.specs.declared.entry.Entry.{Entry}
 use Rattle.agree_core.specs.declared.{position.Position.Position, seat.Settled.Settled, seat.Heard.Heard}
 use Rattle.wire.specs.declared.what.What.{What}
@@ -55,18 +56,23 @@ reminder_told place Reminder.HasWritten = Told.HasWritten place
 reminder_told place Reminder.IsMissed = Told.IsMissed
 reminder_told place Reminder.IsHeard = Told.IsHeard
 
+-- held lines are dropped, if there are any
+abbrev pub dropped_told : List ArrayString → Option Told
+dropped_told [] = None
+dropped_told (l ∷ ls) = Some Told.Dropped
+
 -- lines that the desk isn't given
-abbrev pub aside_told : Aside → Told
-aside_told (Aside.Held place line) = Told.Held place
-aside_told (Aside.Holds place lines) = Told.Holds
-aside_told (Aside.TakenBack place line) = Told.TakenBack place
-aside_told (Aside.NotTaken place line behind) = Told.NotTaken place
-aside_told (Aside.Dropped lines) = Told.Dropped
-aside_told (Aside.Full line) = Told.Full
-aside_told Aside.NoText = Told.NoText
-aside_told (Aside.WasHeld place line) = Told.WasHeld place
-aside_told (Aside.Untaken place line) = Told.Untaken place
-aside_told (Aside.IsCast place) = Told.IsCast place
+abbrev pub aside_told : Aside → Option Told
+aside_told (Aside.Held place line) = Some (Told.Held place)
+aside_told (Aside.Holds place lines) = Some Told.Holds
+aside_told (Aside.TakenBack place line) = Some (Told.TakenBack place)
+aside_told (Aside.NotTaken place line behind) = Some (Told.NotTaken place)
+aside_told (Aside.Dropped lines) = dropped_told lines.items
+aside_told (Aside.Full line) = Some Told.Full
+aside_told Aside.NoText = Some Told.NoText
+aside_told (Aside.WasHeld place line) = Some (Told.WasHeld place)
+aside_told (Aside.Untaken place line) = Some (Told.Untaken place)
+aside_told (Aside.IsCast place) = Some (Told.IsCast place)
 
 abbrev pub planned_told : Planned → Told
 planned_told (Planned.Plan (Plan.Lines lines)) = Told.Plan (vec_len lines)

@@ -1,10 +1,11 @@
 //! What a desk tells its scorer, as values: one for the rows that it prints at once.
 
-ghost use Rattle.std.specs.Prelude.{◌≡◌, ℕ, List, [], IfSome, None, Option};
+ghost use Rattle.std.specs.Prelude.{◌≡◌, ◌++◌, ℕ, List, [], IfSome, None, Option, option_to_list};
 ghost use Rattle.notation.specs.declared.entry.Entry.{Entry as AnEntry};
 ghost use Rattle.notation.specs.Written.{IsEntry};
 ghost use Rattle.cards.specs.Sheet.{Sheet};
 ghost use Rattle.screen.specs.Telling.{IsTold};
+ghost use Rattle.station_texts.specs.Asides as asides;
 ghost use Rattle.station_texts.specs.Texts as texts;
 ghost use Rattle.station_texts.specs.ToldValues as values;
 ghost use Rattle.station_texts.specs.inner.Telling.{IsFine};
@@ -17,18 +18,19 @@ use crate::texts::why_full;
 use crate::warned::Warned;
 use agree_core::{Heard, Position, Settled};
 use desk::Refusal;
-use links::Aside;
+use links::{Aside, HeldLine};
 use notation::Entry;
 use plans::{Plan, Planned};
 use screen::{Tells, Told, Word};
 use wire::What;
 
-/// Tells the page what the rows that come next tell, if there are any.
-pub fn tell_if<P: Tells>(page: &P, told: Option<Told>)
+/// Tells what the rows that come next tell, if there are any.
+pub fn tell_if<T: Tells>(teller: &mut T, told: Option<Told>)
     requires { IfSome told IsTold }
+    ensures { T.tellings teller.new ≡ T.tellings teller.old ++ option_to_list told }
 {
     if let Some(told) = told {
-        page.tell(told);
+        teller.tell(told);
     }
 }
 
@@ -113,22 +115,34 @@ pub fn reminder_told(place: u32, reminder: Reminder) -> Told
     }
 }
 
-/// Returns what is told of lines that the desk isn't given.
-pub fn aside_told(aside: &Aside) -> Told
+/// Returns what is told of dropped lines, if there are any.
+fn dropped_told(lines: &[HeldLine]) -> Option<Told>
+    ensures { result ≡ values.dropped_told lines.now }
+{
+    if lines.is_empty() {
+        None
+    } else {
+        Some(Told::Dropped)
+    }
+}
+
+/// Returns what is told of lines that the desk isn't given. Where it is nothing, no row is printed.
+pub fn aside_told(aside: &Aside) -> Option<Told>
     ensures told { result ≡ values.aside_told aside.now }
-    ensures fine { IsTold result }
+    ensures fine { IfSome result IsTold }
+    ensures silent { (columns : ℕ) → result ≡ None → asides.aside_text columns aside.now ≡ [] }
 {
     match aside {
-        Aside::Held(place, _) => Told::Held(*place),
-        Aside::Holds(_, _) => Told::Holds,
-        Aside::TakenBack(place, _) => Told::TakenBack(*place),
-        Aside::NotTaken(place, _, _) => Told::NotTaken(*place),
-        Aside::Dropped(_) => Told::Dropped,
-        Aside::Full(_) => Told::Full,
-        Aside::NoText => Told::NoText,
-        Aside::WasHeld(place, _) => Told::WasHeld(*place),
-        Aside::Untaken(place, _) => Told::Untaken(*place),
-        Aside::IsCast(place) => Told::IsCast(*place),
+        Aside::Held(place, _) => Some(Told::Held(*place)),
+        Aside::Holds(_, _) => Some(Told::Holds),
+        Aside::TakenBack(place, _) => Some(Told::TakenBack(*place)),
+        Aside::NotTaken(place, _, _) => Some(Told::NotTaken(*place)),
+        Aside::Dropped(lines) => dropped_told(lines.as_slice()),
+        Aside::Full(_) => Some(Told::Full),
+        Aside::NoText => Some(Told::NoText),
+        Aside::WasHeld(place, _) => Some(Told::WasHeld(*place)),
+        Aside::Untaken(place, _) => Some(Told::Untaken(*place)),
+        Aside::IsCast(place) => Some(Told::IsCast(*place)),
     }
 }
 

@@ -238,7 +238,7 @@ fn hears(alloc: Global, seed: u64, lost: Option<u64>, most: u64) -> bool {
         log: Log::Empty,
     };
     let log = ClockLog::Empty;
-    let mut window = Window::new(alloc, line, Hand { now: &now, log }, 7);
+    let mut window = Window::new(alloc, line, Hand { now: &now, log }, 7, Log::Empty);
     let mut board = Board {
         place: 0,
         has_a: false,

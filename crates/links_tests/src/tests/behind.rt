@@ -115,7 +115,8 @@ fn windowed<'a>(rt: &impl Abort, alloc: Global, world: &'a World) -> Windowed<'a
         now: &world.now,
         log: ClockLog::Empty,
     };
-    Window::new(alloc, Sealed::new(post, ring, receipts), hand, 7)
+    let log = ring.opened_log();
+    Window::new(alloc, Sealed::new(post, ring, receipts), hand, 7, log)
 }
 
 /// Returns the match's seal.

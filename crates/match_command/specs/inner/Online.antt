@@ -5,7 +5,7 @@ use Rattle.agree_core.specs.declared.messages.Message.{Message}
 use Rattle.agree_core.specs.declared.messages.Message.TheVariants.{Vote, Ask}
 use Rattle.agree_core.specs.Boards.{BoardState}
 use Rattle.wire.specs.Layout.{Says}
-use Rattle.links.specs.Passed.{Passed, Sent, Came}
+use Rattle.links.specs.Passed.{Passed, Sent}
 use Rattle.match_command.specs.MatchRun.{GivesOnlySent}
 
 -- a vote is for one of these entries, in the first round of its place
@@ -16,7 +16,7 @@ SpeaksOf entries (Ask q) = Unit {0}
 -- a sent datagram is such a message of the match
 abbrev pub IsSaid : ℕ → List Entry → Passed → Type 0
 IsSaid game entries (Sent to bytes) = (m : Message) × Says game bytes m × SpeaksOf entries m
-IsSaid game entries (Came bytes) = Unit {0}
+IsSaid game entries passed = Unit {0}
 
 -- a board's book is the first of these entries, and each vote that it has noted is for the next one
 pub record Follows (entries : List Entry) (k : BoardState) : Type 0 where

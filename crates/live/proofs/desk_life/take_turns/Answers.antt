@@ -18,17 +18,17 @@ loop-number-preserved g c =
     (goes, then_shown c.loop-number.invariant.1 goes c.show.ensures)
 
 pub returns-in_err-greet-clause-runs : goal.returns-in_err-greet-clause-runs
-returns-in_err-greet-clause-runs g c = not_greeted c.from_residual.result c.in_err-greet.field-0.0 c.from_residual.ensures.1 c.in_err-greet.ensures.only
+returns-in_err-greet-clause-runs g c = not_greeted c.from_residual.result c.in_err-greet.field-0.0 c.from_residual.ensures.1 c.in_err-greet.ensures.only c.in_err-greet.ensures.told
 
 pub returns-in_err-turn-clause-runs : goal.returns-in_err-turn-clause-runs
 returns-in_err-turn-clause-runs g c =
     let residual = c.from_residual-in_err-turn in
-    cut_short (logs_of g.L.Link.log g.K.Keys.inputs g.C.Clock.readings g.W.Sink.contents c.args.outside.now) c.in_ok-greet.ensures.text (then (reads_clock {ticking = unticked} c.millis-now.result tt c.millis-now.ensures refl) c.loop-number.invariant.0) (logs_of g.L.Link.log g.K.Keys.inputs g.C.Clock.readings g.W.Sink.contents c.turn.new.outside) residual.result c.in_err-turn.field-0.0 residual.ensures.1
+    cut_short (logs_of g.L.Link.log g.K.Keys.inputs g.C.Clock.readings g.W.Sink.contents g.T.Tells.tellings c.args.outside.now) c.in_ok-greet.ensures.text c.in_ok-greet.ensures.told (then (reads_clock {ticking = unticked} c.millis-now.result tt c.millis-now.ensures refl) c.loop-number.invariant.0) (logs_of g.L.Link.log g.K.Keys.inputs g.C.Clock.readings g.W.Sink.contents g.T.Tells.tellings c.turn.new.outside) residual.result c.in_err-turn.field-0.0 residual.ensures.1
     (c.in_err-turn.ensures.goes c.loop-number.number)
 
 pub returns-clause-runs : goal.returns-clause-runs
 returns-clause-runs g c =
-    all_over (logs_of g.L.Link.log g.K.Keys.inputs g.C.Clock.readings g.W.Sink.contents c.args.outside.now) c.in_ok-greet.ensures.text (then (reads_clock {ticking = unticked} c.millis-now.result tt c.millis-now.ensures refl) c.loop-number.invariant.0) c.args.turns
+    all_over (logs_of g.L.Link.log g.K.Keys.inputs g.C.Clock.readings g.W.Sink.contents g.T.Tells.tellings c.args.outside.now) c.in_ok-greet.ensures.text c.in_ok-greet.ensures.told (then (reads_clock {ticking = unticked} c.millis-now.result tt c.millis-now.ensures refl) c.loop-number.invariant.0) c.args.turns
     (omega (arith, c.loop-number.auto.number-end, c.loop-number-test.false))
 
 pub returns-in_err-turn-clause-shown : goal.returns-in_err-turn-clause-shown

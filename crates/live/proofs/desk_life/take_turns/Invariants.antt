@@ -12,5 +12,5 @@ abbrev pub invariant-loop-number : goal.invariant-loop-number
 invariant-loop-number g l =
     DeskGoes l.sheet l.initial.desk l.desk
     (process_of l.initial.desk unwarned 0 unticked further) (process_of l.desk l.between.warned l.number (ticking_of l.between.pace) further)
-    (logs_of g.L.Link.log g.K.Keys.inputs g.C.Clock.readings g.W.Sink.contents l.initial.outside) (logs_of g.L.Link.log g.K.Keys.inputs g.C.Clock.readings g.W.Sink.contents l.outside)
+    (logs_of g.L.Link.log g.K.Keys.inputs g.C.Clock.readings g.W.Sink.contents g.T.Tells.tellings l.initial.outside) (logs_of g.L.Link.log g.K.Keys.inputs g.C.Clock.readings g.W.Sink.contents g.T.Tells.tellings l.outside)
     × IsShown (kind_of l.sheet l.initial.desk) l.sheet (innings_of l.initial.desk) g.P.ShowsDesk.goes_on (state_of l.initial.desk) l.initial.page l.page

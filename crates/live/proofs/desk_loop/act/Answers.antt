@@ -6,7 +6,7 @@ use Rattle.live.proofs.desk_loop.act.Goals as goal
 
 pub returns-in_err-take_line-clause-goes : goal.returns-in_err-take_line-clause-goes
 returns-in_err-take_line-clause-goes g c = λ turns.
-    passed_on (logs_of g.L.Link.log g.K.Keys.inputs g.C.Clock.readings g.W.Sink.contents c.args.outside.now) (logs_of g.L.Link.log g.K.Keys.inputs g.C.Clock.readings g.W.Sink.contents c.take_line.new.outside) c.from_residual.result c.in_err-take_line.field-0.0 c.from_residual.ensures.1
+    passed_on (logs_of g.L.Link.log g.K.Keys.inputs g.C.Clock.readings g.W.Sink.contents g.T.Tells.tellings c.args.outside.now) (logs_of g.L.Link.log g.K.Keys.inputs g.C.Clock.readings g.W.Sink.contents g.T.Tells.tellings c.take_line.new.outside) c.from_residual.result c.in_err-take_line.field-0.0 c.from_residual.ensures.1
     (c.in_err-take_line.ensures.goes turns)
 
 pub returns-clause-goes : goal.returns-clause-goes

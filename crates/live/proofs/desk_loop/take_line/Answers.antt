@@ -1,6 +1,9 @@
-use Rattle.std.proofs.Common.{◌∙◌, ap, rules, sym}
+use Rattle.std.proofs.Common.{◌∙◌, ◌++◌, Option, ap, rules, sym}
+use Rattle.std.specs.Prelude.{option_to_list}
 use Rattle.live.specs.Paces.{ticking_of}
+use Rattle.screen.specs.declared.told.Told.{Told}
 use Rattle.station_texts.specs.Texts.{said_text}
+use Rattle.station_texts.specs.ToldValues.{said_told}
 use Rattle.live.proofs.DeskLemmas.{rests, says, says_last, tells_aside, typing_over}
 use Rattle.live.proofs.TellingLemmas.{goes_further, tells_same}
 use Rattle.live.proofs.desk_loop.take_line.Goals as goal
@@ -17,7 +20,7 @@ pub returns-in-Aside-clause-goes : goal.returns-in-Aside-clause-goes
 returns-in-Aside-clause-goes g c = λ turns.
     let pace = c.args.between.now.pace in
     let told = c.tell_aside.ensures in
-    tells_aside {ticking = ticking_of pace} c.in-Aside.aside pace.in_time c.in-Aside.ensures told.course told.text
+    tells_aside {ticking = ticking_of pace} c.in-Aside.aside pace.in_time c.in-Aside.ensures told.course told.text told.told
 
 pub returns-in-Err-clause-goes : goal.returns-in-Err-clause-goes
 returns-in-Err-clause-goes g c = λ turns.
@@ -39,6 +42,8 @@ returns-clause-goes g c =
     (λ i. said_text c.args.sheet.now (innings i) (c.position-at.ensures i) (c.own_line.ensures.value i) (c.noted.ensures.noted i) c.args.between.now.warned
     (g.B.BookOf.content (c.book.ensures i)) said)
     c.print_said.ensures.text)
+    (c.tell_if.ensures ∙ ap (λ (told : Option Told). g.T.Tells.tellings c.args.outside.now.teller ++ option_to_list told)
+    (c.said_told.ensures.told ∙ (λ i. said_told (c.position-at.ensures i) (c.noted.ensures.noted i) said)))
 
 pub print_said-requires-clause-fine : goal.print_said-requires-clause-fine
 print_said-requires-clause-fine g c = let calls = c.pen-said.ensures.calls in search rules

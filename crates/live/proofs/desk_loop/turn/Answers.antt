@@ -14,7 +14,7 @@ returns-in_err-act-clause-goes g c =
     λ turns. turn_passed_on c.from_residual.result c.in_err-act.field-0.0 turns
     (λ (after : ℕ) (course : Course) (known : Logs → Logs).
     DeskGoes old.sheet.now old.desk.now new.desk (process_of old.desk.now old.between.now.warned turns (ticking_of old.between.now.pace) further)
-    (process_of new.desk new.between.warned after (ticking_of new.between.pace) course) (known (logs_of g.L.Link.log g.K.Keys.inputs g.C.Clock.readings g.W.Sink.contents old.outside.now)) (known (logs_of g.L.Link.log g.K.Keys.inputs g.C.Clock.readings g.W.Sink.contents new.outside)))
+    (process_of new.desk new.between.warned after (ticking_of new.between.pace) course) (known (logs_of g.L.Link.log g.K.Keys.inputs g.C.Clock.readings g.W.Sink.contents g.T.Tells.tellings old.outside.now)) (known (logs_of g.L.Link.log g.K.Keys.inputs g.C.Clock.readings g.W.Sink.contents g.T.Tells.tellings new.outside)))
     c.from_residual.ensures.1 (c.in_err-act.ensures.goes turns)
 
 pub returns-in_err-told-clause-goes : goal.returns-in_err-told-clause-goes

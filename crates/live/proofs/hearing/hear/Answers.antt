@@ -1,11 +1,14 @@
-use Rattle.std.proofs.Common.{◌∙◌, ap, sym}
+use Rattle.std.proofs.Common.{◌∙◌, ◌++◌, Option, ap, sym}
+use Rattle.std.specs.Prelude.{option_to_list}
 use Rattle.desk.specs.Desk.{state_of}
 use Rattle.live.specs.Desks.{innings_of, own_line, shown_by}
 use Rattle.live.specs.LostLines.{evidence_of}
 use Rattle.live.specs.Paces.{Paced, ticking_of}
 use Rattle.live.specs.declared.lost_lines.Bearing.{Bearing}
+use Rattle.screen.specs.declared.told.Told.{Told}
 use Rattle.station_texts.specs.Texts.{came_text, warned_after}
-use Rattle.live.proofs.CameLemmas.{came_so}
+use Rattle.station_texts.specs.ToldValues.{came_told}
+use Rattle.live.proofs.CameLemmas.{came_so, told_so}
 use Rattle.live.proofs.DeskLemmas.{hears, hears_last, taken}
 use Rattle.live.proofs.LostLemmas.{replies_so, shown_so}
 use Rattle.live.proofs.TellingLemmas.{goes_further, tells_same}
@@ -57,3 +60,8 @@ returns-clause-goes g c = λ bytes logs turns reads came.
     (state_of desk).seat.position.place (own_line (state_of desk)) (state_of c.take-received.new.self).book c.args.between.now.warned
     (shown_by (state_of desk) bytes what))
     c.print_came.ensures.text)
+    (c.tell_if.ensures ∙ ap (λ (told : Option Told). g.T.Tells.tellings c.args.teller.now ++ option_to_list told)
+    (c.came_told.ensures.told
+    ∙ ((λ i. came_told (c.position-at.ensures i).place (c.own_line.ensures.value i) c.entry_in.result c.args.between.now.warned (shown i) what)
+    ∙ told_so _ _ _ _ bytes c.args.read.now what calls.out c.entry_in.result calls.step reads c.entry_in.ensures.vote
+    (state_of desk).seat.position.place (own_line (state_of desk)) c.args.between.now.warned (shown_by (state_of desk) bytes what))))

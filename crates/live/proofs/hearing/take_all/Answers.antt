@@ -23,5 +23,5 @@ returns-then-not-branch-clause-goes g c = λ turns. then (c.loop-taken.invariant
 pub returns-in_err-take_next-clause-goes : goal.returns-in_err-take_next-clause-goes
 returns-in_err-take_next-clause-goes g c =
     let met : Result Bool DeskEnd = Err c.in_err-take_next.field-0.0 in
-    λ turns. passed_on (logs_of g.L.Link.log g.K.Keys.inputs g.C.Clock.readings g.W.Sink.contents c.args.outside.now) (logs_of g.L.Link.log g.K.Keys.inputs g.C.Clock.readings g.W.Sink.contents c.take_next.new.outside) c.from_residual.result c.in_err-take_next.field-0.0 c.from_residual.ensures.1
+    λ turns. passed_on (logs_of g.L.Link.log g.K.Keys.inputs g.C.Clock.readings g.W.Sink.contents g.T.Tells.tellings c.args.outside.now) (logs_of g.L.Link.log g.K.Keys.inputs g.C.Clock.readings g.W.Sink.contents g.T.Tells.tellings c.take_next.new.outside) c.from_residual.result c.in_err-take_next.field-0.0 c.from_residual.ensures.1
     (then (muted met (c.loop-taken.invariant.0 turns)) (c.in_err-take_next.ensures.goes turns))

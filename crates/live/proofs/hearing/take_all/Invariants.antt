@@ -11,5 +11,5 @@ invariant-loop-taken g l =
     ((turns : ℕ) → DeskGoes l.sheet l.initial.desk l.desk
     (process_of l.initial.desk l.initial.between.warned turns (ticking_of l.initial.between.pace) further)
     (process_of l.desk l.between.warned turns (ticking_of l.between.pace) further)
-    (logs_of g.L.Link.log g.K.Keys.inputs g.C.Clock.readings g.W.Sink.contents l.initial.outside) (logs_of g.L.Link.log g.K.Keys.inputs g.C.Clock.readings g.W.Sink.contents l.outside))
+    (logs_of g.L.Link.log g.K.Keys.inputs g.C.Clock.readings g.W.Sink.contents g.T.Tells.tellings l.initial.outside) (logs_of g.L.Link.log g.K.Keys.inputs g.C.Clock.readings g.W.Sink.contents g.T.Tells.tellings l.outside))
     × (0 < l.taken → IsSome (ticking_of l.between.pace).looked)

@@ -8,4 +8,4 @@ pub returns-then-is_late-clause-goes : goal.returns-then-is_late-clause-goes
 returns-then-is_late-clause-goes g c = λ sheet logs turns.
     let told = c.tell.ensures in
     let waited = c.if-is_waited_for.ensures in
-    reminds {ticking = ticking_of c.args.between.now.pace} HasWritten c.args.between.now.pace.in_time (ap ticking_of told.pace) (waited.own refl, waited.other refl, c.if-between.false) told.warned told.course (rw c.position-place.ensures at told.text)
+    reminds {ticking = ticking_of c.args.between.now.pace} HasWritten c.args.between.now.pace.in_time (ap ticking_of told.pace) (waited.own refl, waited.other refl, c.if-between.false) told.warned told.course (rw c.position-place.ensures at told.text) (rw c.position-place.ensures at told.told)
