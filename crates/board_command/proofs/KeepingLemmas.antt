@@ -21,7 +21,7 @@ pub lives_so : {sheet same : Sheet} {begun last : MatchBoard} {p q m n : List Pa
     → BoardLives entries_in innings_in same begun last (untyped q before t) (untyped n after v) turns b d f h ended
 lives_so i j k l m n o p q lives = rw (i, j, k, l, m, n, o, p, q) lives
 
--- what a board that lives on said and heard begins with the opening of its link, which isn't opened again
+-- the log of a board's link begins with the link's opening, and has no other
 pub opened_first : {sheet : Sheet} {begun last : MatchBoard} {ring : Ring} {passed : List Passed} {before after : List ℕ} {s t : Option (List ℕ)} {turns : ℕ}
     {a b : List Notice} {c d : List Sight} {ended : Result (Unit {0}) WriteFailed}
     → BoardLives entries_in innings_in sheet begun last (untyped (opened ring ∷ []) before s) (untyped passed after t) turns a b c d ended

@@ -33,8 +33,8 @@ use Rattle.station_texts.specs.declared.{notice_log.NoticeLog.NoticeLog, notices
 use Rattle.station_texts.specs.NoticeLogs.{notices_of}
 use Rattle.streams.specs.declared.watched.WriteFailed.{WriteFailed}
 
--- the sheet of its match, the seals of its link, what its link said and heard, what its socket carried for that, what was written to its screen, the
--- notices that it told, the books that it handed to its displays, what it told them that it heard, and how it ended
+-- the sheet of its match, the seals of its link, what it said and heard, what its socket carried, the text of its screen, the
+-- notices that it told, the books that it showed, what its displays were told that it heard, and how it ended
 pub record Traces : Type 0 where
   pub sheet : Sheet
   pub ring : Ring
@@ -82,8 +82,9 @@ pub record IsFresh (sheet : Sheet) (board : MatchBoard) : Type 0 where
 abbrev pub WasSealed : Option (List ℕ) → Sheet → Sealing → Type 0
 WasSealed key sheet sealing = IsRingOf key (sealing.text).value.items Asker.Board (sheet_digest sheet) sealing.ring
 
--- A board was kept, from when its link was opened with its ring, before anything had passed or was told, until exactly this had
--- passed at its socket, sealed with that ring, been written to its screen, been told and been shown, and it ended so. Its displays were told exactly what it heard of what passed.
+-- A board was kept: its link was opened with its ring before anything passed or was told. Exactly this then passed at its socket,
+-- sealed with that ring, was written to its screen, was told and was shown, and it ended as said. Its displays were told exactly
+-- what it heard.
 pub record WasKept (traces : Traces) : Type 0 where
   pub begun : MatchBoard
   pub last : MatchBoard

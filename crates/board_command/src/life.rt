@@ -26,9 +26,9 @@ use std::snapshot::Snapshot;
 use streams::{Sink, WriteFailed};
 
 /// The life of a board: the path of its sheet, that of its key file if one is named, and how it ended. Only clauses read the
-/// rest: the bytes of its sheet and the sheet read from them, its seals and the bytes of the key file that they are made from,
-/// what its link said and heard, what its socket carried for that, what was written to its screen, the
-/// notices that it told, the books that it handed to its displays, and what it told them that it heard.
+/// rest: the bytes of its sheet and the sheet read from them, its seals and the bytes of its key file, what it said and heard,
+/// what its socket carried, the text of its screen, the notices that it told, the books that it showed, and what its displays
+/// were told that it heard.
 #[derive(Drop)]
 pub struct BoardLife<'a> {
     sheet_path: &'a str,

@@ -33,11 +33,11 @@ columns =
 abbrev pub day_cells : Sheet → List ℕ → Side → ℕ → List (List ℕ)
 day_cells s day side i = cell day ∷ decimal (i + 1) ∷ cell (name_of s side) ∷ cell (name_of s (opponent side)) ∷ []
 
--- the match, and those
+-- the match, then those cells
 abbrev pub innings_cells : Sheet → List ℕ → Side → ℕ → List (List ℕ)
 innings_cells s day side i = decimal s.game ∷ day_cells s day side i
 
--- their text, which begins each row of the innings
+-- the text of these cells, with which each row of the innings begins
 unfoldable pub head_text : Sheet → List ℕ → Side → ℕ → List ℕ
 head_text s day side i = row_body default_writer (innings_cells s day side i)
 

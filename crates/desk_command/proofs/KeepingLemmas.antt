@@ -42,7 +42,7 @@ pub lives_so : {sheet same : Sheet} {desk : DeskId} {disk : DeskDisk} {ring one 
     → LivesOn sheet desk disk ring passed given told tellings ended → LivesOn same desk disk one log given text values ended
 lives_so is sealed logged written heard lives = rw (is, sealed, logged, written, heard) lives
 
--- what a process that lives on said and heard begins with the opening of its link, which isn't opened again
+-- the log of a desk's link begins with the link's opening, and has no other
 pub opened_first : {sheet : Sheet} {desk : DeskId} {disk : DeskDisk} {ring : Ring} {passed : List Passed} {given : List Input} {told : Option (List ℕ)}
     {tellings : List Told} {ended : Result (Unit {0}) LifeEnd} → LivesOn sheet desk disk ring passed given told tellings ended
     → (more : List Passed) × (passed ≡ opened ring ∷ more) × NoneOpened more

@@ -23,9 +23,8 @@ use Rattle.desk_command.specs.Ends.{last_told}
 use Rattle.desk_command.specs.OnFiles.{IsOnFiles}
 use Rattle.desk_command.specs.Traces.{Traces}
 
--- The process of this desk on a disk, which begins with an empty book of the sheet's match: it began as its link was opened with
--- this ring, before anything had passed, was typed or was told; exactly this has passed, been given and been told since, and it
--- ended so.
+-- The process of this desk on a disk, with an empty book of the sheet's match. It began when its link was opened with this ring,
+-- before anything passed, was typed or was told. Exactly this has passed, been given and been told since, and it ended as said.
 pub record LivesOn
     (sheet : Sheet) (desk : DeskId) (disk : DeskDisk) (ring : Ring) (passed : List Passed) (given : List Input) (told : Option (List ℕ))
     (tellings : List Told) (ended : Result (Unit {0}) LifeEnd) : Type 0 where
@@ -38,10 +37,10 @@ pub record LivesOn
       (record { passed = opened ring ∷ []; typed = []; readings = before; told = Some []; tellings = [] })
       (record { passed = passed; typed = given; readings = after; told = told; tellings = tellings }) turns ended
 
--- This desk was kept on the file of this path, and on a copy if its path is named, and left these traces. log says what became
--- of all that was typed: it gave the desk its lines, and those that may be cast are in order. What it said and heard is what
--- passed at its socket, sealed with its ring, and it ended as traces.ended says. What it told was told its page as values, too, and was written to its
--- screen, and after that only which lines it drops, if it ended by itself; unless one of these writes failed.
+-- This desk was kept on the file of this path, and on a copy if its path is named, and left these traces. `log` says what became
+-- of all that was typed: the desk was given its lines, and those that may be cast are in order. What the desk said and heard
+-- passed at its socket, sealed with its ring. Its page was told the values of the rows that it told its scorer. Unless a write
+-- failed, these rows stand on its screen, followed by the lines that were dropped if it ended by itself, and by nothing else.
 pub record WasKept (desk : DeskId) (path : List ℕ) (copy : Option (List ℕ)) (traces : Traces) : Type 0 where
   pub disk : DeskDisk
   pub log : AheadLog

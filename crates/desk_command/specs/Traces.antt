@@ -36,14 +36,14 @@ abbrev pub WasSealed : DeskId → Option (List ℕ) → Sheet → Sealing → Ty
 WasSealed desk key sheet sealing =
     IsRingOf key (sealing.text).value.items (asker desk) (sheet_digest sheet) sealing.ring
 
--- what was typed is all that its scorer entered, except the words of its page; what was entered elsewhere than at the keyboard
--- is exactly what was posted in the page
+-- All that the scorer entered was typed, except the words of the page. What was entered elsewhere than at the keyboard is
+-- exactly what was posted in the page.
 pub record WasEntered (typed entered : InputLog) (posted : PostedLog) : Type 0 where
   pub words : inputs_of typed ≡ for_desk (inputs_of entered)
   pub page : elsewhere_of entered ≡ lines_of posted
 
--- the sheet of its match, the seals of its link, what was typed, what its link said and heard, what its socket carried for that, what it told its page
--- as values, what it told until it ended, all that was written to its screen, how it ended, and whether its last rows could be
+-- the sheet of its match, the seals of its link, what was typed, what it said and heard, what its socket carried, the values told
+-- to its page, the rows told until it ended, the whole text of its screen, how it ended, and whether its last rows could be
 -- written
 pub record Traces : Type 0 where
   pub sheet : Sheet

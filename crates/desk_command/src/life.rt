@@ -31,11 +31,11 @@ use std::io::{Read, Write};
 use std::snapshot::Snapshot;
 use streams::{Sink, Watched, WriteFailed};
 
-/// The life of a desk: its letter, the paths of its sheet, its key file and its copy if it has them, and its votes file, how it
-/// ended, and whether its last rows could be written. Only clauses read the rest: the bytes of its sheet and the sheet read from
-/// them, its seals and the bytes of the key file that they are made from, what was typed except the words of its page, all that its scorer entered, those words included, the lines of it that were posted in
-/// the page, what its link said and heard, what its socket carried for that, what it told its page as values, what it told until
-/// it ended, and all that was written to its screen.
+/// The life of a desk: its letter, the paths of its sheet, its key file, its votes file and its copy (key and copy if it has
+/// them), how it ended, and whether its last rows could be written. Only clauses read the rest: the bytes of its sheet and the
+/// sheet read from them, its seals and the bytes of its key file, what was typed (with and without the words of its page), the
+/// lines that were posted in the page, what it said and heard, what its socket carried, the values told to its page, the rows
+/// told until it ended, and the whole text of its screen.
 #[derive(Drop)]
 pub struct Life<'a> {
     desk: DeskId,

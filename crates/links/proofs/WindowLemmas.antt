@@ -35,7 +35,7 @@ came_isn't_sent m to n e = cc
 sent_isn't_came : (to : Receivers) (m n : List ℕ) → Sent to m ≡ Came n → ⊥
 sent_isn't_came to m n e = cc
 
--- an opening was among these, or is none of those added
+-- nothing that was added is an opening
 opened_before : (log : List Passed) (q : Passed) (station : Asker) (seals : List (List ℕ)) (is_of_pairs : Bool) → (q ≡ Opened station seals is_of_pairs → ⊥)
     → Has (log ++ q ∷ []) (Opened station seals is_of_pairs) → Has log (Opened station seals is_of_pairs)
 opened_before log q station seals is_of_pairs none h = ⊎_elim (λ k. k) (λ e. absurd (none e)) (has_split log q (Opened station seals is_of_pairs) h)
@@ -86,10 +86,6 @@ came_below game above below m f = record {
 
 pub some_of : (P : List ℕ → Type 0) (o : Option (List ℕ)) (m : List ℕ) → IfSome o P → o ≡ Some m → P m
 some_of P o m h e = subst (λ (x : Option (List ℕ)). IfSome x P) e h
-
--- a window that begins knows just what its link does
-pub begins_faithful : (game : ℕ) (log : List Passed) → IsFaithful game log log
-begins_faithful game log = record { given = λ m h. inl h; handed = λ to m h. inl h; opened = λ station seals is_of_pairs h. h }
 
 -- the same for a whole window, whose kept votes stay
 pub above_sent : (game : ℕ) (above below : List Passed) (early : List (List ℕ)) (ask : Option (List ℕ)) (to : Receivers) (m : List ℕ)

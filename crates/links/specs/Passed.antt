@@ -5,8 +5,8 @@ use Rattle.wire.specs.Layout.{written}
 use Rattle.wire.specs.Reading.{Reads}
 use Rattle.links.specs.declared.link.{Arrival.Arrival, Receivers.Receivers, Taken.Taken}
 
--- the link was opened for a station, with these seals, which are or aren't of keys for each pair of stations; a datagram that
--- the link was handed for these receivers; or one that it gave
+-- the link was opened for a station, with these seals (and whether each pair of stations has a key of its own); it was handed
+-- a datagram for these receivers; or it gave one
 pub data Passed : Type 0 where
   Opened : Asker → List (List ℕ) → Bool → Passed
   Sent : Receivers → List ℕ → Passed

@@ -55,8 +55,8 @@ IsHanded game above to m = Has above (Sent to m) ⊎ IsAsk game m
 abbrev pub IsBrought : ℕ → List Passed → List ℕ → Type 0
 IsBrought game below m = Has below (Came m) ⊎ IsAsk game m
 
--- in a match, the link below gave each message that the window gave, and the window was handed each message that the link was
--- handed, for all or for one, asks aside; and what is known of how the link was opened is known of the window
+-- In a match, asks aside, the link below gave each message that the window gave, and the window was handed each message that
+-- the link was handed, for all or for one. Each opening of the link is one of the window.
 pub record IsFaithful (game : ℕ) (above below : List Passed) : Type 0 where
   pub given : (m : List ℕ) → Has above (Came m) → IsBrought game below m
   pub handed : (to : Receivers) (m : List ℕ) → Has below (Sent to m) → IsHanded game above to m

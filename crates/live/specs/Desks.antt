@@ -188,7 +188,7 @@ told_of sheet innings k (Reminded reminder) l = reminder_text k.desk.seat.positi
 told_of sheet innings k (ToldAside aside) l = aside_text sheet.columns aside
 told_of sheet innings k call l = []
 
--- what is told of a call as values: the book and the sheet aren't needed
+-- the values told of a call; neither book nor sheet is needed
 abbrev pub tells_of : {Disk : Type 0} → DeskProcess Disk → DeskCall → List Told
 tells_of k (Typed line said) = option_to_list (said_told k.desk.seat.position k.desk.seat.theirs said)
 tells_of k (Given bytes what) =

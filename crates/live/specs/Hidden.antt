@@ -42,9 +42,9 @@ AsksWhere call = (line : List ℕ) × (call ≡ Typed line (Said.Asks Word.Where
 -- The text for a datagram depends on its bytes only through the answer and through what they show of both desks' files, which
 -- only asks, votes for other positions and own votes do; except for `Differ`, which is answered only after the own vote is
 -- cast. The text for a call depends on no noted vote, unless the call pens a vote that differs from it, which is then stored.
--- When the scorer asks where the desk stands, and for reminders, it matters whether a vote is noted, but not which. What is
--- told as values depends on neither either, nor does what is seen of the desk besides its rows. So two runs that differ only in
--- that entry tell and print the same until then.
+-- When the scorer asks where the desk stands, and for reminders, it matters whether a vote is noted, but not which. The values
+-- told, and what is seen of the desk besides its rows, depend on neither. So two runs that differ only in that entry tell and
+-- print the same until then.
 pub record HidesTheOther {Disk : Type 0} (view : FileView Disk) : Type 0 where
   pub answer : (s t : SeatState) (v : Vote) (h : Heard) → s.mine ≡ None → s.theirs ≡ None → IsForNow s v → Hears s v h t
       → h ≡ Heard.Noted

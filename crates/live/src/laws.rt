@@ -32,7 +32,7 @@ pub fn both_lines_are_told<D>()
     ensures { TellsBoth D }
 {}
 
-/// Whatever rows a desk prints, it tells as a value, too.
+/// A desk tells a value, too, whenever it prints rows.
 #[tactic(auto, using(crate::proofs::ToldLemmas::rows_are_values))]
 pub fn rows_are_told_as_values<D>()
     ensures { RowsAreValues D }

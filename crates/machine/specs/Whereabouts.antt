@@ -1,4 +1,4 @@
--- How long an address is kept at which a peer was found, and what keeps it.
+-- How long an address where a peer was found is kept, and what renews it.
 use Rattle.std.specs.Prelude.{◌≡◌, ◌⊎◌, ◌||◌, ℕ, zero, suc, Bool, false, true, Option, None, Some}
 use Rattle.machine.specs.declared.whereabouts.{Found.Found, TheConstants.MESSAGES_KEPT, Whereabouts.Whereabouts}
 
@@ -7,7 +7,7 @@ abbrev pub is_sure : Option Found → Bool
 is_sure None = false
 is_sure (Some found) = found.is_sure
 
--- something came from the address once more
+-- the address after another datagram from it
 abbrev pub again : Option Found → Bool → Option Found
 again None is_new = None
 again (Some found) is_new =
@@ -22,12 +22,12 @@ abbrev pub aged : Option Found → Option Found
 aged None = None
 aged (Some found) = kept found found.left
 
--- this is the address
+-- the two addresses are equal
 abbrev pub IsAt : Found → Option Found → Type 0
 IsAt one None = ⊥
 IsAt one (Some found) = found.at ≡ one.at
 
--- if something new came from the address, it stays one at which the peer is found
+-- an address that brought something new is kept
 abbrev pub Stays : Option Found → Whereabouts → Type 0
 Stays None w = Unit {0}
 Stays (Some found) w = found.is_sure ≡ true → IsAt found w.newest ⊎ IsAt found w.older

@@ -121,8 +121,8 @@ fn is_meant(only: Option<SocketAddr>, address: SocketAddr) -> bool {
     }
 }
 
-/// A socket, the addresses of its peers, those at which they were found, and what standard error was told about them. It is no
-/// fault if nothing can be written there.
+/// A socket, the addresses given for its peers, the others where they were found, and what standard error was told about them.
+/// A failed write to standard error isn't a fault.
 #[derive(Drop)]
 struct Mail<'w, E> {
     port: Port,
@@ -152,7 +152,7 @@ impl<E: Write + Drop> Mail<'_, E> {
         self.found.iter().any(|found| found.has(from))
     }
 
-    /// Whether the peer of this number has an address for which something is meant.
+    /// Whether the peer of this number has an address that a message is meant for.
     fn is_addressed(&self, index: usize, only: Option<SocketAddr>) -> bool
         requires { index < 5 }
     {
@@ -211,7 +211,7 @@ impl<E: Write + Drop> Mail<'_, E> {
         }
     }
 
-    /// Sends a message to every peer. Where a peer was found is let go in time, if nothing new comes from there.
+    /// Sends a message to every peer. An address where a peer was found is dropped in time if it brings nothing.
     fn send_all(&mut self, message: &TaggedMessage) {
         self.strangers.note(&message.message);
         self.send(message, None);
@@ -220,7 +220,7 @@ impl<E: Write + Drop> Mail<'_, E> {
         }
     }
 
-    /// Sends a message to where the last datagram was taken from.
+    /// Sends a message to the address that the last datagram came from.
     fn send_back(&mut self, message: &TaggedMessage) {
         if self.last.is_some() {
             self.send(message, self.last);
@@ -244,7 +244,7 @@ impl<E: Write + Drop> Mail<'_, E> {
         0
     }
 
-    /// Notes where a datagram of a peer came from, if it is one. That a peer is found at another address is reported once.
+    /// Notes the address that a peer's datagram came from. A new address of a peer is reported once.
     fn find(&mut self, bytes: &[u8], from: SocketAddr) {
         let Some(Sender { peer, is_new }) = self.strangers.sender_in(bytes) else {
             return;
@@ -260,7 +260,7 @@ impl<E: Write + Drop> Mail<'_, E> {
         }
     }
 
-    /// Whether a datagram is a peer's: by its address, or by what it says.
+    /// Whether a peer sent a datagram, by its address or by its content.
     fn is_of_peer(&mut self, bytes: &[u8], from: SocketAddr) -> bool {
         if self.is_given(from) {
             return true;

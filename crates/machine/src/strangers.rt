@@ -9,16 +9,16 @@ use agree_core::{Asker, DeskId, Message};
 use seal::Opener;
 use wire::{MessageBytes, SIZE, message_of};
 
-/// The peer whose a datagram is, and whether it is new: for the place of the station's last message to all, the one before, or a
-/// later one. What isn't may be somebody's recording, or of a desk that begins again.
+/// The peer that sent a datagram, and whether the datagram is new: for the place of the station's last message to all, the place
+/// before it, or a later one. One that isn't new may be a recording, or may come from a desk that begins again.
 #[derive(Clone, Copy)]
 pub struct Sender {
     pub peer: usize,
     pub is_new: bool,
 }
 
-/// Tells which datagrams are of a peer that has another address now: if the match has a key, those that open and say something
-/// of a desk that the station hears. It can't seal any.
+/// Recognizes the datagrams of a peer at a new address: if the match has a key, those that open and are from a desk that the
+/// station hears. It can't seal a datagram.
 #[derive(Drop)]
 pub struct Strangers {
     opener: Opener,
@@ -52,14 +52,14 @@ fn place_of(message: &Message) -> u32
     }
 }
 
-/// Who says something, and for which place.
+/// The sender of a message, and the place that it is for.
 #[derive(Clone, Copy)]
 pub struct Saying {
     pub sender: Asker,
     pub place: u32,
 }
 
-/// Returns what the bytes of a message of match `game` say, if they are one.
+/// Returns the sender and the place of a message of match `game`, if the bytes are one.
 fn saying_in(game: u64, bytes: &[u8]) -> Option<Saying>
     ensures { IfSome result (IsSaid game bytes.now) }
 {
@@ -72,7 +72,7 @@ fn saying_in(game: u64, bytes: &[u8]) -> Option<Saying>
     }
 }
 
-/// Returns a station's number of the desk that sent something, if it hears that desk.
+/// Returns the number by which a station knows a sender, if it hears that sender.
 fn index_of(station: Asker, sender: Asker) -> Option<usize>
     ensures { result ≡ specs.index_of station sender }
 {
@@ -84,7 +84,7 @@ fn index_of(station: Asker, sender: Asker) -> Option<usize>
 }
 
 impl Strangers {
-    /// Makes this of what opens a station's datagrams, the station, the number of the match and whether it has a key.
+    /// Begins for this station, in the match of this number, with what opens its datagrams. `has_key`: the match has a key.
     pub fn new(opener: Opener, station: Asker, game: u64, has_key: bool) -> Strangers {
         Strangers {
             opener,
@@ -100,12 +100,12 @@ impl Strangers {
         self.said = Some(*message);
     }
 
-    /// Whether these bytes are a datagram of the match.
+    /// Whether these bytes open as a datagram of the match.
     pub fn opens(&self, bytes: &[u8]) -> bool {
         self.opener.opens(bytes)
     }
 
-    /// Returns the letter of the desk that is this peer of the station.
+    /// Returns the letter of the desk that the station knows by this number.
     pub fn letter(&self, peer: usize) -> char {
         match self.station {
             Asker::A => 'b',
@@ -126,7 +126,7 @@ impl Strangers {
         }
     }
 
-    /// Returns whose these bytes are, if they are of a peer that may have another address now.
+    /// Returns the peer that sent these bytes, if the match has a key and they open and are from a desk that the station hears.
     pub fn sender_in(&self, bytes: &[u8]) -> Option<Sender>
         ensures { IfSome result (IsOfPeer self.now bytes.now) }
     {

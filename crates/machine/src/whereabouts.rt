@@ -5,8 +5,8 @@ ghost use Rattle.machine.specs.Whereabouts as specs;
 
 use std::net::SocketAddr;
 
-/// For how many messages to all an address is kept from which nothing comes: a minute's of a station that waits, which says
-/// something each half second.
+/// An address that brings nothing is dropped after this many messages to all: after about a minute, as a waiting station sends
+/// one each half second.
 pub const MESSAGES_KEPT: u8 = 120;
 
 /// An address at which a peer was found.
@@ -44,7 +44,7 @@ fn is_sure(found: Option<Found>) -> bool
     }
 }
 
-/// Returns the address, from which something came once more.
+/// Returns the address after another datagram from it.
 fn again(found: Option<Found>, is_new: bool) -> Option<Found>
     ensures { result ≡ specs.again found is_new }
 {
@@ -92,8 +92,8 @@ impl Whereabouts {
         is_at(self.newest, at) || is_at(self.older, at)
     }
 
-    /// Notes an address that isn't known yet. What isn't new takes no place of an address from which something new came, and what
-    /// is takes first that of one from which nothing did.
+    /// Notes an address that isn't known yet, in place of the oldest one that brought nothing new. If both brought something new,
+    /// only a new datagram's address is noted, in place of the older.
     fn add(&mut self, at: SocketAddr, is_new: bool)
         ensures sure { is_new ≡ false → specs.KeepsSure self.old self.new }
     {
@@ -111,8 +111,8 @@ impl Whereabouts {
         });
     }
 
-    /// Notes that something came from this address, and whether it was new. What isn't new takes no place of an address from
-    /// which something new came.
+    /// Notes that a datagram came from this address, and whether it was new. One that isn't new displaces no address that brought
+    /// something new.
     pub fn note(&mut self, at: SocketAddr, is_new: bool)
         ensures sure { is_new ≡ false → specs.KeepsSure self.old self.new }
     {
@@ -127,7 +127,7 @@ impl Whereabouts {
         }
     }
 
-    /// Notes a message to all. An address from which nothing came in the time of `MESSAGES_KEPT` of them is let go.
+    /// Notes a message to all. An address that brought nothing during `MESSAGES_KEPT` of them is dropped.
     pub fn pass(&mut self)
         ensures newest { self.new.newest ≡ specs.aged self.old.newest }
         ensures older { self.new.older ≡ specs.aged self.old.older }

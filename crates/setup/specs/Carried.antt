@@ -5,8 +5,8 @@ use Rattle.links.specs.Windows.{IsFaithful}
 use Rattle.seal.specs.Opening.{passing}
 use Rattle.seal.specs.declared.ring.Ring.{Ring}
 
--- What a station said and heard passed through a window over datagrams sealed with this ring, which were carried: nothing but
--- asks was sent that it hadn't said, and nothing but asks was heard that hadn't come sealed.
+-- Datagrams sealed with this ring were carried for a station that said and heard this, through a window: asks aside, only what
+-- it said was sent, and only what came sealed was heard.
 pub record WasCarried (ring : Ring) (passed carried : List Passed) : Type 0 where
   pub game : ℕ
   pub faithful : IsFaithful game passed (passing ring carried)

@@ -66,7 +66,7 @@ HasRing bytes station digest ring =
     ⊎ ((first : List ℕ) × ((second : List ℕ) × HasPairKeys bytes station first second
     × (ring ≡ ring_of station (pair_seals station first second digest) true)))
 
--- a station's ring, made from the bytes of its key file, if one is named, and otherwise of no key
+-- a station's ring: made from the bytes of its key file, or without a key if none is named
 abbrev pub IsRingOf : Option (List ℕ) → List ℕ → Asker → List ℕ → Ring → Type 0
 IsRingOf None bytes station digest ring = ring ≡ ring_of_one station (seal_of [] digest)
 IsRingOf (Some path) bytes station digest ring = HasRing bytes station digest ring

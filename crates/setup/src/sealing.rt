@@ -183,7 +183,7 @@ fn seals_of(
     })
 }
 
-/// A station's seals, and the bytes of the file that they are made from, which only clauses read.
+/// A station's seals. Only clauses read the bytes of the key file that they are made from.
 #[derive(Drop)]
 struct FileSeals {
     seals: Seals,

@@ -39,7 +39,7 @@ no_ask game other message v says ask =
     let kinds : 2 ≡ 1 = ap (λ (m : List ℕ). slice_index m 3) (sym ask.1 ∙ says.1) in
     absurd (omega (arith, kinds))
 
--- what came of a link is an opening of what was carried
+-- a message that came at a link was opened from a datagram that was carried
 came_open : (ring : Ring) (carried : List Passed) (message : List ℕ) → Has (passing ring carried) (Came message) → Has (opening ring carried) (Came message)
 came_open ring carried message (inl e) = absurd (cc)
 came_open ring carried message (inr h) = h

@@ -28,7 +28,7 @@ opened_once one ring e = λ i. record {
   is_of_pairs = both_of_pairs _ _ _ _ _ _ e i;
 }
 
--- what was carried for a link that was opened with a ring, and not again, was sealed with that ring
+-- if a link was opened once, with this ring, all that it carried was sealed with this ring
 pub carried_so : (one ring : Ring) {passed more carried : List Passed} → passed ≡ opened ring ∷ more
     → ((station : _) (seals : List (List ℕ)) (is_of_pairs : Bool) → Has more (Opened station seals is_of_pairs) → ⊥)
     → WasCarried one passed carried → WasCarried ring passed carried

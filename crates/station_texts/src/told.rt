@@ -24,7 +24,7 @@ use plans::{Plan, Planned};
 use screen::{Tells, Told, Word};
 use wire::What;
 
-/// Tells what the rows that come next tell, if there are any.
+/// Tells the value of the rows that follow, if any follow.
 pub fn tell_if<T: Tells>(teller: &mut T, told: Option<Told>)
     requires { IfSome told IsTold }
     ensures { T.tellings teller.new ≡ T.tellings teller.old ++ option_to_list told }
@@ -126,7 +126,7 @@ fn dropped_told(lines: &[HeldLine]) -> Option<Told>
     }
 }
 
-/// Returns what is told of lines that the desk isn't given. Where it is nothing, no row is printed.
+/// Returns what is told of lines that the desk isn't given, or `None` where no row is printed.
 pub fn aside_told(aside: &Aside) -> Option<Told>
     ensures told { result ≡ values.aside_told aside.now }
     ensures fine { IfSome result IsTold }
