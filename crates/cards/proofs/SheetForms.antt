@@ -10,7 +10,7 @@ use Rattle.std.specs.List.{list_all}
 use Rattle.std.proofs.lemmas.Bool.{and_parts}
 use Rattle.std.proofs.lemmas.Bool.Decides.{nat_tests}
 use Rattle.notation.specs.declared.entry.Side.TheVariants.{Home, Away}
-use Rattle.cards.specs.Sheet.{IsTeam, Sheet, Team, in_columns, is_name, is_text, player_in}
+use Rattle.cards.specs.Sheet.{IsTeam, Sheet, Team, displayed_as, is_name, is_text, player_in}
 use Rattle.cards.specs.Digest.{IsSheet, limits_text, side_text, text, texts_from, written}
 use Rattle.cards.proofs.LimitForms.{same_limits}
 
@@ -82,7 +82,7 @@ side_once a b h k p q e =
     let players = each_text (player_in a) (player_in b) (player_short a h) (player_short b k) 11 1 p q name.1 in
     (same_team a b h k name.0 players.0, players.1)
 
-pub same_sheet : (s t : Sheet) → IsSheet s → IsSheet t → written s ≡ written t → in_columns t.columns s ≡ t
+pub same_sheet : (s t : Sheet) → IsSheet s → IsSheet t → written s ≡ written t → displayed_as t s ≡ t
 same_sheet s t h k e =
     let title = first_text s.title t.title _ _ (grind (arith, text_short 60 s.title h.3)) (grind (arith, text_short 60 t.title k.3)) e in
     let number : to_be_bytes w64 s.game ≡ to_be_bytes w64 t.game = ap (take 8) title.1 in
@@ -92,4 +92,4 @@ same_sheet s t h k e =
     let home = side_once s.home t.home h.1 k.1 (side_text s Away ++ limits_text s.limits) (side_text t Away ++ limits_text t.limits) sides in
     let away = side_once s.away t.away h.2 k.2 (limits_text s.limits) (limits_text t.limits) home.1 in
     let limits = same_limits s.limits t.limits away.1 in
-    λ i. record { title = title.0 i; game = game i; innings = innings i; home = home.0 i; away = away.0 i; limits = limits i; columns = t.columns }
+    λ i. record { title = title.0 i; game = game i; innings = innings i; home = home.0 i; away = away.0 i; limits = limits i; display = t.display; columns = t.columns }

@@ -1,7 +1,8 @@
 //! The digest of a match sheet.
 
 ghost use Rattle.std.specs.Prelude.{◌≡◌, ◌<◌, ◌+◌, ◌++◌, ◌∷◌, ℕ, List, length};
-ghost use Rattle.cards.specs.Sheet.{Sheet, in_columns};
+ghost use Rattle.cards.specs.Display.{Display};
+ghost use Rattle.cards.specs.Sheet.{Sheet, displayed_as, in_columns};
 ghost use Rattle.cards.specs.Digest.{IsSheet, written};
 ghost use Rattle.sha2.specs.Hashers.{Holds256};
 ghost use Rattle.cards.specs.Digest as specs;
@@ -129,9 +130,10 @@ pub fn digest_of(sheet: &MatchSheet) -> [u8; 32]
     hasher.finalize()
 }
 
-/// States that two sheets with the same written form are equal except for the width of their rows, and that the form doesn't
-/// depend on that width. It does nothing.
+/// States that two sheets with the same written form are equal except for their displayed names and the width of their rows, and
+/// that the form doesn't depend on these. It does nothing.
 pub fn sheets_share_no_form()
-    ensures one { (s t : Sheet) → IsSheet s → IsSheet t → written s ≡ written t → in_columns t.columns s ≡ t }
+    ensures one { (s t : Sheet) → IsSheet s → IsSheet t → written s ≡ written t → displayed_as t s ≡ t }
     ensures width { (s : Sheet) (n : ℕ) → written (in_columns n s) ≡ written s }
+    ensures display { (s : Sheet) (d : Display) → written (record s { display = d }) ≡ written s }
 {}

@@ -5,6 +5,7 @@ use Rattle.toml.specs.Data.{Data, Items, no_items, item, Members, get_member, as
 use Rattle.limits.specs.Reading.{limits_in}
 use Rattle.cards.specs.Reading as reads
 use Rattle.cards.specs.Reading.{◌>>=◌, checked_names, checked_number, checked_text, count_of, eleven_names, greatest_game, of_kind, sheet_from, team_from}
+use Rattle.cards.specs.Display.{display_in}
 use Rattle.cards.specs.Sheet.{Sheet, Team, is_name, is_printable, is_text, longest_name, longest_title, usual_columns}
 use Rattle.cards.specs.declared.fault.SheetFault.{SheetFault}
 use Rattle.cards.specs.declared.fault.SheetFault.TheVariants.{BadNumber, BadText, MissingKey, NotEleven, WrongKind}
@@ -183,7 +184,7 @@ game_faults ms = number_at 0 greatest_game (codes "number") (codes "is below 0")
 -- the sheet that is read after these parts
 abbrev with_home : Members → List ℕ → ℕ → ℕ → Team → Result Sheet SheetFault
 with_home ms title game innings home =
-    reads.team_at (codes "away") ms >>= λ away. Ok (record { title = title; game = game; innings = innings; home = home; away = away; limits = limits_in ms; columns = usual_columns })
+    reads.team_at (codes "away") ms >>= λ away. Ok (record { title = title; game = game; innings = innings; home = home; away = away; limits = limits_in ms; display = display_in ms; columns = usual_columns })
 
 abbrev with_innings : Members → List ℕ → ℕ → ℕ → Result Sheet SheetFault
 with_innings ms title game innings = reads.team_at (codes "home") ms >>= with_home ms title game innings
@@ -198,7 +199,7 @@ away_first : (ms : Members) (title : List ℕ) (game innings : ℕ) (home : Team
     → first_of (away_faults ms) ≡ why_of (with_home ms title game innings home)
 away_first ms title game innings home =
     rw (why_map {B = Sheet} (reads.team_at (codes "away") ms)
-    (λ away. record { title = title; game = game; innings = innings; home = home; away = away; limits = limits_in ms; columns = usual_columns }))
+    (λ away. record { title = title; game = game; innings = innings; home = home; away = away; limits = limits_in ms; display = display_in ms; columns = usual_columns }))
     (side_there (codes "away") (codes "away") ms (get_member (codes "away") ms) refl)
 
 home_first : (ms : Members) (title : List ℕ) (game innings : ℕ) → first_of (home_faults ms) ≡ why_of (with_innings ms title game innings)

@@ -9,6 +9,7 @@ use Rattle.notation.specs.declared.entry.Plain.TheVariants.{Innings, Come, Ball 
 use Rattle.notation.specs.declared.entry.Entry.TheVariants.{Write, Fix, Late}
 use Rattle.notation.specs.Written.{tokens}
 use Rattle.limits.specs.Limits.{no_limits}
+use Rattle.cards.specs.Display.{no_display}
 use Rattle.cards.specs.Sheet.{Sheet, Team, usual_columns}
 use Rattle.shorthand.specs.declared.unclear.Letter.TheVariants.{B, W}
 use Rattle.shorthand.specs.declared.unclear.Unaided.TheVariants.{Bowled, Lbw}
@@ -142,7 +143,7 @@ birch = record {
 }
 
 abbrev pub sheet : Sheet
-sheet = record { title = codes "match"; game = 1; innings = 1; home = alder; away = birch; limits = no_limits; columns = usual_columns }
+sheet = record { title = codes "match"; game = 1; innings = 1; home = alder; away = birch; limits = no_limits; display = no_display; columns = usual_columns }
 
 -- the players whom a name means: a last word comes first if it is just one player's, otherwise each beginning counts
 pub record WorkedNames : Type 0 where
@@ -180,7 +181,7 @@ abbrev pub ray_in : List Entry
 ray_in = Write (Innings Home) ∷ Write (Come 7) ∷ Write (Come 1) ∷ Write (dot 10) ∷ []
 
 abbrev pub rays : Sheet
-rays = record { title = codes "match"; game = 1; innings = 1; home = alder; away = alder; limits = no_limits; columns = usual_columns }
+rays = record { title = codes "match"; game = 1; innings = 1; home = alder; away = alder; limits = no_limits; display = no_display; columns = usual_columns }
 
 pub record WorkedSeveral : Type 0 where
   pub who_is_in : behind sheet ray_in (codes "gone retiredhurt ray") ≡ Ok (codes "gone retiredhurt 7")
