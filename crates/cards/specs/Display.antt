@@ -46,8 +46,14 @@ is_displayed c = not (is_control c || (is_turning c || is_private c))
 abbrev pub longest_displayed : ℕ
 longest_displayed = 60
 
+abbrev pub has_length : List ℕ → Bool
+has_length text = nat_le 1 (length (chars text)) && nat_le (length (chars text)) longest_displayed
+
+abbrev pub are_displayed : List ℕ → Bool
+are_displayed text = list_all is_displayed (chars text)
+
 abbrev pub is_display_text : List ℕ → Bool
-is_display_text text = (nat_le 1 (length (chars text)) && nat_le (length (chars text)) longest_displayed) && list_all is_displayed (chars text)
+is_display_text text = has_length text && are_displayed text
 
 -- ---- how the table `display` is read: what can't be displayed counts as absent
 

@@ -2,7 +2,6 @@
 
 ghost use Rattle.std.specs.Prelude.{◌≡◌, ◌-◌, [], None, chars, length, option_map, slice_get, string_bytes};
 ghost use Rattle.std.specs.Int.{is_in_range};
-ghost use Rattle.std.specs.List.{list_all};
 ghost use Rattle.cards.specs.Display as displays;
 ghost use Rattle.cards.specs.inner.Names.{names_in};
 
@@ -92,7 +91,7 @@ fn is_private(code: u32) -> bool
 }
 
 /// Whether a character may stand in a displayed name.
-pub fn is_displayed(letter: char) -> bool
+fn is_displayed(letter: char) -> bool
     ensures { result ≡ displays.is_displayed letter }
 {
     let code = letter as u32;
@@ -106,20 +105,27 @@ fn count_of(text: &str) -> usize
     text.chars().count()
 }
 
-/// Whether each character of a text may stand in a displayed name.
-fn are_displayed(text: &str) -> bool
-    ensures { result ≡ list_all displays.is_displayed (chars text.now) }
+/// Whether a displayed name may have this length: 1 to 60 characters.
+pub fn has_display_length(text: &str) -> bool
+    ensures { result ≡ displays.has_length text.now }
+{
+    let count = count_of(text);
+    1 <= count && count <= LONGEST_DISPLAYED
+}
+
+/// Whether each character of a text may stand in a displayed name: none controls a terminal, ends a line, turns the direction of
+/// what stands around it, or is of private use.
+pub fn are_displayed(text: &str) -> bool
+    ensures { result ≡ displays.are_displayed text.now }
 {
     text.chars().all(|letter| is_displayed(letter))
 }
 
-/// Whether a text can be displayed as a name: 1 to 60 characters, none of which controls a terminal, ends a line, turns the
-/// direction of what stands around it, or is of private use.
-pub fn is_display_text(text: &str) -> bool
+/// Whether a text can be displayed as a name.
+pub(crate) fn is_display_text(text: &str) -> bool
     ensures { result ≡ displays.is_display_text text.now }
 {
-    let count = count_of(text);
-    1 <= count && count <= LONGEST_DISPLAYED && are_displayed(text)
+    has_display_length(text) && are_displayed(text)
 }
 
 impl Names {
