@@ -1,4 +1,4 @@
-//! A match sheet with the side names of an export.
+//! A match sheet with the names of an export.
 
 ghost use Rattle.std.specs.Prelude.{◌≡◌, ◌≤◌, IfOk, string_bytes};
 ghost use Rattle.cards.specs.Sheet as sheets;
@@ -10,7 +10,8 @@ use notation::{Player, Side};
 use std::alloc::{AllocError, Global};
 use std::marker::Model;
 
-/// A match sheet whose sides have different names: if both have the same name, " (home)" or " (away)" is appended.
+/// A match sheet with the names that people write, if it says them. Its sides have different names: if both have the same, " (home)"
+/// or " (away)" is appended.
 pub struct NamedSheet<'a> {
     sheet: &'a MatchSheet,
     home: String,
@@ -31,6 +32,8 @@ impl Drop for NamedSheet<'_> {
 impl<'a> Model for NamedSheet<'a> {
     ghost use Rattle.std.specs.Prelude.{string_bytes};
     ghost use Rattle.cards.specs.Sheet.{Sheet};
+    ghost use Rattle.archive_deliveries.specs.Names.{players_in};
+    ghost use Rattle.notation.specs.declared.entry.Side.TheVariants.{Away, Home};
 
     ghost Value = { Sheet };
 
@@ -38,9 +41,10 @@ impl<'a> Model for NamedSheet<'a> {
       title = s.sheet.now.title;
       game = s.sheet.now.game;
       innings = s.sheet.now.innings;
-      home = record { name = string_bytes s.home; players = s.sheet.now.home.players };
-      away = record { name = string_bytes s.away; players = s.sheet.now.away.players };
+      home = record { name = string_bytes s.home; players = players_in s.sheet.now Home };
+      away = record { name = string_bytes s.away; players = players_in s.sheet.now Away };
       limits = s.sheet.now.limits;
+      display = s.sheet.now.display;
       columns = s.sheet.now.columns;
     } };
 }
@@ -59,8 +63,8 @@ fn mark_of(side: Side) -> &'static str
 fn name_in(alloc: Global, sheet: &MatchSheet, side: Side) -> Result<String, AllocError>
     ensures { IfOk result (λ name. string_bytes name ≡ names.name_in sheet.now side) }
 {
-    let mut name = String::from_str(alloc, sheet.name(side))?;
-    if sheet.name(Side::Home) == sheet.name(Side::Away) {
+    let mut name = String::from_str(alloc, sheet.displayed_name(side))?;
+    if sheet.displayed_name(Side::Home) == sheet.displayed_name(Side::Away) {
         name.push_str(mark_of(side))?;
     }
     Ok(name)
@@ -120,8 +124,8 @@ impl<'a> NamedSheet<'a> {
         ensures { result.now ≡ sheets.player_of self.now side player }
     {
         match side {
-            Side::Home => self.sheet.player(Side::Home, player),
-            Side::Away => self.sheet.player(Side::Away, player),
+            Side::Home => self.sheet.displayed_player(Side::Home, player),
+            Side::Away => self.sheet.displayed_player(Side::Away, player),
         }
     }
 }

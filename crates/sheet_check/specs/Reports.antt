@@ -5,6 +5,7 @@ use Rattle.toml.specs.Data.{Members}
 use Rattle.cards.specs.Reading.{HasNoTable, HasTable}
 use Rattle.cards.specs.declared.fault.SheetFault.{SheetFault}
 use Rattle.sheet_check.specs.Addresses.{TellsAddresses}
+use Rattle.sheet_check.specs.Displays.{display_faults}
 use Rattle.sheet_check.specs.Faults.{Fault, faults}
 use Rattle.sheet_check.specs.Handed.{handed_faults}
 use Rattle.sheet_check.specs.Limits.{limit_faults}
@@ -30,11 +31,12 @@ PutsSuch result old new Are = OnOk result ((faults : List Fault) × Are faults �
 abbrev pub begin_faults : Members → List Fault
 begin_faults ms = faults ms ++ station_faults ms
 
--- all faults of a sheet: also those of its stations' addresses, of its limits and of what it passes on
+-- all faults of a sheet: also those of its stations' addresses, of its limits, of its displayed names and of
+-- what it passes on
 abbrev pub AreAllFaults : Members → List Fault → Type 0
 AreAllFaults ms all =
     (addresses : List Fault) × TellsAddresses ms addresses
-    × (all ≡ begin_faults ms ++ (addresses ++ (limit_faults ms ++ handed_faults ms)))
+    × (all ≡ begin_faults ms ++ (addresses ++ (limit_faults ms ++ (display_faults ms ++ handed_faults ms))))
 
 -- the line of a fault, and the lines of a list of faults
 abbrev pub line : Fault → List ℕ

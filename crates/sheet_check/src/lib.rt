@@ -2,6 +2,7 @@
 #![tactic(auto)]
 
 mod addresses;
+mod displays;
 mod faults;
 mod handed;
 mod laws;

@@ -7,6 +7,7 @@ ghost use Rattle.sheet_check.specs.Handed.{handed_faults};
 ghost use Rattle.sheet_check.specs.Reports.{AreAllFaults, IsHandedReport, IsReport, IsTomlLine, begin_faults, fault_of, faults_in, told};
 
 use crate::addresses::put_addresses;
+use crate::displays::put_display;
 use crate::faults::put_faults;
 use crate::handed::put_handed;
 use crate::limited::put_limits;
@@ -67,6 +68,7 @@ fn table_report(alloc: Global, table: &Table) -> Result<String, AllocError>
     let mut faults = faults_of(alloc, table)?;
     put_addresses(alloc, &mut faults, table)?;
     put_limits(alloc, &mut faults, table)?;
+    put_display(alloc, &mut faults, table)?;
     put_handed(alloc, &mut faults, table)?;
     lines_of(alloc, faults.as_slice())
 }
@@ -80,8 +82,8 @@ fn handed_report(alloc: Global, table: &Table) -> Result<String, AllocError>
     lines_of(alloc, faults.as_slice())
 }
 
-/// Reports all faults of a sheet, its table of stations, its limits and what it passes on, one line each. The report is empty
-/// if there are none. It fails if an allocation fails.
+/// Reports all faults of a sheet, its table of stations, its limits, its displayed names and what it passes on, one line each. The
+/// report is empty if there are none. It fails if an allocation fails.
 pub fn report_of(alloc: Global, text: &[u8]) -> Result<String, AllocError>
     ensures { IfOk result (λ report. IsReport text.now (string_bytes report)) }
 {

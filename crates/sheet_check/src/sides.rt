@@ -20,7 +20,7 @@ const LONGEST_NAME: usize = 16;
 const PLAYERS: usize = 11;
 
 /// Returns where a player is in the sheet: the side, and the player's number.
-fn player_place(alloc: Global, side: &str, number: u64) -> Result<String, AllocError>
+pub fn player_place(alloc: Global, side: &str, number: u64) -> Result<String, AllocError>
     ensures { IfOk result (λ place. string_bytes place ≡ faults.player side.now number) }
 {
     let mut place = String::from_str(alloc, side)?;
@@ -118,7 +118,7 @@ pub fn count_of(items: &[Value]) -> usize
 }
 
 /// Appends the fault that there aren't eleven players, if so.
-fn put_count(
+pub fn put_count(
     alloc: Global,
     out: &mut Vec<Fault>,
     side: &str,
