@@ -3,6 +3,7 @@
 #![tactic(auto)]
 
 mod handed;
+mod judge;
 mod laws;
 mod lines;
 mod log;
@@ -10,6 +11,7 @@ mod queue;
 mod taking;
 mod tried;
 
+pub use judge::Judge;
 pub use laws::what_is_cast_was_typed;
 pub use log::AheadLog;
 pub use taking::Ahead;

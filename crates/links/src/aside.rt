@@ -25,6 +25,8 @@ pub enum Aside {
     Full(HeldLine),
     /// The line isn't held: it isn't text.
     NoText,
+    /// The line isn't held: it means no entry, whatever the book.
+    NoEntry(HeldLine),
     /// `undo` isn't passed on: it may be meant for a held line that was just passed on and is now agreed at this place.
     WasHeld(u32, HeldLine),
     /// `undo` isn't passed on: it may be meant for a held line that the desk didn't take at this place.

@@ -52,6 +52,8 @@ pub enum Told {
     Full,
     /// A line isn't held: it isn't text.
     NoText,
+    /// A line isn't held: it means no entry, whatever the book.
+    NoEntry,
     /// `undo` isn't passed on: a held line was agreed at this place.
     WasHeld(u32),
     /// `undo` isn't passed on: a held line wasn't taken at this place.

@@ -7,7 +7,7 @@ use Rattle.json.specs.Json.{null}
 use Rattle.json_fields.specs.Values.{Field, number_field, text_field}
 use Rattle.screen.specs.Telling.{IsTold}
 use Rattle.screen.specs.declared.told.Told.{Told}
-use Rattle.screen.specs.declared.told.Told.TheVariants.{Stands, GoesOn, Plan, NoPlan, Agreed, Pending, Differs, Unclear, SayAgain, NoneDiffers, Waiting, Withheld, Refused, Held, Holds, TakenBack, NotTaken, Dropped, Full, NoText, WasHeld, Untaken, IsCast, HasWritten, IsMissed, IsHeard, OtherLacks, LacksLines, HasLines, Peer, Network, PageDropped}
+use Rattle.screen.specs.declared.told.Told.TheVariants.{Stands, GoesOn, Plan, NoPlan, Agreed, Pending, Differs, Unclear, SayAgain, NoneDiffers, Waiting, Withheld, Refused, Held, Holds, TakenBack, NotTaken, Dropped, Full, NoText, NoEntry, WasHeld, Untaken, IsCast, HasWritten, IsMissed, IsHeard, OtherLacks, LacksLines, HasLines, Peer, Network, PageDropped}
 
 -- of the lines that a desk was given, and of its own file
 abbrev pub own_word : Told → List ℕ
@@ -37,6 +37,7 @@ word_of (NotTaken place) = codes "not_taken"
 word_of Dropped = codes "dropped"
 word_of Full = codes "full"
 word_of NoText = codes "no_text"
+word_of NoEntry = codes "no_entry"
 word_of (WasHeld place) = codes "was_held"
 word_of (Untaken place) = codes "untaken"
 word_of (IsCast place) = codes "is_cast"

@@ -47,6 +47,7 @@ fn word_of(told: &Told) -> &'static str
         Told::Dropped => "dropped",
         Told::Full => "full",
         Told::NoText => "no_text",
+        Told::NoEntry => "no_entry",
         Told::WasHeld(_) => "was_held",
         Told::Untaken(_) => "untaken",
         Told::IsCast(_) => "is_cast",

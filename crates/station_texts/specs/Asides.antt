@@ -65,6 +65,7 @@ aside_text columns (Aside.NotTaken place line lines) =
 aside_text columns (Aside.Dropped lines) = dropped_text columns lines.items
 aside_text columns (Aside.Full line) = codes "24 lines are held, and not this: " ++ line.bytes ++ codes "\n"
 aside_text columns Aside.NoText = codes "not held: that line is no text\n"
+aside_text columns (Aside.NoEntry line) = codes "not held, as it means no entry: " ++ line.bytes ++ codes "\n"
 aside_text columns (Aside.Untaken place line) = line_at place (codes " not taken: ") line.bytes
 aside_text columns (Aside.WasHeld place line) = way_back place line.bytes
 aside_text columns (Aside.IsCast place) =

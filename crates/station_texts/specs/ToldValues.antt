@@ -70,6 +70,7 @@ aside_told (Aside.NotTaken place line behind) = Some (Told.NotTaken place)
 aside_told (Aside.Dropped lines) = dropped_told lines.items
 aside_told (Aside.Full line) = Some Told.Full
 aside_told Aside.NoText = Some Told.NoText
+aside_told (Aside.NoEntry line) = Some Told.NoEntry
 aside_told (Aside.WasHeld place line) = Some (Told.WasHeld place)
 aside_told (Aside.Untaken place line) = Some (Told.Untaken place)
 aside_told (Aside.IsCast place) = Some (Told.IsCast place)

@@ -166,6 +166,15 @@ fn print_full<W: Sink>(out: &mut Watched<W>, line: &str) -> Result<(), WriteFail
     writeln!(out, "24 lines are held, and not this: {line}")
 }
 
+/// Prints that a line isn't held, since it means no entry.
+fn print_no_entry<W: Sink>(out: &mut Watched<W>, line: &str) -> Result<(), WriteFailed>
+    ensures text { OnOk result (Prints W.contents out.old out.new
+        (codes "not held, as it means no entry: " ++ line.now ++ codes "\n")) }
+    ensures failed { TellsFailure result out.old out.new }
+{
+    writeln!(out, "not held, as it means no entry: {line}")
+}
+
 /// Prints how to undo an agreed line that was held before.
 fn print_was_held<W: Sink>(out: &mut Watched<W>, place: u32, line: &str) -> Result<(), WriteFailed>
     ensures text { OnOk result (Prints W.contents out.old out.new (asides.way_back place line.now)) }
@@ -202,6 +211,7 @@ fn print_of_lines<W: Sink>(
         Aside::Dropped(lines) => print_dropped(out, columns, lines.as_slice()),
         Aside::Full(line) => print_full(out, line.as_str()),
         Aside::NoText => writeln!(out, "not held: that line is no text"),
+        Aside::NoEntry(line) => print_no_entry(out, line.as_str()),
         Aside::Untaken(place, line) => print_untaken(out, *place, line.as_str()),
         Aside::WasHeld(place, line) => print_was_held(out, *place, line.as_str()),
         Aside::IsCast(place) => print_at(

@@ -140,6 +140,7 @@ pub fn aside_told(aside: &Aside) -> Option<Told>
         Aside::Dropped(lines) => dropped_told(lines.as_slice()),
         Aside::Full(_) => Some(Told::Full),
         Aside::NoText => Some(Told::NoText),
+        Aside::NoEntry(_) => Some(Told::NoEntry),
         Aside::WasHeld(place, _) => Some(Told::WasHeld(*place)),
         Aside::Untaken(place, _) => Some(Told::Untaken(*place)),
         Aside::IsCast(place) => Some(Told::IsCast(*place)),
