@@ -7,6 +7,7 @@ use Rattle.match_laws.specs.History.{begun, side_of, opponent, is_open}
 use Rattle.match_laws.specs.Figures.{total, wickets, overs, balls, batting_order, bowling_order, falls}
 use Rattle.match_laws.specs.Parts.{extras_of, batting_row_of, bowling_row_of}
 use Rattle.cards.specs.Sheet.{Sheet, name_of, player_of}
+use Rattle.scoreboard.specs.Displayed.{side_key}
 use Rattle.cards.specs.Dismissals.{fate_text}
 use Rattle.cards.specs.Bowling.{fielding}
 use Rattle.falls.specs.declared.fallen.FallAt.{FallAt}
@@ -105,10 +106,11 @@ falls_values s h i = values_from (fall_value s (side_of h i) (falls_in (i + 1) (
 abbrev pub overs_field : History → ℕ → Field
 overs_field h i = text_field (codes "overs") (overs_text (overs h i) (balls h i))
 
--- the name of the side that bats, with its score
+-- the side that bats, by its name and its key, with its score
 abbrev pub score_fields : Sheet → History → ℕ → List Field
 score_fields s h i =
     text_field (codes "team") (name_of s (side_of h i)) ∷ []
+    ++ text_field (codes "side") (side_key (side_of h i)) ∷ []
     ++ number_field (codes "runs") (total h i) ∷ []
     ++ number_field (codes "wickets") (wickets h i) ∷ []
     ++ overs_field h i ∷ []

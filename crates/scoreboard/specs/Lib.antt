@@ -1,5 +1,6 @@
--- The specification: Value with all that it cites (Innings, Now, Limited, Stand, OverRuns, and the marks of `cards`), and Laws.
+-- The specification: Value with all that it cites (Innings, Displayed, Now, Limited, Stand, OverRuns, and the marks of `cards`), and Laws.
 -- inner: for private functions only.
+pub mod Displayed
 pub mod Innings
 pub mod Limited
 pub mod Now

@@ -10,6 +10,7 @@ use Rattle.json.specs.Json.{Json, null}
 use Rattle.json.specs.Tree.{json_tokens}
 use Rattle.json.specs.Print.{print}
 use Rattle.json_fields.specs.Values.{Field, array_of, object_of, text_field, number_field}
+use Rattle.scoreboard.specs.Displayed.{display_field}
 use Rattle.scoreboard.specs.Innings.{all_innings}
 use Rattle.scoreboard.specs.declared.value.LastHeard.{LastHeard}
 use Rattle.scoreboard.specs.Limited.{limits_value, number_or_null}
@@ -29,6 +30,7 @@ abbrev pub fields_of : Sheet → ℕ → ℕ → History → List Field
 fields_of s n entries h =
     head_fields s entries
     ++ (codes "limits", limits_value s.limits) ∷ []
+    ++ display_field s ∷ []
     ++ (codes "innings", array_of (all_innings s h)) ∷ []
     ++ (codes "now", now_value s n h) ∷ []
     ++ overs_field (over_runs h) ∷ []

@@ -11,6 +11,7 @@ ghost use Rattle.falls.specs.Falls.{falls_at};
 ghost use Rattle.scoreboard.specs.Innings as laws;
 
 use crate::cards_put::{put_batters, put_bowlers, put_falls, put_overs};
+use crate::displayed::{player_at, side_key};
 use cards::{Innings, MatchSheet};
 use falls::FallAt;
 use json_fields::{
@@ -18,7 +19,7 @@ use json_fields::{
     put_string, put_text,
 };
 use match_laws::{Extras, Match};
-use notation::{Player, Side};
+use notation::Side;
 use std::alloc::{AllocError, Global};
 
 /// Puts the extras of an innings.
@@ -51,27 +52,20 @@ fn is_all_out(innings: Innings<'_>) -> bool
     innings.score.wickets(innings.index) == 10
 }
 
-/// Puts the name of the side that bats, its score and its extras.
+/// Puts the side that bats, by its name and its key, its score and its extras.
 fn put_score(out: &mut Compact, alloc: Global, innings: Innings<'_>) -> Result<(), AllocError>
     ensures { ForInnings innings.entry (λ s h i.
         PutsFields result out.old out.new (laws.score_fields s h i)) }
 {
     let (called, since) = innings.score.overs(innings.index);
     put_text(out, "team", innings.sheet.name(innings.side()))?;
+    put_text(out, "side", side_key(innings.side()))?;
     put_figure(out, "runs", innings.score.total(innings.index))?;
     put_figure(out, "wickets", innings.score.wickets(innings.index))?;
     put_overs(out, alloc, called, since)?;
     put_bool(out, "closed", is_closed(innings))?;
     put_bool(out, "all_out", is_all_out(innings))?;
     put_extras(out, &innings.score.extras(innings.index))
-}
-
-/// Returns the player at an index from 0 to 10.
-fn player_at(index: u8) -> Player
-    requires { index < 11 }
-    ensures { result ≡ index + 1 }
-{
-    Player::new(index + 1).unwrap()
 }
 
 /// Puts the names of a side's players.

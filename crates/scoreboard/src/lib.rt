@@ -3,6 +3,7 @@
 #![tactic(auto, using(json_fields::proofs::Putting::json_parts), unfolding(json_fields::specs::Values::fields_tokens, json_fields::specs::Values::values_tokens))]
 
 mod cards_put;
+mod displayed;
 mod innings;
 mod laws;
 mod limited;

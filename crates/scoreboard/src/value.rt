@@ -10,6 +10,7 @@ ghost use Rattle.scoreboard.specs.OverRuns.{over_runs, over_value, overs_field};
 ghost use Rattle.scoreboard.specs.Value as laws;
 ghost use Rattle.scoreboard.specs.inner.Counting as counting;
 
+use crate::displayed::put_display;
 use crate::innings::put_all_innings;
 use crate::limited::put_limits;
 use crate::now::put_now;
@@ -117,6 +118,7 @@ fn put_book<B: BookOf>(
     let situation = situation_of(sheet, book, &overs);
     put_head(out, sheet, book.len())?;
     put_limits(out, sheet.limits())?;
+    put_display(out, sheet)?;
     put_all_innings(out, alloc, sheet, score, falls.as_slice())?;
     put_now(
         out,
