@@ -8,3 +8,4 @@ pub mod Numerals
 pub mod Lowered
 pub mod Marked
 pub mod Cased
+pub mod NoEntries

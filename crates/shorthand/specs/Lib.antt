@@ -1,5 +1,5 @@
--- What is claimed: Full, which rests on Points, Names, Marks, Words and Lines. Worked computes examples, Laws says what
--- holds of all lines, and Candidates says whom a name may mean.
+-- What is claimed: Full, which rests on Points, Names, Marks, Words and Lines; NoEntry, which lines mean no entry whatever the
+-- book. Worked computes examples, Laws says what holds of all lines, and Candidates says whom a name may mean.
 pub mod Words
 pub mod Points
 pub mod Names
@@ -8,6 +8,8 @@ pub mod Marks
 pub mod Lines
 pub mod Undo
 pub mod Full
+pub mod NoEntry
 pub mod Laws
 pub mod Worked
+pub mod WorkedNone
 pub mod inner

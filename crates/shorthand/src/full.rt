@@ -72,7 +72,7 @@ fn bowler_first(line: &mut Line, sheet: &MatchSheet, side: Side, rest: &mut Rest
 
 /// Writes a line other than `fix` and `late` from this token on, by who bowls, who bats and who is in where it belongs.
 #[tactic(auto, unfolding(crate::specs::Full::item_from))]
-fn item_from(
+pub fn item_from(
     line: &mut Line,
     sheet: &MatchSheet,
     at: Point,
@@ -306,14 +306,14 @@ fn words_in_full<B: BookOf>(line: &mut Line, sheet: &MatchSheet, book: &B, rest:
 }
 
 /// Whether the fault is one of the line as a whole, not of one of its words.
-fn is_of_line(fault: LineFault) -> bool
+pub fn is_of_line(fault: LineFault) -> bool
     ensures { result ≡ full.is_of_line fault }
 {
     matches!(fault, LineFault::TooLong | LineFault::Spaces)
 }
 
 /// Returns the line as text. It fails only if the line isn't tokens with single spaces between them.
-fn text_of(line: &[u8]) -> Result<&str, Unclear>
+pub fn text_of(line: &[u8]) -> Result<&str, Unclear>
     ensures text { IfOk result (λ text. text.now ≡ line.now) }
     ensures none { OnErr result (is_spaced line.now ≡ false) }
 {
@@ -408,7 +408,7 @@ fn word_by_word<B: BookOf>(text: &str, book: &B, sheet: &MatchSheet) -> Result<E
 }
 
 /// Returns a line without the blanks at its end.
-fn trimmed(line: &[u8]) -> &[u8]
+pub fn trimmed(line: &[u8]) -> &[u8]
     ensures { result.now ≡ words.trimmed line.now }
 {
     line.trim_ascii_end()
