@@ -43,9 +43,15 @@ abbrev pub taken_back_by : Typed → List ArrayString
 taken_back_by (Typed.Aside (Aside.TakenBack place line)) = line ∷ []
 taken_back_by typed = []
 
--- the row reports no line as held or as taken back
+-- the line that a row reports as one that means no entry
+abbrev pub refused_by : Typed → List ArrayString
+refused_by (Typed.Aside (Aside.NoEntry line)) = line ∷ []
+refused_by typed = []
+
+-- the row reports no line as held, as taken back or as one that means no entry
 abbrev pub HoldsNone : Aside → Type 0
-HoldsNone aside = (held_by (Typed.Aside aside) ≡ []) × (taken_back_by (Typed.Aside aside) ≡ [])
+HoldsNone aside =
+    (held_by (Typed.Aside aside) ≡ []) × (taken_back_by (Typed.Aside aside) ≡ []) × (refused_by (Typed.Aside aside) ≡ [])
 
 -- The desk stands at `at` and its clock shows `now`: no held line is dropped. All are held still, or all but the oldest,
 -- which the desk is given, and that is noted.

@@ -1,15 +1,16 @@
 //! A scorer's lines, some of them held, and what becomes of a typed line.
 
-ghost use Rattle.std.specs.Prelude.{◌≡◌, ◌≤◌, ◌<◌, ◌∷◌, ◌++◌, [], IfSome, IsSome, IsUtf8, false, length, take, true};
+ghost use Rattle.std.specs.Prelude.{◌≡◌, ◌≤◌, ◌<◌, ◌∷◌, ◌++◌, [], All, IfSome, IsSome, IsUtf8, false, length, take, true};
 ghost use Rattle.links.specs.Typing.{End, IsTyped, Line};
 ghost use Rattle.screen.specs.Words as words;
 ghost use Rattle.ahead.specs.Ahead.{bytes_of, dropped_of, given_of, handed_of, held_of, lost_of, typed_of};
-ghost use Rattle.ahead.specs.Dropping.{held_by, taken_back_by};
+ghost use Rattle.ahead.specs.Dropping.{held_by, refused_by, taken_back_by};
 ghost use Rattle.ahead.specs.Sorts as sorts;
 ghost use Rattle.ahead.specs.Sorts.{is_entry, is_undo, may_cast};
 ghost use Rattle.ahead.specs.Undoing.{answer_to, told_or_given};
 
 use crate::handed::{answer_to, handed_behind};
+use crate::judge::Judge;
 use crate::lines::place_behind;
 use crate::queue::{Last, Queue};
 use crate::tried::Tried;
@@ -149,6 +150,7 @@ impl Queue {
         ensures typed { typed_of self.new.log ≡ typed_of self.old.log ++ Line (take count buffer.now) ∷ [] }
         ensures row { length (held_of self.old.log) < 24 → held_by result ≡ line ∷ [] }
         ensures held { held_of self.new.log ++ taken_back_by result ≡ held_of self.old.log ++ held_by result }
+        ensures refuses { refused_by result ≡ [] }
         ensures told { dropped_of self.new.log ≡ dropped_of self.old.log }
     {
         let place = place_behind(at, self.held.len());
@@ -209,6 +211,7 @@ impl Queue {
         ensures given { IsTyped result buffer.now (given_of self.old.log) (given_of self.new.log) }
         ensures typed { typed_of self.new.log ≡ typed_of self.old.log ++ Line (take count buffer.now) ∷ [] }
         ensures held { held_of self.new.log ++ taken_back_by result ≡ held_of self.old.log ++ held_by result }
+        ensures refuses { refused_by result ≡ [] }
         ensures told { dropped_of self.new.log ≡ dropped_of self.old.log }
     {
         self.is_deaf = true;
@@ -218,15 +221,50 @@ impl Queue {
         self.put_by(buffer, count, Aside::NoText)
     }
 
+    /// Holds a typed line, or returns a row that says that it means no entry, whatever the book.
+    fn hold_if_clear<J: Judge>(
+        &mut self,
+        judge: &J,
+        at: Stand,
+        line: HeldLine,
+        buffer: &LineBuffer,
+        count: usize,
+    ) -> Typed
+        requires line { line.bytes ≡ take count buffer.now }
+        requires entry { is_entry line.bytes ≡ true }
+        ensures given { IsTyped result buffer.now (given_of self.old.log) (given_of self.new.log) }
+        ensures typed { typed_of self.new.log ≡ typed_of self.old.log ++ Line (take count buffer.now) ∷ [] }
+        ensures row { length (held_of self.old.log) < 24 → J.refuses judge.now line.bytes ≡ false → held_by result ≡ line ∷ [] }
+        ensures refused { J.refuses judge.now line.bytes ≡ true → refused_by result ≡ line ∷ [] }
+        ensures refuses { All (λ l. J.refuses judge.now l.bytes ≡ true) (refused_by result) }
+        ensures held { held_of self.new.log ++ taken_back_by result ≡ held_of self.old.log ++ held_by result }
+        ensures told { dropped_of self.new.log ≡ dropped_of self.old.log }
+    {
+        if judge.refuses(line.as_str()) {
+            return self.put_by(buffer, count, Aside::NoEntry(line));
+        }
+        self.hold(at, line, buffer, count)
+    }
+
     /// Takes a line that may be an entry's and isn't given to the desk at once.
-    fn take_entry(&mut self, at: Stand, buffer: &LineBuffer, count: usize) -> Typed
+    fn take_entry<J: Judge>(
+        &mut self,
+        judge: &J,
+        at: Stand,
+        buffer: &LineBuffer,
+        count: usize,
+    ) -> Typed
         requires count { count ≤ 128 }
         requires entry { is_entry (take count buffer.now) ≡ true }
         requires room { length (lost_of self.old.log) < 24 }
         ensures given { IsTyped result buffer.now (given_of self.old.log) (given_of self.new.log) }
         ensures typed { typed_of self.new.log ≡ typed_of self.old.log ++ Line (take count buffer.now) ∷ [] }
         ensures holds { self.old.is_deaf ≡ false → length (held_of self.old.log) < 24
-            → IsUtf8 (take count buffer.now) → bytes_of (held_by result) ≡ take count buffer.now ∷ [] }
+            → IsUtf8 (take count buffer.now) → J.refuses judge.now (take count buffer.now) ≡ false
+            → bytes_of (held_by result) ≡ take count buffer.now ∷ [] }
+        ensures refused { self.old.is_deaf ≡ false → IsUtf8 (take count buffer.now)
+            → J.refuses judge.now (take count buffer.now) ≡ true → bytes_of (refused_by result) ≡ take count buffer.now ∷ [] }
+        ensures refuses { All (λ line. J.refuses judge.now line.bytes ≡ true) (refused_by result) }
         ensures held { held_of self.new.log ++ taken_back_by result ≡ held_of self.old.log ++ held_by result }
         ensures told { dropped_of self.new.log ≡ dropped_of self.old.log }
     {
@@ -236,7 +274,7 @@ impl Queue {
         if self.is_deaf {
             return self.lose(line);
         }
-        self.hold(at, line, buffer, count)
+        self.hold_if_clear(judge, at, line, buffer, count)
     }
 
     /// Takes an `undo` that isn't given to the desk at once: it takes back the newest held line.
@@ -245,6 +283,7 @@ impl Queue {
         ensures given { IsTyped result buffer.now (given_of self.old.log) (given_of self.new.log) }
         ensures typed { typed_of self.new.log ≡ typed_of self.old.log ++ Line (take count buffer.now) ∷ [] }
         ensures held { held_of self.new.log ++ taken_back_by result ≡ held_of self.old.log ++ held_by result }
+        ensures refuses { refused_by result ≡ [] }
         ensures told { dropped_of self.new.log ≡ dropped_of self.old.log }
     {
         match self.held.pop() {
@@ -266,6 +305,7 @@ impl Queue {
         ensures given { IsTyped result buffer.now (given_of self.old.log) (given_of self.new.log) }
         ensures typed { typed_of self.new.log ≡ typed_of self.old.log ++ Line (take count buffer.now) ∷ [] }
         ensures held { held_of self.new.log ++ taken_back_by result ≡ held_of self.old.log ++ held_by result }
+        ensures refuses { refused_by result ≡ [] }
         ensures told { dropped_of self.new.log ≡ dropped_of self.old.log }
     {
         if self.is_deaf
@@ -283,6 +323,7 @@ impl Queue {
         ensures given { IsTyped result buffer.now (given_of self.old.log) (given_of self.new.log) }
         ensures typed { typed_of self.new.log ≡ typed_of self.old.log ++ Line (take count buffer.now) ∷ [] }
         ensures held { held_of self.new.log ++ taken_back_by result ≡ held_of self.old.log ++ held_by result }
+        ensures refuses { refused_by result ≡ [] }
         ensures told { dropped_of self.new.log ≡ dropped_of self.old.log }
     {
         if self.held.is_empty() {
@@ -297,6 +338,7 @@ impl Queue {
         ensures given { IsTyped result buffer.now (given_of self.old.log) (given_of self.new.log) }
         ensures typed { typed_of self.new.log ≡ typed_of self.old.log ++ Line (take count buffer.now) ∷ [] }
         ensures held { held_of self.new.log ++ taken_back_by result ≡ held_of self.old.log ++ held_by result }
+        ensures refuses { refused_by result ≡ [] }
         ensures told { dropped_of self.new.log ≡ dropped_of self.old.log }
     {
         self.log = self.log.unused(buffer, count);
@@ -313,6 +355,7 @@ impl Queue {
         ensures typed { typed_of self.new.log ≡ typed_of self.old.log ++ Line (take count buffer.now) ∷ [] }
         ensures line { result ≡ told_or_given (answer_to (handed_of self.old.log) at now (take count buffer.now)) count }
         ensures held { held_of self.new.log ++ taken_back_by result ≡ held_of self.old.log ++ held_by result }
+        ensures refuses { refused_by result ≡ [] }
         ensures told { dropped_of self.new.log ≡ dropped_of self.old.log }
     {
         match answer_to(self.handed, at, now, &buffer[..count]) {
@@ -322,15 +365,28 @@ impl Queue {
     }
 
     /// Takes a typed line, at the time `now` of the clock. If the desk's vote isn't cast and no line is held, the desk is
-    /// given any line at once, except an `undo` that may be meant for a held line given just before.
-    pub fn take(&mut self, at: Stand, now: u64, buffer: &LineBuffer, count: usize) -> Typed
+    /// given any line at once, except an `undo` that may be meant for a held line given just before. A line that means no entry,
+    /// whatever the book, is never held.
+    pub fn take<J: Judge>(
+        &mut self,
+        judge: &J,
+        at: Stand,
+        now: u64,
+        buffer: &LineBuffer,
+        count: usize,
+    ) -> Typed
         requires count { count ≤ 128 }
         requires room { length (lost_of self.old.log) < 24 }
         ensures given { IsTyped result buffer.now (given_of self.old.log) (given_of self.new.log) }
         ensures typed { typed_of self.new.log ≡ typed_of self.old.log ++ Line (take count buffer.now) ∷ [] }
         ensures holds { is_entry (take count buffer.now) ≡ true → self.old.is_deaf ≡ false → at.has_voted ≡ true
             → length (held_of self.old.log) < 24 → IsUtf8 (take count buffer.now)
+            → J.refuses judge.now (take count buffer.now) ≡ false
             → bytes_of (held_by result) ≡ take count buffer.now ∷ [] }
+        ensures refused { is_entry (take count buffer.now) ≡ true → self.old.is_deaf ≡ false → at.has_voted ≡ true
+            → IsUtf8 (take count buffer.now) → J.refuses judge.now (take count buffer.now) ≡ true
+            → bytes_of (refused_by result) ≡ take count buffer.now ∷ [] }
+        ensures refuses { All (λ line. J.refuses judge.now line.bytes ≡ true) (refused_by result) }
         ensures passes { self.old.is_deaf ≡ false → at.has_voted ≡ false → held_of self.old.log ≡ []
             → result ≡ told_or_given (answer_to (handed_of self.old.log) at now (take count buffer.now)) count }
         ensures held { held_of self.new.log ++ taken_back_by result ≡ held_of self.old.log ++ held_by result }
@@ -340,7 +396,7 @@ impl Queue {
             return self.take_at_once(at, now, buffer, count);
         }
         match sort_of(&buffer[..count]) {
-            Sort::Entry => self.take_entry(at, buffer, count),
+            Sort::Entry => self.take_entry(judge, at, buffer, count),
             Sort::Undo => self.take_undo(at, buffer, count),
             Sort::Quit => self.take_quit(buffer, count),
             Sort::Again => self.take_again(at, buffer, count),
@@ -374,16 +430,17 @@ impl Queue {
 
 /// A scorer's keyboard that holds some lines back: what the desk is given of the typed lines, and when.
 #[derive(Drop)]
-pub struct Ahead<K: Keys, C: Clock> {
+pub struct Ahead<K: Keys, C: Clock, J: Judge> {
     keys: K,
     clock: C,
+    judge: J,
     queue: Queue,
     ghost typed: { K.inputs keys ≡ typed_of queue.log },
 }
 
-impl<K: Keys, C: Clock> Ahead<K, C> {
-    /// Returns the lines of a keyboard that gave nothing yet, with this clock.
-    pub fn new(keys: K, clock: C) -> Ahead<K, C>
+impl<K: Keys, C: Clock, J: Judge> Ahead<K, C, J> {
+    /// Returns the lines of a keyboard that gave nothing yet, with this clock, and with this judge of what is to be held.
+    pub fn new(keys: K, clock: C, judge: J) -> Ahead<K, C, J>
         requires { K.inputs keys ≡ [] }
         ensures given { given_of (result.queue).log ≡ [] }
         ensures keys { result.keys ≡ keys }
@@ -391,6 +448,7 @@ impl<K: Keys, C: Clock> Ahead<K, C> {
         Ahead {
             keys,
             clock,
+            judge,
             queue: Queue::new(),
         }
     }
@@ -417,7 +475,7 @@ impl<K: Keys, C: Clock> Ahead<K, C> {
     }
 }
 
-impl<K: Keys, C: Clock> Keys for Ahead<K, C> {
+impl<K: Keys, C: Clock, J: Judge> Keys for Ahead<K, C, J> {
     ghost use Rattle.ahead.specs.Dropping.{differs_since, dropped_by, is_not_taken};
 
     ghost inputs = { λ ahead. given_of (ahead.queue).log };
@@ -436,7 +494,7 @@ impl<K: Keys, C: Clock> Keys for Ahead<K, C> {
             due => return due,
         }
         match self.keys.line(at, buffer) {
-            Typed::Line(count) => self.queue.take(at, now, buffer, count),
+            Typed::Line(count) => self.queue.take(&self.judge, at, now, buffer, count),
             Typed::Ended => {
                 self.queue.stop();
                 Typed::Nothing

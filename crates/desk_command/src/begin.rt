@@ -8,7 +8,8 @@ ghost use Rattle.desk_command.specs.Traces.{IsWideSheetOf};
 
 use crate::desk_disk::{desk_disk_at, empty_book};
 use crate::desk_screen::{DeskScreen, LinkErrors};
-use crate::life::{Kept, Life, Paths, keep_on};
+use crate::judge::SheetJudge;
+use crate::life::{Kept, Life, Paths, Source, keep_on};
 use crate::page::{Page, PageSquares};
 use ahead::Ahead;
 use cards::Columns;
@@ -176,8 +177,8 @@ pub fn start_desk<'a>(
 {
     let file = setting.file;
     let copy = setting.copy;
-    let source = wide_sheet_at(rt, setting.sheet, setting.columns)?;
-    let sheet = &source.sheet;
+    let SheetFile { path, text, sheet } = wide_sheet_at(rt, setting.sheet, setting.columns)?;
+    let sheet = &sheet;
     let sealing = Sealing::of(
         rt,
         sheet,
@@ -197,7 +198,11 @@ pub fn start_desk<'a>(
     let keyboard = Keyboard::of_standard_input(rt, lines);
     let ends = page.ends_with(keyboard.descriptor());
     let squares = PageSquares::of(rt, &page, Shared::of(&errors));
-    let keys = Ahead::new(PageWords::of(keyboard, squares), MonotonicClock::new(rt));
+    let keys = Ahead::new(
+        PageWords::of(keyboard, squares),
+        MonotonicClock::new(rt),
+        SheetJudge::of(sheet),
+    );
     let lasts = [LastFault::new(None), LastFault::new(None)];
     let book = empty_book(rt, sheet)?;
     let disk = desk_disk_at(rt, sheet, setting.desk, file, copy, &lasts)?;
@@ -232,7 +237,7 @@ pub fn start_desk<'a>(
     } = keep_on(
         rt,
         beginning,
-        source,
+        Source { path, text, sheet },
         outside,
         page.audience(),
         Paths {

@@ -6,7 +6,7 @@ ghost use Rattle.machine.specs.Screens.{text_of};
 ghost use Rattle.streams.specs.Watched.{Prints, TellsFailure, stream_of};
 ghost use Rattle.desk_command.specs.Ends as ends;
 
-use ahead::Ahead;
+use ahead::{Ahead, Judge};
 use links::{Clock, Keys};
 use live::{DeskEnd, LifeEnd};
 use machine::Written;
@@ -25,11 +25,11 @@ pub trait Recorded: Write {
 }
 
 /// Tells which lines are dropped, if a desk ended by itself: its disk failed.
-fn tell_dropped<K: Keys, C: Clock, W: Sink>(
+fn tell_dropped<K: Keys, C: Clock, J: Judge, W: Sink>(
     out: &mut Watched<W>,
     columns: usize,
     ended: Result<(), LifeEnd>,
-    keys: &mut Ahead<K, C>,
+    keys: &mut Ahead<K, C, J>,
 ) -> Result<(), WriteFailed>
     requires { columns ≤ most_columns }
     ensures text { OnOk result (Prints W.contents out.old out.new (ends.last_told ended columns (keys.old.queue).log)) }
@@ -56,11 +56,11 @@ pub struct Ending<W> {
 }
 
 /// Ends a desk's screen after its process: tells which lines are dropped, if the process ended by itself.
-pub fn end_screen<K: Keys, C: Clock, W: Recorded>(
+pub fn end_screen<K: Keys, C: Clock, J: Judge, W: Recorded>(
     out: Watched<W>,
     columns: usize,
     ended: Result<(), LifeEnd>,
-    keys: &mut Ahead<K, C>,
+    keys: &mut Ahead<K, C, J>,
 ) -> Ending<W>
     requires { columns ≤ most_columns }
     ensures told { W.contents (stream_of out) ≡ Some (text_of result.told) }

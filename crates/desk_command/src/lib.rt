@@ -5,6 +5,7 @@ mod begin;
 mod desk_disk;
 mod desk_screen;
 mod ending;
+mod judge;
 mod key;
 mod laws;
 mod life;

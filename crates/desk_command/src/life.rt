@@ -15,7 +15,7 @@ use crate::desk_disk::DeskDisk;
 use crate::ending::{Ending, Recorded, end_screen};
 use crate::page::Audience;
 use agree_core::DeskId;
-use ahead::Ahead;
+use ahead::{Ahead, Judge};
 use cards::MatchSheet;
 use corrections::CheckedBook;
 use entry_log::Slots;
@@ -25,7 +25,7 @@ use machine::{Keyboard, MonotonicClock, Written};
 use posts::PostedLog;
 use screen::{TellLog, Tells};
 use seal::CarriedLog;
-use setup::{Sealing, SheetFile, StationLink};
+use setup::{Sealing, StationLink};
 use station_pages::{PageLines, PageSight, PageTeller, PageWords, Squares};
 use std::io::{Read, Write};
 use std::snapshot::Snapshot;
@@ -155,6 +155,13 @@ pub struct Paths<'a> {
     pub key: Option<&'a str>,
 }
 
+/// A desk's match sheet, the path of its file, and what was read there, which clauses alone read.
+pub struct Source<'s, 'a> {
+    pub path: &'a str,
+    pub text: Snapshot<Vec<u8>>,
+    pub sheet: &'s MatchSheet,
+}
+
 /// A desk whose process was kept: its life, its scorer's lines, and its screen, with whether a write to it has failed. Its
 /// socket is closed.
 pub struct Kept<'a, K: Keys, W> {
@@ -166,13 +173,13 @@ pub struct Kept<'a, K: Keys, W> {
 
 /// Keeps the process of a desk whose scorer types at a keyboard and in a page, and hasn't typed yet. Returns the life that the
 /// desk had.
-pub fn keep_on<'a, L: Carries + Drop, K: Enters, S: Squares, C: Clock, W: Recorded>(
+pub fn keep_on<'a, L: Carries + Drop, K: Enters, S: Squares, C: Clock, J: Judge, W: Recorded>(
     rt: &HostRuntime,
     beginning: Beginning<DeskDisk<'_>, CheckedBook>,
-    source: SheetFile<'a>,
+    source: Source<'_, 'a>,
     outside: Outside<
         L,
-        Ahead<PageWords<K, S>, C>,
+        Ahead<PageWords<K, S>, C, J>,
         MonotonicClock<'_, HostRuntime>,
         W,
         PageTeller<'_>,
@@ -180,12 +187,12 @@ pub fn keep_on<'a, L: Carries + Drop, K: Enters, S: Squares, C: Clock, W: Record
     audience: Audience<'_>,
     paths: Paths<'a>,
     sealing: &Sealing,
-) -> Kept<'a, Ahead<PageWords<K, S>, C>, W>
+) -> Kept<'a, Ahead<PageWords<K, S>, C, J>, W>
     requires empty { (beginning.book).entries ≡ [] }
-    requires innings { (beginning.book).innings_a_side ≡ (source.sheet).innings }
-    requires read { IsWideSheetOf (source.text).value.items source.sheet }
+    requires innings { (beginning.book).innings_a_side ≡ ((source.sheet).now).innings }
+    requires read { IsWideSheetOf (source.text).value.items (source.sheet).now }
     requires opened { L.log outside.link ≡ opened sealing.now.ring ∷ [] }
-    requires sealed { WasSealed beginning.desk (option_copied paths.key) source.sheet sealing.now }
+    requires sealed { WasSealed beginning.desk (option_copied paths.key) (source.sheet).now sealing.now }
     requires untyped { given_of ((outside.keys).queue).log ≡ [] }
     requires untold { W.contents (stream_of outside.out) ≡ Some [] }
     requires none { tellings_of (outside.teller).log ≡ [] }
@@ -199,14 +206,14 @@ pub fn keep_on<'a, L: Carries + Drop, K: Enters, S: Squares, C: Clock, W: Record
     ensures written { W.contents result.screen ≡ Some (text_of (result.life).written) }
     ensures failed { OnErr (result.life).last (result.has_failed ≡ true) }
 {
-    let SheetFile {
+    let Source {
         path: sheet_path,
         text,
         sheet,
     } = source;
     let desk = beginning.desk;
     let mut outside = outside;
-    let ended = keep(rt, beginning, &sheet, &mut outside, audience);
+    let ended = keep(rt, beginning, sheet, &mut outside, audience);
     let Outside {
         link,
         mut keys,
@@ -232,7 +239,7 @@ pub fn keep_on<'a, L: Carries + Drop, K: Enters, S: Squares, C: Clock, W: Record
         ended,
         last,
         text,
-        sheet: Snapshot::of(&sheet),
+        sheet: Snapshot::of(sheet),
         sealing: Snapshot::of(sealing),
         typed: Snapshot::of(keys.keys().given()),
         entered: Snapshot::of(entered),

@@ -2,7 +2,7 @@
 
 /// What may be run and loaded in the page: its own style and script, and what it asks of its station.
 pub const POLICY: &[u8] =
-    b"default-src 'none'; script-src 'sha256-AbhNX/GD3/bevP7lRCWd322LMQlhXhsRlSIYt+F8lrQ='; style-src 'sha256-0ZKKWf7R5NDmGbg4nMC1Ob6bZMNbyPmlquqf8niehXk='; connect-src 'self'; img-src data:; base-uri 'none'; form-action 'none'; frame-ancestors 'none'";
+    b"default-src 'none'; script-src 'sha256-O7X4bRk9sbCcmQaY+BM45OUejOpXY3u6G1bgBDVUR00='; style-src 'sha256-0ZKKWf7R5NDmGbg4nMC1Ob6bZMNbyPmlquqf8niehXk='; connect-src 'self'; img-src data:; base-uri 'none'; form-action 'none'; frame-ancestors 'none'";
 
 /// The page.
 pub const PAGE: &[u8] = b"<!DOCTYPE html>
@@ -600,7 +600,7 @@ function take(next) {
 // ---- What each telling says, by its code: docs/FORMATS.md. Its rows are for showing alone.
 const ANSWERS = new Set([\"shown\", \"goes_on\", \"plan\", \"no_plan\"]);
 const UNWRITTEN = new Set([\"unclear\", \"say_again\", \"none_differs\", \"waiting\", \"withheld\", \"refused\",
-  \"not_taken\", \"dropped\", \"full\", \"no_text\", \"was_held\", \"untaken\", \"is_cast\"]);
+  \"not_taken\", \"dropped\", \"full\", \"no_text\", \"no_entry\", \"was_held\", \"untaken\", \"is_cast\"]);
 // Those of them that may come long after the line was typed, as may what comes right before `not_taken`, and says why.
 const LATE = new Set([\"not_taken\", \"dropped\"]);
 const WARNINGS = new Set([\"other_lacks\", \"lacks_lines\", \"peer\", \"network\"]);
