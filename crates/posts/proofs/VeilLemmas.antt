@@ -1,10 +1,12 @@
--- A text XORed twice is as it was.
-use Rattle.std.proofs.Common.{◌≡◌, ◌≢◌, ◌∙◌, ◌<◌, ◌+◌, ◌/◌, ◌%◌, ℕ, zero, suc, Bool, true, false, List, [], ◌∷◌, ◌++◌, Option, None, Some, length, get_or, set, take, drop, if◌then◌else◌, bytes_eq, bit_xor, AllPairs, All, arith, refl, sym, ap}
-use Rattle.std.proofs.lemmas.List.{drop-drop, drop-set-lt, get_or-drop, take_more, take_more_set}
+-- A text XORed twice is as it was. What opens is the frame of its text.
+use Rattle.std.proofs.Common.{◌≡◌, ◌≢◌, ◌↔◌, ◌∙◌, ◌<◌, ◌+◌, ◌/◌, ◌%◌, ℕ, zero, suc, Bool, true, false, List, [], ◌∷◌, ◌++◌, Option, None, Some, length, get_or, set, take, drop, if◌then◌else◌, bytes_eq, bit_xor, AllPairs, All, arith, refl, sym, ap}
+use Rattle.std.proofs.lemmas.List.{drop-drop, drop-set-lt, get_or-drop, take-append-drop, take_all, take_at, drop_at, take_more, take_more_set}
 use Rattle.std.proofs.lemmas.List.Elements.{All-nil, All-cons}
 use Rattle.std.proofs.lemmas.List.Kept.{AllPairs-cons}
+use Rattle.std.proofs.lemmas.Option.{none-some, same_Some}
 use Rattle.std.proofs.lemmas.Slice.Eq.{bytes_eq-Decides}
-use Rattle.posts.specs.Veils.{block, frame_tag, hidden_by, opened, page_seed, stream_byte, stream_key, turned, turned_from}
+use Rattle.sha2.proofs.Facts256.{length-sha256}
+use Rattle.posts.specs.Veils.{block, frame, frame_tag, hidden_by, opened, opened_frame, page_seed, stream_byte, stream_key, turned, turned_from}
 use Rattle.posts.specs.Runs.{Call, numbers}
 use Rattle.posts.specs.Runs.Call.{Give, Hide, Judge, Look, Renew}
 use Rattle.posts.proofs.TicketLemmas.{xor_twice}
@@ -69,6 +71,50 @@ reads_nothing secret number tag hidden other = by_test (bytes_eq tag (frame_tag 
         → ◌≡◌ {A = Option (List ℕ)} (if b then Some (turned secret (page_seed number) hidden) else None) None
     by_test true e = absurd (other ((bytes_eq-Decides tag (frame_tag secret number hidden)).0 e))
     by_test false e = refl
+
+-- the text of what opens is turned into the same bytes again
+hidden_again : (secret : List ℕ) (number : ℕ) (hidden : List ℕ) → hidden_by secret number (turned secret (page_seed number) hidden) ≡ hidden
+hidden_again secret number hidden = turned-twice (stream_key secret) (page_seed number) 0 hidden
+
+-- a frame that is shorter than a tag opens as nothing
+pub opened_short : (secret : List ℕ) (number : ℕ) (bytes : List ℕ) → length bytes < 32 → opened_frame secret number bytes ≡ None
+opened_short secret number bytes short = reads_nothing secret number (take 32 bytes) (drop 32 bytes) (λ is.
+    let whole : length (frame_tag secret number (drop 32 bytes)) ≡ 32 = length-sha256 _ in
+    let cut : length (take 32 bytes) ≡ length bytes = ap length (take_all 32 bytes (omega (arith, short))) in
+    omega (arith, whole, cut, short, ap length is))
+
+-- with this tag the text of these bytes opens, and nothing else
+tag_of_opened : (secret : List ℕ) (number : ℕ) (tag hidden text : List ℕ) → opened secret number tag hidden ≡ Some text
+    → (tag ≡ frame_tag secret number hidden) × (text ≡ turned secret (page_seed number) hidden)
+tag_of_opened secret number tag hidden text = by_test (bytes_eq tag (frame_tag secret number hidden)) refl
+  where
+    by_test : (b : Bool) → bytes_eq tag (frame_tag secret number hidden) ≡ b
+        → ◌≡◌ {A = Option (List ℕ)} (if b then Some (turned secret (page_seed number) hidden) else None) (Some text)
+        → (tag ≡ frame_tag secret number hidden) × (text ≡ turned secret (page_seed number) hidden)
+    by_test true e opens = ((bytes_eq-Decides tag (frame_tag secret number hidden)).0 e, sym (same_Some _ _ opens))
+    by_test false e opens = absurd (none-some text opens)
+
+pub opens_just : (secret : List ℕ) (number : ℕ) (bytes text : List ℕ)
+    → (opened_frame secret number bytes ≡ Some text) ↔ (bytes ≡ frame secret number text)
+opens_just secret number bytes text = (only, all)
+  where
+    only : opened_frame secret number bytes ≡ Some text → bytes ≡ frame secret number text
+    only opens =
+        let found = tag_of_opened secret number (take 32 bytes) (drop 32 bytes) text opens in
+        let again : hidden_by secret number text ≡ drop 32 bytes =
+        ap (hidden_by secret number) found.1 ∙ hidden_again secret number (drop 32 bytes) in
+        sym (take-append-drop 32 bytes) ∙ ap (λ tag. tag ++ drop 32 bytes) found.0
+        ∙ ap (λ hidden. frame_tag secret number hidden ++ hidden) (sym again)
+
+    all : bytes ≡ frame secret number text → opened_frame secret number bytes ≡ Some text
+    all is =
+        let hidden = hidden_by secret number text in
+        let tag = frame_tag secret number hidden in
+        let long : length tag ≡ 32 = length-sha256 _ in
+        ap (opened_frame secret number) is
+        ∙ ap (λ front. opened secret number front (drop 32 (tag ++ hidden))) (take_at tag hidden 32 long)
+        ∙ ap (λ rest. opened secret number tag rest) (drop_at tag hidden 32 long)
+        ∙ reads secret number text
 
 -- ---- numbers
 

@@ -1,6 +1,6 @@
--- How a text is encrypted between a desk and its page: by a keystream of HMAC-SHA-256 in counter mode, under keys made from the
--- page's secret, one for each use.
-use Rattle.std.specs.Prelude.{ℕ, ◌+◌, ◌/◌, ◌%◌, if◌then◌else◌, bytes_eq, List, [], ◌∷◌, ◌++◌, codes, decimal, get_or, bit_xor, Option, None, Some}
+-- How a text is encrypted between a desk and its page, and between two machines with one code: by a keystream of HMAC-SHA-256 in
+-- counter mode, under keys made from a secret, one for each use.
+use Rattle.std.specs.Prelude.{ℕ, ◌+◌, ◌/◌, ◌%◌, if◌then◌else◌, bytes_eq, List, [], ◌∷◌, ◌++◌, take, drop, codes, decimal, get_or, bit_xor, Option, None, Some}
 use Rattle.seal.specs.Hmac.{hmac}
 
 abbrev pub stream_key : List ℕ → List ℕ
@@ -52,3 +52,7 @@ frame secret number text = frame_tag secret number (hidden_by secret number text
 abbrev pub opened : List ℕ → ℕ → List ℕ → List ℕ → Option (List ℕ)
 opened secret number tag hidden =
     if bytes_eq tag (frame_tag secret number hidden) then Some (turned secret (page_seed number) hidden) else None
+
+-- what is read of a frame that came with this number: its first 32 bytes are the tag. A shorter one has no text's tag
+abbrev pub opened_frame : List ℕ → ℕ → List ℕ → Option (List ℕ)
+opened_frame secret number bytes = opened secret number (take 32 bytes) (drop 32 bytes)

@@ -1,6 +1,8 @@
 -- Worked examples, computed by Python's hmac module: both keys of the secret 00 01 .. 0f, and the second block of the keystream
--- of number 7.
+-- of number 7; and, with the nonces 10 11 .. 2f, the secret of the direction `offer`.
 use Rattle.std.specs.Prelude.{◌≡◌, ℕ, List, [], ◌∷◌}
+use Rattle.posts.specs.Exchanges.{direction_secret}
+use Rattle.posts.specs.declared.exchange.Direction.TheVariants.{Offer}
 use Rattle.posts.specs.Veils.{block, frame_key, page_seed, stream_key}
 
 abbrev pub secret : List ℕ
@@ -21,3 +23,12 @@ abbrev pub WorkedBlock : Type 0
 WorkedBlock = block stream (page_seed 7) 1 ≡
     0x97 ∷ 0x8c ∷ 0x54 ∷ 0x68 ∷ 0x5c ∷ 0xd7 ∷ 0x0a ∷ 0xe5 ∷ 0x6d ∷ 0x88 ∷ 0xfd ∷ 0xc7 ∷ 0x1e ∷ 0xd1 ∷ 0x4f ∷ 0x5e
     ∷ 0x4b ∷ 0x92 ∷ 0x22 ∷ 0x67 ∷ 0x3d ∷ 0x09 ∷ 0x0b ∷ 0x66 ∷ 0x5b ∷ 0x87 ∷ 0x82 ∷ 0x4f ∷ 0xdd ∷ 0x98 ∷ 0x6e ∷ 0x70 ∷ []
+
+abbrev pub nonces : List ℕ
+nonces =
+    16 ∷ 17 ∷ 18 ∷ 19 ∷ 20 ∷ 21 ∷ 22 ∷ 23 ∷ 24 ∷ 25 ∷ 26 ∷ 27 ∷ 28 ∷ 29 ∷ 30 ∷ 31
+    ∷ 32 ∷ 33 ∷ 34 ∷ 35 ∷ 36 ∷ 37 ∷ 38 ∷ 39 ∷ 40 ∷ 41 ∷ 42 ∷ 43 ∷ 44 ∷ 45 ∷ 46 ∷ 47 ∷ []
+
+abbrev pub WorkedDirection : Type 0
+WorkedDirection = direction_secret (record { secret = secret; nonces = nonces }) Offer ≡
+    0x41 ∷ 0x8b ∷ 0x81 ∷ 0x55 ∷ 0x99 ∷ 0x0f ∷ 0xf0 ∷ 0xd3 ∷ 0xce ∷ 0x51 ∷ 0x0e ∷ 0x91 ∷ 0x59 ∷ 0x22 ∷ 0x91 ∷ 0x9b ∷ []

@@ -1,13 +1,15 @@
 //! What posts can't do. These functions do nothing: each stands for the law that it ensures.
 
-ghost use Rattle.std.specs.Prelude.{◌≡◌, ◌≢◌, ◌<◌, ◌≤◌, ℕ, List, [], AllPairs, None, Ok, Option, Some, false, length, true};
+ghost use Rattle.std.specs.Prelude.{◌≡◌, ◌≢◌, ◌<◌, ◌≤◌, ◌↔◌, ℕ, List, [], AllPairs, None, Ok, Option, Some, false, length, true};
 ghost use Rattle.agree_core.specs.declared.position.Position.{Position};
+ghost use Rattle.posts.specs.declared.exchange.{Direction.Direction, Exchange.Exchange};
 ghost use Rattle.posts.specs.declared.judging.Post.{Post};
+ghost use Rattle.posts.specs.Exchanges as exchanges;
 ghost use Rattle.posts.specs.Posts.{IsPostOf, IsTaken, is_line, is_out, verdict};
 ghost use Rattle.posts.specs.Runs.{Call, accepted, numbers};
 ghost use Rattle.posts.specs.Tickets.{Asking, IsHanded, handed, handed_in};
 ghost use Rattle.posts.specs.Veils.{frame_tag, hidden_by, opened};
-ghost use Rattle.posts.specs.WorkedVeils.{WorkedBlock, WorkedKeys};
+ghost use Rattle.posts.specs.WorkedVeils.{WorkedBlock, WorkedDirection, WorkedKeys};
 ghost use Rattle.posts.specs.declared.tickets.Ticket.{Ticket};
 ghost use Rattle.screen.specs.Words.{is_end};
 
@@ -34,6 +36,13 @@ pub fn what_a_page_reads()
         → tag ≢ frame_tag secret number hidden → opened secret number tag hidden ≡ None }
 {}
 
+/// Of two machines with one secret: what opens in a direction under a number is the frame of its text, sealed with the secret in
+/// that direction under that number, and with the secret each such frame is read. Everything else opens as nothing.
+pub fn what_a_frame_says()
+    ensures { (exchange : Exchange) (direction : Direction) (number : ℕ) (bytes text : List ℕ)
+        → (exchanges.opened exchange direction number bytes ≡ Some text) ↔ (bytes ≡ exchanges.sealed exchange direction number text) }
+{}
+
 /// Over any list of calls, even if the secret changes, each text is encrypted under a greater number than those before.
 pub fn each_number_once()
     ensures { (number : ℕ) (calls : List Call) → AllPairs (λ m n. m < n) (numbers number calls) }
@@ -56,8 +65,9 @@ pub fn each_ticket_once()
     ensures { (ticket : Option Ticket) (asking : List Asking) → length (handed_in ticket asking) ≤ 1 }
 {}
 
-/// Both keys of a secret, and a block of a keystream, as Python's `hmac` computes them.
+/// Both keys of a secret, a block of a keystream, and the secret of a direction, as Python's `hmac` computes them.
 pub fn worked_frames()
     ensures keys { WorkedKeys }
     ensures block { WorkedBlock }
+    ensures direction { WorkedDirection }
 {}

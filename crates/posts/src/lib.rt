@@ -1,8 +1,9 @@
 //! Who may type from a page: whoever has its secret, which the ticket of its square gives once; each post is for the desk's
 //! position and is good once. A pass made with the secret keeps a viewer's place there safe. What a desk and its page tell each
-//! other is encrypted by the secret.
+//! other is encrypted by the secret; so is what two machines with one code tell each other.
 #![tactic(auto)]
 
+mod exchange;
 mod judging;
 mod laws;
 mod nonces;
@@ -14,10 +15,11 @@ mod tags;
 mod tickets;
 mod veil;
 
+pub use exchange::{Direction, Exchange};
 pub use judging::{Post, Posts};
 pub use laws::{
-    each_nonce_once, each_number_once, each_ticket_once, what_a_page_reads, what_a_ticket_gives,
-    what_is_taken, what_is_typed, worked_frames,
+    each_nonce_once, each_number_once, each_ticket_once, what_a_frame_says, what_a_page_reads,
+    what_a_ticket_gives, what_is_taken, what_is_typed, worked_frames,
 };
 pub use posted::PostedLine;
 pub use posted_log::PostedLog;

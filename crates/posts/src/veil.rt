@@ -1,16 +1,19 @@
-//! Encrypts texts between a desk and its page, by the page's secret.
+//! Encrypts texts by a secret, as between a desk and its page, and opens them.
 
-ghost use Rattle.std.specs.Prelude.{◌≡◌, ◌≢◌, ◌≤◌, ◌/◌, ◌%◌, ◌++◌, IfOk, length};
+ghost use Rattle.std.specs.Prelude.{◌≡◌, ◌≢◌, ◌≤◌, ◌/◌, ◌%◌, ◌++◌, IfOk, MatchOption, None, Some, length};
 ghost use Rattle.arrayvec.specs.ArrayVec.{array_vec_len};
 ghost use Rattle.posts.specs.Veils as veils;
 
-use crate::tags::{Tagged, put};
+use crate::tags::{Tagged, is_same, put};
 use itoa::Buffer;
 use seal::hmac;
 use std::alloc::{AllocError, Global};
 
 /// The length of a keystream block, in bytes.
 const BLOCK: usize = 32;
+
+/// The length of a tag, in bytes.
+const TAG: usize = 32;
 
 /// A text encrypted for the page.
 #[derive(Drop)]
@@ -145,4 +148,43 @@ pub fn frame_of(
     bytes.extend_from_slice(tag.as_slice())?;
     bytes.extend_from_slice(hidden.as_slice())?;
     Ok(bytes)
+}
+
+/// Returns the text of encrypted bytes that came with this number and tag: nothing where the tag isn't theirs.
+fn open_hidden(
+    alloc: Global,
+    secret: &[u8; 16],
+    number: u64,
+    tag: &[u8; 32],
+    hidden: &[u8],
+) -> Result<Option<Vec<u8>>, AllocError>
+    ensures { IfOk result (λ found. MatchOption found
+        (veils.opened secret.now number tag.now hidden.now ≡ None)
+        (λ text. veils.opened secret.now number tag.now hidden.now ≡ Some text.items)) }
+{
+    if !is_same(tag, &frame_tag(alloc, secret, number, hidden)?) {
+        return Ok(None);
+    }
+    Ok(Some(hidden_by(alloc, secret, number, hidden)?))
+}
+
+/// Returns the text of a frame that came with this number: nothing where the frame is shorter than a tag, or its tag isn't that
+/// of its bytes.
+pub fn open_frame(
+    alloc: Global,
+    secret: &[u8; 16],
+    number: u64,
+    bytes: &[u8],
+) -> Result<Option<Vec<u8>>, AllocError>
+    ensures { IfOk result (λ found. MatchOption found
+        (veils.opened_frame secret.now number bytes.now ≡ None)
+        (λ text. veils.opened_frame secret.now number bytes.now ≡ Some text.items)) }
+{
+    if bytes.len() < TAG {
+        return Ok(None);
+    }
+    let (front, hidden) = bytes.split_at(TAG);
+    let mut tag = [0; TAG];
+    tag.copy_from_slice(front);
+    open_hidden(alloc, secret, number, &tag, hidden)
 }

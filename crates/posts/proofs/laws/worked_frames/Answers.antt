@@ -10,3 +10,7 @@ returns-clause-keys c = record { of_stream = refl; of_frames = refl }
 pub returns-clause-block : goal.returns-clause-block
 unfolding digits first_words schedule rounds compress hash_after digest_bytes sha256
 returns-clause-block c = refl
+
+pub returns-clause-direction : goal.returns-clause-direction
+unfolding first_words schedule rounds compress hash_after digest_bytes sha256
+returns-clause-direction c = refl
