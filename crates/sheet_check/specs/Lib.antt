@@ -12,3 +12,5 @@ pub mod Displays
 pub mod Handed
 pub mod Reports
 pub mod SheetRows
+pub mod Chosen
+pub mod Writing

@@ -2,6 +2,7 @@
 #![tactic(auto)]
 
 mod addresses;
+mod chosen;
 mod displays;
 mod faults;
 mod handed;
@@ -14,8 +15,10 @@ mod sheet_rows;
 mod sides;
 mod stations;
 mod twice;
+mod writing;
 
 pub use addresses::is_address;
+pub use chosen::{ChosenFault, Field, chosen_in};
 pub use handed::{day_of, is_fine_document, meta_at, revision_of};
 pub use laws::{
     fine_documents_have_no_fault, fine_sheets_have_no_fault, first_fault_is_the_number,
@@ -24,3 +27,4 @@ pub use letters::shown;
 pub use putting::Fault;
 pub use report::{faults_of, first_line, handed_report_of, report_of};
 pub use sheet_rows::shown_sheet;
+pub use writing::{chosen_sheets_name_no_files, sheet_text};
