@@ -5,12 +5,14 @@ use Rattle.match_laws.specs.History.{opponent}
 use Rattle.cards.specs.Sheet.{Sheet, name_of}
 use Rattle.json.specs.Json.{Json, boolean}
 use Rattle.json_fields.specs.Values.{Field, array_of, number_field, object_of, text_field}
+use Rattle.scoreboard.specs.Displayed.{side_key}
 use Rattle.scoreboard.specs.Innings.{batter_value, bowler_value, extras_value, fall_value, is_closed, names_of, overs_text, values_from}
 use Rattle.same_figures.specs.Figures.{Figures}
 
 abbrev pub score_fields : Sheet → History → ℕ → Figures → List Field
 score_fields s h i f =
     text_field (codes "team") (name_of s f.side) ∷ []
+    ++ text_field (codes "side") (side_key f.side) ∷ []
     ++ number_field (codes "runs") f.total ∷ []
     ++ number_field (codes "wickets") f.wickets ∷ []
     ++ text_field (codes "overs") (overs_text f.overs f.balls) ∷ []

@@ -1,5 +1,6 @@
 -- The sheet that is read of the document of a match's fields is the one that they mean.
-use Rattle.std.proofs.Common.{◌≡◌, ◌≢◌, ◌⊎◌, ◌≤◌, ◌==◌, ◌&&◌, ◌∙◌, ℕ, ℤ, pos, nat_le, Bool, true, false, if◌then◌else◌, zero, suc, List, [], ◌∷◌, map, Option, Some, None, Result, Ok, Err, codes, option_map, option_and_then, unwrap_or, bytes_eq, inl, inr, refl, ap, sym, arith, IsUtf8}
+use Rattle.std.proofs.Common.{◌≡◌, ◌≢◌, ◌⊎◌, ◌≤◌, ◌==◌, ◌&&◌, ◌∙◌, ℕ, ℤ, pos, nat_le, Bool, true, false, if◌then◌else◌, zero, suc, List, [], ◌∷◌, map, Option, Some, None, Result, Ok, Err, codes, option_map, option_and_then, unwrap_or, bytes_eq, inl, inr, refl, ap, sym, arith, IsUtf8, nat_cmp, is_eq}
+use Rattle.std.specs.Cmp.Lexicographic.{slice_cmp}
 use Rattle.std.proofs.lemmas.Bool.{false≢true}
 use Rattle.std.proofs.lemmas.Option.{same_Some}
 use Rattle.std.specs.List.{list_all}
@@ -8,6 +9,7 @@ use Rattle.toml.specs.Parse.{parse_document}
 use Rattle.toml.specs.View.{items_of}
 use Rattle.limits.specs.Limits.{no_limits}
 use Rattle.limits.specs.Reading.{limits_from, limits_in}
+use Rattle.cards.specs.Display.{display_in, display_or_none, no_display}
 use Rattle.cards.specs.Reading as reads
 use Rattle.cards.specs.Reading.{◌>>=◌, HasTable, IsReading, checked_names, checked_number, checked_text, count_of, eleven_names, greatest_game, of_kind, sheet_from, team_from}
 use Rattle.cards.specs.Sheet.{Sheet, Team, is_name, is_text, longest_name, longest_title, usual_columns}
@@ -97,16 +99,30 @@ limits_held fs =
     ∙ past (codes "limits") (codes "number") (number_in (codes "number") fs) (titled fs) refl
     ∙ past (codes "limits") (codes "title") (title_in fs) no_members refl)
 
+-- a key is none of the document's
+abbrev IsOther : List ℕ → List ℕ → Type 0
+IsOther key own = is_eq (slice_cmp nat_cmp key own) ≡ false
+
+absent : (key : List ℕ) (fs : List Field) → IsOther key (codes "info") → IsOther key (codes "limits") → IsOther key (codes "away")
+    → IsOther key (codes "home") → IsOther key (codes "innings") → IsOther key (codes "number") → IsOther key (codes "title")
+    → get_member key (document_of fs) ≡ None
+absent key fs info limits away home innings number title =
+    past key (codes "info") (filled (info_table fs)) (with_limits fs) info
+    ∙ past key (codes "limits") (filled (limits_table fs)) (sides_table fs) limits
+    ∙ past key (codes "away") (side_in (codes "away") (codes "away_player") fs) (with_home fs) away
+    ∙ past key (codes "home") (side_in (codes "home") (codes "home_player") fs) (head_table fs) home
+    ∙ past key (codes "innings") (number_in (codes "innings") fs) (numbered fs) innings
+    ∙ past key (codes "number") (number_in (codes "number") fs) (titled fs) number
+    ∙ past key (codes "title") (title_in fs) no_members title
+
 -- no key names stations, whose table names files
 pub no_stations : (fs : List Field) → get_member (codes "stations") (document_of fs) ≡ None
-no_stations fs =
-    past (codes "stations") (codes "info") (filled (info_table fs)) (with_limits fs) refl
-    ∙ past (codes "stations") (codes "limits") (filled (limits_table fs)) (sides_table fs) refl
-    ∙ past (codes "stations") (codes "away") (side_in (codes "away") (codes "away_player") fs) (with_home fs) refl
-    ∙ past (codes "stations") (codes "home") (side_in (codes "home") (codes "home_player") fs) (head_table fs) refl
-    ∙ past (codes "stations") (codes "innings") (number_in (codes "innings") fs) (numbered fs) refl
-    ∙ past (codes "stations") (codes "number") (number_in (codes "number") fs) (titled fs) refl
-    ∙ past (codes "stations") (codes "title") (title_in fs) no_members refl
+no_stations fs = absent (codes "stations") fs refl refl refl refl refl refl refl
+
+-- none names what is displayed
+display_read : (fs : List Field) → display_in (document_of fs) ≡ no_display
+display_read fs =
+    ap (λ o. display_or_none (option_and_then as_table o)) (absent (codes "display") fs refl refl refl refl refl refl refl)
 
 abbrev named : List ℕ → List Field → Members
 named name fs = put_if (codes "name") (option_map string (text_at name fs)) no_members
@@ -256,6 +272,7 @@ chosen_sheet fs sheet e =
       home = ap (λ s. s.home) made ∙ sym (team_read (codes "home") (codes "home") (codes "home_player") ms fs home (home_held fs) home_is);
       away = ap (λ s. s.away) made ∙ sym (team_read (codes "away") (codes "away") (codes "away_player") ms fs away (away_held fs) away_is);
       limits = ap (λ s. s.limits) made ∙ limits_read fs;
+      display = ap (λ s. s.display) made ∙ display_read fs;
     }
 
 from_reading : (fs : List Field) (text : List ℕ) → parse_document text ≡ Some (document_of fs)

@@ -6,6 +6,7 @@ use Rattle.std.specs.Str.Parse.{digits_value}
 use Rattle.notation.specs.Lines.{lines_of}
 use Rattle.limits.specs.Limits.{Limits}
 use Rattle.limits.specs.Reading.{most_overs}
+use Rattle.cards.specs.Display.{no_display}
 use Rattle.cards.specs.Sheet.{Sheet, Team}
 use Rattle.sheet_check.specs.declared.chosen.ChosenFault.{ChosenFault}
 use Rattle.sheet_check.specs.declared.chosen.ChosenFault.TheVariants.{NoMemory, Line}
@@ -139,3 +140,4 @@ pub record IsMeant (fields : List Field) (sheet : Sheet) : Type 0 where
   pub home : sheet.home ≡ team_said (codes "home") (codes "home_player") fields
   pub away : sheet.away ≡ team_said (codes "away") (codes "away_player") fields
   pub limits : sheet.limits ≡ limits_said fields
+  pub display : sheet.display ≡ no_display
