@@ -1,7 +1,7 @@
 """Hands a match over to a second laptop, for its desk B: sheet, key, and where desk A and the board are, sealed under a code (sealed.py).
 
-usage: python3 tools/hand_over.py give HOST PORT DESK-A BOARD [late]
-       python3 tools/hand_over.py ask HOST PORT LINK NAME
+usage: python3 tools/hand_over.py give PROGRAM HOST PORT DESK-A BOARD [late]
+       python3 tools/hand_over.py ask PROGRAM HOST PORT LINK NAME
        python3 tools/hand_over.py take PROGRAM PORT [INVITE]
        python3 tools/hand_over.py watch PROGRAM PORT INVITE
 
@@ -12,7 +12,7 @@ the match's key: by that the second laptop gets a sheet in which one player has 
 by which scorer B is asked about that name. `watch` takes both as they come, and prints a line each: `asks LINK NAME`, `renamed NEWS`. A wrong try
 costs its own address one of ten. Who sends too much, or too slowly, isn't heard.
 """
-import json, os, re, secrets, socket, subprocess, sys, threading, time
+import hmac, json, os, re, secrets, socket, subprocess, sys, threading, time
 
 sys.dont_write_bytecode = True
 import sealed
@@ -21,7 +21,8 @@ PATIENCE = float(os.environ.get("INVITE_SECONDS", 600))  # for which a code is g
 TURN = 20  # seconds, for one exchange
 TRIES, ADDRESSES, AT_ONCE = 10, 256, 2  # an address's wrong tries and exchanges at once; addresses that try
 SMALL, LARGE, STEP = 1024, 1 << 20, 4096
-HELLO, LATE_HELLO = b"yermudosh invite 1\n", b"yermudosh rename 1\n"  # of one length
+HELLO, LATE_HELLO = b"yermudosh invite 2\n", b"yermudosh rename 2\n"  # of one length
+OTHER_HELLO = re.compile(rb"yermudosh (?:invite|rename) [013-9]\n")
 PAUSE = 2  # seconds between two looks at the first laptop
 FILES = "match.key", "other.txt", "sheet.toml"  # in this order they are put in their places
 LINK = re.compile(r"http://\d{1,3}(?:\.\d{1,3}){3}:\d{1,5}/#[0-9a-f]{32}")
@@ -91,14 +92,16 @@ def say(text):
 
 def late_code():
     """The code of who has the match's key."""
-    number = int.from_bytes(sealed.made(content("match.key").strip().encode(), b"yermudosh late name")[:10], "big")
+    made = hmac.digest(content("match.key").strip().encode(), b"yermudosh late name", "sha256")
+    number = int.from_bytes(made[:10], "big")
     return "".join(sealed.SIGNS[number >> 5 * at & 31] for at in range(sealed.LENGTH))
 
 
 class Offer:
     """What is told by a code, and who tried it."""
 
-    def __init__(self, it, is_late):
+    def __init__(self, program, it, is_late):
+        self.program = program
         self.code, self.hello = (late_code(), LATE_HELLO) if is_late else (sealed.new_code(), HELLO)
         self.secret, self.end, self.is_match = sealed.secret_of(self.code), time.monotonic() + PATIENCE, "sheet" in it
         told = json.dumps(it).encode()
@@ -159,7 +162,7 @@ class Offer:
         """Answers whether it was a wrong try. Who hasn't the code gets a nonce alone."""
         mine = secrets.token_bytes(sealed.NONCE)
         it.sendall(self.hello + mine)
-        ours, theirs = sealed.both(self.secret, mine + received(it, sealed.NONCE, end))
+        ours, theirs = sealed.both(self.program, self.secret, mine + received(it, sealed.NONCE, end))
         asked = theirs.open(0, received_frame(it, SMALL, end))
         if asked is None:
             return True
@@ -178,12 +181,12 @@ class Offer:
         return False
 
 
-def give(host, port, desk_a, board, late=""):
-    serve(Offer({"sheet": content("sheet.toml"), "key": content("match.key"), "a": desk_a, "board": board, "invite": f"{host}:{port}"}, late), host, port)
+def give(program, host, port, desk_a, board, late=""):
+    serve(Offer(program, {"sheet": content("sheet.toml"), "key": content("match.key"), "a": desk_a, "board": board, "invite": f"{host}:{port}"}, late), host, port)
 
 
-def ask(host, port, link, name):
-    serve(Offer({"ask": link, "name": name}, True), host, port)
+def ask(program, host, port, link, name):
+    serve(Offer(program, {"ask": link, "name": name}, True), host, port)
 
 
 def serve(offer, host, port):
@@ -232,9 +235,11 @@ def taken(it, code, port, program, is_late=False):
     """Takes what the first laptop gives. A match is put in its place once both have all. It answers what is new of a late name."""
     end = time.monotonic() + TURN
     mine, hello = secrets.token_bytes(sealed.NONCE), received(it, len(HELLO) + sealed.NONCE, end)
+    if OTHER_HELLO.match(hello):
+        raise Refused("the first laptop has another version of this program: both need the same")
     if not hello.startswith(LATE_HELLO if is_late else HELLO):
         raise EOFError
-    theirs, ours = sealed.both(sealed.secret_of(code), hello[len(HELLO) :] + mine)
+    theirs, ours = sealed.both(program, sealed.secret_of(code), hello[len(HELLO) :] + mine)
     own = it.getsockname()[0]
     it.sendall(mine)
     send_frame(it, ours.seal(0, json.dumps(f"{own}:{port}").encode()))

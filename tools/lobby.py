@@ -82,7 +82,7 @@ class Lobby:
     def opened(self, session, number, frame):
         """Whose code a frame was made with, what it says, and who answers; nothing where it is nobody's."""
         for who, code in {"": self.code, **(self.match.codes() if self.match else {})}.items():
-            ours, theirs = sealed.both(code, self.nonce + session)
+            ours, theirs = sealed.both(self.program, code, self.nonce + session)
             asked = theirs.open(number, frame)
             if asked is not None:
                 return who, json.loads(asked), ours

@@ -24,8 +24,8 @@ def drawn(link):
 class Far:
     """A scorer's page at the lobby of another laptop, by its link."""
 
-    def __init__(self, link):
-        self.link, self.lock, self.session = link, threading.Lock(), b""
+    def __init__(self, program, link):
+        self.program, self.link, self.lock, self.session = program, link, threading.Lock(), b""
 
     def fetched(self, method, path, body=None):
         """The bytes that are answered; nothing where that is refused."""
@@ -41,7 +41,7 @@ class Far:
         """Begins frames with the lobby that answers there now."""
         nonce = self.fetched("GET", "/hello")
         self.session, self.number = secrets.token_bytes(16), 0
-        self.theirs, self.ours = sealed.both(bytes.fromhex(LINK.fullmatch(self.link)[2]), nonce + self.session)
+        self.theirs, self.ours = sealed.both(self.program, bytes.fromhex(LINK.fullmatch(self.link)[2]), nonce + self.session)
 
     def said(self, what):
         self.number += 1
@@ -69,7 +69,7 @@ class Match:
 
     def __init__(self, program, place, state):
         self.program, self.place, self.state, self.lock = program, place, state, threading.Lock()
-        self.far = Far("")  # the page at which a scorer is asked at the first laptop
+        self.far = Far(program, "")  # the page at which a scorer is asked at the first laptop
         self.read = None, {}  # which sheet was read, and what an export says of it
 
     def told(self):
@@ -120,7 +120,7 @@ class Match:
         link = told.get(f"far_{scorer}", "")
         with self.lock:
             if link != self.far.link:
-                self.far = Far(link)
+                self.far = Far(self.program, link)
             return self.far if LINK.fullmatch(link) else None
 
     def link(self, code):

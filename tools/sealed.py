@@ -1,11 +1,12 @@
-"""What two machines tell each other who have one code, so that nobody else reads it or alters it unseen. It is made of HMAC-SHA-256 alone: in
-counter mode (SP 800-108) for a keystream, and over what that hides for a tag. Each direction of each exchange has keys of its own, each
-frame its number. Of the standard library alone."""
-import hashlib, hmac, secrets
+"""What two machines tell each other who have one code, so that nobody else reads it or alters it unseen: frames, which the program seals and
+opens (`frame`). Here are codes, the secret of a code, and who says what. Each direction of each exchange has a secret of its own, each frame
+its number. Of the standard library alone."""
+import hashlib, secrets, subprocess
 
 # Crockford's 32, of which none is taken for another; 16 of them are 80 bits.
 SIGNS, LENGTH = "0123456789abcdefghjkmnpqrstvwxyz", 16
 TAG, NONCE = 32, 16
+SECONDS = 10  # for one frame, which takes some milliseconds
 
 
 def new_code() -> str:
@@ -21,44 +22,35 @@ def code_in(text: str) -> str | None:
 
 
 def secret_of(code: str) -> bytes:
-    """A code's secret, which takes some time and 16 MB to make."""
-    return hashlib.scrypt(code_in(code).encode(), salt=b"yermudosh code 1", n=1 << 14, r=8, p=1, dklen=32)
-
-
-def made(key: bytes, text: bytes) -> bytes:
-    return hmac.digest(key, text, "sha256")
-
-
-def keystream(key: bytes, fixed: bytes, size: int) -> bytes:
-    """So many bytes: the tags of 1, 2 and so on, each before the same bytes."""
-    return b"".join(made(key, block.to_bytes(4, "big") + fixed) for block in range(1, (size + 31) // 32 + 1))[:size]
+    """A code's secret of 16 bytes, which takes some time and 16 MB to make."""
+    return hashlib.scrypt(code_in(code).encode(), salt=b"yermudosh code 1", n=1 << 14, r=8, p=1, dklen=16)
 
 
 class Direction:
     """What goes one way in an exchange."""
 
-    def __init__(self, secret: bytes, name: str, nonces: bytes):
-        about = name.encode() + b" " + nonces
-        self.hiding, self.tagging = made(secret, b"hide " + about), made(secret, b"tag " + about)
+    def __init__(self, program: str, secret: bytes, way: str, nonces: bytes):
+        self.head, self.words = secret + nonces, [program, "frame", "--way", way]
 
-    def turned(self, number: int, text: bytes) -> bytes:
-        stream = keystream(self.hiding, number.to_bytes(8, "big"), len(text))
-        return bytes(one ^ other for one, other in zip(text, stream))
-
-    def tag(self, number: int, hidden: bytes) -> bytes:
-        return made(self.tagging, number.to_bytes(8, "big") + hidden)
+    def made(self, number: int, data: bytes, *words: str) -> bytes | None:
+        """What the program makes of it; nothing where it refuses it."""
+        try:
+            done = subprocess.run([*self.words, "--number", str(number), *words], input=self.head + data, capture_output=True, timeout=SECONDS)
+        except subprocess.SubprocessError as why:
+            raise OSError("the program makes no frame") from why
+        if done.returncode not in (0, 1):
+            raise OSError("the program makes no frame: " + done.stderr.decode(errors="replace").strip())
+        return None if done.returncode else bytes.fromhex(done.stdout.decode("ascii"))
 
     def seal(self, number: int, text: bytes) -> bytes:
         """The frame of this number. A number is for one text."""
-        hidden = self.turned(number, text)
-        return self.tag(number, hidden) + hidden
+        return self.made(number, text)
 
     def open(self, number: int, frame: bytes) -> bytes | None:
         """What the frame of this number hides; nothing where it isn't the other's."""
-        hidden = frame[TAG:]
-        return self.turned(number, hidden) if hmac.compare_digest(frame[:TAG], self.tag(number, hidden)) else None
+        return self.made(number, frame, "--open")
 
 
-def both(secret: bytes, nonces: bytes) -> tuple[Direction, Direction]:
+def both(program: str, secret: bytes, nonces: bytes) -> tuple[Direction, Direction]:
     """What goes from who offers, and from who asks."""
-    return Direction(secret, "offer", nonces), Direction(secret, "ask", nonces)
+    return Direction(program, secret, "offer", nonces), Direction(program, secret, "ask", nonces)

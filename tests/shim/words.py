@@ -27,6 +27,7 @@ READING = {
     "penalties of both files": (["export", "--penalties", *BOTH], b""),
     "page of both files": (["page", *BOTH], b""),
     "cards of each folder": (["card", "--each"], f"{A_MATCH}\n".encode()),
+    "frame": (["frame", "--way", "ask", "--number", "0"], bytes(48) + b"a text"),
     "replay": (["replay", *SHEET, "--schedule", f"{EXAMPLES}/schedule.txt", "--boards", "4"], b""),
 }
 

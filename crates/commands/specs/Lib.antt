@@ -1,9 +1,10 @@
 -- What the public calls claim: of one book Product and Lines, of both files BothFiles and Ends, of many matches Each, Frames
--- and MatchFiles; and Check, Migrate and SheetWord.
+-- and MatchFiles; and Check, FrameWord, Migrate and SheetWord.
 pub mod BothFiles
 pub mod Check
 pub mod Each
 pub mod Ends
+pub mod FrameWord
 pub mod Frames
 pub mod Lines
 pub mod MatchFiles

@@ -47,7 +47,7 @@ pub fn print_whole<W: Sink>(text: &str, out: &mut Watched<W>) -> Result<(), Writ
 }
 
 /// Prints a text and a newline, and flushes.
-fn print_line<W: Sink>(text: &str, out: &mut Watched<W>) -> Result<(), WriteFailed>
+pub fn print_line<W: Sink>(text: &str, out: &mut Watched<W>) -> Result<(), WriteFailed>
     ensures text { OnOk result (Prints W.contents out.old out.new (text.now ++ codes "\n")) }
     ensures failed { TellsFailure result out.old out.new }
     ensures handed_on { OnOk result (IsHandedOn W.calls out.new) }

@@ -1,7 +1,7 @@
 -- What the words of the program do, with one filled-in command each, as a scorer types it.
 use Rattle.std.specs.Prelude.{ℕ, ◌≤◌, List, [], ◌∷◌, ◌++◌, length, All, codes}
 use Rattle.help.specs.declared.subject.Subject.{Subject}
-use Rattle.help.specs.declared.subject.Subject.TheVariants.{Help, Desk, Board, Key, Check, Card, Export, Page, Lines, Compare, Match, Replay, Migrate, Sheet, Typing, Start}
+use Rattle.help.specs.declared.subject.Subject.TheVariants.{Help, Desk, Board, Key, Check, Card, Export, Page, Lines, Compare, Match, Replay, Migrate, Sheet, Typing, Frame, Start}
 
 -- rows that a plain terminal shows at once: 24 of 80 columns at most
 abbrev pub FitsAScreen : List (List ℕ) → Type 0
@@ -32,6 +32,7 @@ rows Help =
     codes "  replay   plays a schedule of what desks and boards write, send and lose" ∷
     codes "  migrate  moves a desk's votes from a file of version 1 to a new one" ∷
     codes "  typing   edits the line that a scorer types at a desk's terminal" ∷
+    codes "  frame    seals a text for another machine with the same code, or opens it" ∷
     codes "  help     prints this, or what one word does: ./ground help desk" ∷
     codes "" ∷
     codes "Without a word it does what check does." ∷ []
@@ -204,6 +205,17 @@ rows Typing =
     codes "  --lines L    where each line goes: a file or a pipe, which must exist" ∷
     codes "  --told T     where the desk's rows come from: likewise" ∷
     codes "  --columns N  the width of the terminal, 20 to 1000" ∷ []
+rows Frame =
+    codes "frame: seals a text in a frame, which another machine opens that has the same" ∷
+    codes "secret; or opens one. For the scripts of start. Standard input has the secret," ∷
+    codes "16 bytes, the nonces of both, 16 each, and the text, or the frame to be opened." ∷
+    codes "Standard output gets the frame, or the text, in hex digits." ∷
+    codes "" ∷
+    codes "  ./ground frame --way ask --number 0 <sealing.bin >frame.hex" ∷
+    codes "" ∷
+    codes "  --way ask|offer  from whom it comes: from who asks, or from who offers" ∷
+    codes "  --number N       its number, from 0: each is for one text" ∷
+    codes "  --open           opens a frame: one that wasn't sealed so is refused; optional" ∷ []
 rows Start =
     codes "start: keeps a match at one laptop in one window: both desks, a board and their" ∷
     codes "pages. It asks who plays, or resumes the match of the folder you are in. start" ∷

@@ -2,7 +2,7 @@
 use Rattle.std.specs.Prelude.{ℕ, Bool, Option, Some, None, option_and_then, if◌then◌else◌, List, [], ◌∷◌, codes, bytes_eq, String, string_bytes}
 use Rattle.std.specs.List.{list_any}
 use Rattle.help.specs.declared.subject.Subject.{Subject}
-use Rattle.help.specs.declared.subject.Subject.TheVariants.{Help, Desk, Board, Key, Check, Card, Export, Page, Lines, Compare, Match, Replay, Migrate, Sheet, Typing, Start}
+use Rattle.help.specs.declared.subject.Subject.TheVariants.{Help, Desk, Board, Key, Check, Card, Export, Page, Lines, Compare, Match, Replay, Migrate, Sheet, Typing, Frame, Start}
 
 -- the word of the program that a text is
 abbrev pub subject_of : List ℕ → Option Subject
@@ -22,6 +22,7 @@ subject_of t =
     else if bytes_eq t (codes "migrate") then Some Migrate
     else if bytes_eq t (codes "sheet") then Some Sheet
     else if bytes_eq t (codes "typing") then Some Typing
+    else if bytes_eq t (codes "frame") then Some Frame
     else if bytes_eq t (codes "start") then Some Start
     else None
 

@@ -22,6 +22,7 @@ pub enum Subject {
     Migrate,
     Sheet,
     Typing,
+    Frame,
     /// The word of the script that starts the program.
     Start,
 }
@@ -46,6 +47,7 @@ pub fn subject_of(word: &str) -> Option<Subject>
         "migrate" => Some(Subject::Migrate),
         "sheet" => Some(Subject::Sheet),
         "typing" => Some(Subject::Typing),
+        "frame" => Some(Subject::Frame),
         "start" => Some(Subject::Start),
         _ => None,
     }

@@ -23,6 +23,7 @@ ground: the book of a cricket match, kept by two scorers. Its words:
   replay   plays a schedule of what desks and boards write, send and lose
   migrate  moves a desk's votes from a file of version 1 to a new one
   typing   edits the line that a scorer types at a desk's terminal
+  frame    seals a text for another machine with the same code, or opens it
   help     prints this, or what one word does: ./ground help desk
 
 Without a word it does what check does.
@@ -225,6 +226,19 @@ typed, hands each line to the desk, and shows the desk's rows above it.
   --columns N  the width of the terminal, 20 to 1000
 ";
 
+const FRAME: &str = "\
+frame: seals a text in a frame, which another machine opens that has the same
+secret; or opens one. For the scripts of start. Standard input has the secret,
+16 bytes, the nonces of both, 16 each, and the text, or the frame to be opened.
+Standard output gets the frame, or the text, in hex digits.
+
+  ./ground frame --way ask --number 0 <sealing.bin >frame.hex
+
+  --way ask|offer  from whom it comes: from who asks, or from who offers
+  --number N       its number, from 0: each is for one text
+  --open           opens a frame: one that wasn't sealed so is refused; optional
+";
+
 const START: &str = "\
 start: keeps a match at one laptop in one window: both desks, a board and their
 pages. It asks who plays, or resumes the match of the folder you are in. start
@@ -257,6 +271,7 @@ pub fn help_on(subject: Subject) -> &'static str
         Subject::Migrate => MIGRATE,
         Subject::Sheet => SHEET,
         Subject::Typing => TYPING,
+        Subject::Frame => FRAME,
         Subject::Start => START,
     }
 }

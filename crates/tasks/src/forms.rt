@@ -128,6 +128,13 @@ fn typing_words<'a>(alloc: Global) -> Result<Command<'a>, AllocError> {
     ))
 }
 
+/// Returns `frame` with its options.
+fn frame_words<'a>(alloc: Global) -> Result<Command<'a>, AllocError> {
+    command(alloc, "frame", &["way"])?
+        .arg(wanted(alloc, "number").value_parser(value_parser!(u64)))?
+        .arg(flag(alloc, "open"))
+}
+
 /// Returns a station's command with its optional argument: which station of the sheet's table it is.
 fn station<'a>(alloc: Global, name: &'a str) -> Result<Command<'a>, AllocError> {
     Command::new(alloc, name).arg(Arg::new(alloc, "which").index(1))
@@ -165,13 +172,14 @@ fn book_commands<'a>(alloc: Global, program: Command<'a>) -> Result<Command<'a>,
     with_command(program, command(alloc, "sheet", &["sheet"]))
 }
 
-/// Adds the commands of stations and their files.
+/// Adds the commands of stations, their files and their scripts.
 fn station_commands<'a>(alloc: Global, program: Command<'a>) -> Result<Command<'a>, AllocError> {
     let migrate = command(alloc, "migrate", &["sheet", "desk", "from", "to"]);
     let program = with_command(program, migrate)?;
     let program = with_command(program, match_words(alloc))?;
     let program = with_command(program, command(alloc, "key", &["to"]))?;
     let program = with_command(program, typing_words(alloc))?;
+    let program = with_command(program, frame_words(alloc))?;
     let program = with_command(program, desk_words(alloc))?;
     with_command(program, board_words(alloc))
 }

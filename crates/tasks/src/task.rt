@@ -4,6 +4,7 @@ use agree_core::DeskId;
 use books::Source;
 use delivery_rows::Table;
 use machine::Address;
+use posts::Direction;
 use station_table::{BoardOptions, BoardSetting, DeskOptions, DeskSetting, Showing};
 
 /// What is printed of a book.
@@ -108,6 +109,12 @@ pub enum Task<'a> {
     /// `key`: writes a new key to a file.
     Key {
         to: &'a str,
+    },
+    /// `frame`: seals a text in a frame, in this direction and under this number; or `opens` one.
+    Frame {
+        opens: bool,
+        direction: Direction,
+        number: u64,
     },
     /// `typing`: keeps a desk's terminal of `columns` columns. Lines go to the file or pipe `lines`, and what the desk tells
     /// comes from `told`.

@@ -1,6 +1,6 @@
 //! The forms that values on the command line must have.
 
-use crate::words::desk_in;
+use crate::words::{desk_in, direction_in};
 use machine::addresses_in;
 use std::net::{IpAddr, SocketAddr};
 
@@ -23,6 +23,10 @@ pub enum Form {
     RowColumns,
     /// The width of a terminal.
     Columns,
+    /// From which machine a frame comes.
+    Way,
+    /// The number of a frame.
+    Whole,
 }
 
 /// Whether a text is a number from `least` to `most`, without a sign or leading zero.
@@ -35,6 +39,15 @@ fn is_within(text: &str, least: u16, most: u16) -> bool {
         Ok(number) => is_plain && least <= number && number <= most,
         Err(_) => false,
     }
+}
+
+/// Whether a text is a number of 64 bits, without a sign or leading zero.
+fn is_whole(text: &str) -> bool {
+    let is_plain = match text.as_bytes() {
+        [first, more @ ..] => b'1' <= *first && *first <= b'9' || *first == b'0' && more.is_empty(),
+        [] => false,
+    };
+    is_plain && text.parse::<u64>().is_ok()
 }
 
 /// Whether a text is an address whose port isn't 0, and not the IPv4 broadcast address.
@@ -61,6 +74,8 @@ impl Form {
             Form::Source => matches!(value, "book" | "a" | "b" | "both"),
             Form::RowColumns => is_within(value, 60, 200),
             Form::Columns => is_within(value, 20, 1000),
+            Form::Way => direction_in(value).is_some(),
+            Form::Whole => is_whole(value),
         }
     }
 
@@ -74,6 +89,8 @@ impl Form {
             Form::Source => "book, a, b or both",
             Form::RowColumns => "60 to 200",
             Form::Columns => "20 to 1000",
+            Form::Way => "ask or offer",
+            Form::Whole => "0 to 18446744073709551615",
         }
     }
 }
@@ -87,6 +104,8 @@ pub fn form_of(command: &str, option: &str) -> Form {
         "kind" => Form::Source,
         "columns" if command == "desk" => Form::RowColumns,
         "columns" => Form::Columns,
+        "way" => Form::Way,
+        "number" => Form::Whole,
         _ => Form::Text,
     }
 }

@@ -12,6 +12,7 @@ use crate::wrong_words::wrong_words;
 use agree_core::DeskId;
 use clap::{ArgMatches, Command};
 use help::own_word;
+use posts::Direction;
 use std::alloc::Global;
 use std::str::FromStr;
 
@@ -119,6 +120,26 @@ fn typing_task<'a>(words: &ArgMatches<'a>) -> Option<Task<'a>>
     })
 }
 
+/// Returns the direction that a text names.
+pub fn direction_in(text: &str) -> Option<Direction> {
+    match text {
+        "ask" => Some(Direction::Ask),
+        "offer" => Some(Direction::Offer),
+        _ => None,
+    }
+}
+
+/// Returns the task of `frame`.
+fn frame_task<'a>(words: &ArgMatches<'a>) -> Option<Task<'a>>
+    ensures { IfSome result IsTask }
+{
+    Some(Task::Frame {
+        opens: words.get_flag("open"),
+        direction: direction_in(words.get_str("way")?)?,
+        number: number_in(words, "number")?,
+    })
+}
+
 /// Returns the task of a command with these words.
 fn task_of<'a>(command: &str, words: &ArgMatches<'a>) -> Option<Task<'a>>
     ensures { IfSome result IsTask }
@@ -140,6 +161,7 @@ fn task_of<'a>(command: &str, words: &ArgMatches<'a>) -> Option<Task<'a>>
             to: words.get_str("to")?,
         }),
         "typing" => typing_task(words),
+        "frame" => frame_task(words),
         "desk" => match desk_task(words) {
             Some(task) => Some(Task::Desk(task)),
             None => None,
