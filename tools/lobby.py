@@ -4,15 +4,15 @@ the toss and late names, and has each scorer agree to those.
 usage: python3 tools/lobby.py PROGRAM HOST PORT [STATE]
 
 The page gets its words by a code, 32 hex digits of LOBBY_CODE, which stand behind `#` in its link: without the code nobody reads or writes
-anything here (sealed.py). What may be a sheet the program alone says (`sheet`). Without STATE it ends once sheet.toml is written, which
-it does once. With STATE, a file of a name and a value a line, it shows that, and prints what is asked for there, a line each: `page a`,
-`name home 7 Khan`, `toss home bat`. For a late name STATE has a code for each scorer too. Who has that of A sees the name, the answers and A's
-next link alone, and has `agree a 1` or `refuse a 1` printed, 1 being the name's number.
+anything here (sealed.py). What is chosen there the program alone judges, and writes as a sheet (`sheet --of`). Without STATE it ends once
+sheet.toml is written, which it does once. With STATE, a file of a name and a value a line, it shows that, and prints what is asked for there, a
+line each: `page a`, `name home 7 Khan`, `toss home bat`. For a late name STATE has a code for each scorer too. Who has that of A sees the name, the
+answers and A's next link alone, and has `agree a 1` or `refuse a 1` printed, 1 being the name's number.
 """
-import glob, http.server, json, os, re, secrets, socket, subprocess, sys, tempfile, threading, tomllib
+import glob, http.server, json, os, re, secrets, socket, subprocess, sys, tempfile, threading
 
 sys.dont_write_bytecode = True
-import lobby_match, sealed, squares, toss
+import lobby_match, sealed, squares
 
 HERE = os.path.dirname(os.path.realpath(__file__))
 LARGE, SECONDS, SESSIONS, SHEETS = 1 << 16, 10, 4096, 60
@@ -34,38 +34,25 @@ def page():
     return text.replace("/* STYLE */\n", found("web/making.css")).replace("<!-- MAKING -->\n", found("web/making.html")).replace("// TAGS\n", tags).replace("// MAKING\n", form)
 
 
-def read(program, path):
-    """What the program reads in a sheet, and what is wrong with it."""
-    done = subprocess.run([program, "sheet", "--sheet", path], capture_output=True, text=True, errors="replace", timeout=SECONDS)
+def printed(program, option, path):
+    """What the program prints of a file by its word `sheet` with this option, and what is wrong with it."""
+    done = subprocess.run([program, "sheet", option, path], capture_output=True, text=True, errors="replace", timeout=SECONDS)
     return done.stdout, [it for it in (done.stderr + (done.stdout if done.returncode else "")).split("\n") if it]
 
 
-def checked(program, text):
-    """What the program says of a sheet: what it reads, or all that is wrong; and the toss of an export."""
+def written(program, fields):
+    """The text of the sheet of what was chosen, as the program writes it, and all that is wrong. Nothing stands in it that no field says."""
     with tempfile.TemporaryDirectory() as folder:
-        path = f"{folder}/sheet.toml"
+        path = f"{folder}/fields"
         with open(path, "wb") as file:
-            file.write(text.encode())
-        output, faults = read(program, path)
-        return {"output": output, "faults": faults, "toss": None if faults else toss.read(program, path)}
-
-
-# The keys of a sheet that the form has. A table [stations] would name files, which desks then write.
-OF_THE_FORM = {"title", "number", "innings", "home", "away", "limits", "info"}
-
-
-def beside_the_form(text):
-    """What a sheet has that the form hasn't."""
-    try:
-        return [f"{key}: isn't in the form" for key in tomllib.loads(text) if key not in OF_THE_FORM]
-    except tomllib.TOMLDecodeError:
-        return []
+            file.write(fields.encode())
+        return printed(program, "--of", path)
 
 
 def last_sheets(program):
     """The sheets of this folder and of those beside it, the newest first, as the program reads them."""
     paths = sorted(glob.glob("*.toml") + glob.glob("../*/sheet.toml"), key=os.path.getmtime, reverse=True)
-    return [read(program, it)[0] for it in paths[:SHEETS]]
+    return [printed(program, "--sheet", it)[0] for it in paths[:SHEETS]]
 
 
 # What is asked for
@@ -111,9 +98,8 @@ class Lobby:
             return {"readings": last_sheets(self.program)}
         if does not in ("check", "start"):
             return {"faults": ["the match isn't begun yet"]}
-        told = checked(self.program, asked["sheet"])
-        told["faults"] += beside_the_form(asked["sheet"])
-        return told if does == "check" or told["faults"] else self.start(asked["sheet"])
+        text, faults = written(self.program, asked["fields"])
+        return {"faults": faults} if does == "check" or faults else self.start(text)
 
     def start(self, text):
         """Writes the sheet, where none is there."""

@@ -40,13 +40,25 @@ def read(program, path):
     return (exported(program, path) or {}).get("info", {}).get("toss")
 
 
+def heads_in(lines):
+    return [at for at, line in enumerate(lines) if re.match(r"\s*\[", line)]
+
+
+def without_table(lines):
+    """The lines but for a table [info.toss], as the program's word `sheet --of` writes it."""
+    for begin in heads_in(lines):
+        if re.match(r"\s*\[\s*info\s*\.\s*toss\s*\]", lines[begin]):
+            return lines[:begin] + lines[next((at for at in heads_in(lines) if at > begin), len(lines)) :]
+    return lines
+
+
 def with_row(text, row):
     """The sheet with this row below its `[info]`, and no other of the toss there."""
-    lines = text.split("\n")
-    heads = [at for at, line in enumerate(lines) if re.match(r"\s*\[", line)]
+    lines = without_table(text.split("\n"))
+    heads = heads_in(lines)
     begin = next((at for at in heads if re.match(r"\s*\[\s*info\s*\]", lines[at])), None)
     if begin is None:
-        return text.rstrip("\n") + f"\n\n[info]\n{row}\n"
+        return "\n".join(lines).rstrip("\n") + f"\n\n[info]\n{row}\n"
     end = next((at for at in heads if at > begin), len(lines))
     table = [line for line in lines[begin + 1 : end] if not re.match(r"\s*toss\s*=", line)]
     return "\n".join([*lines[: begin + 1], row, *table, *lines[end:]])

@@ -1,14 +1,14 @@
 // @ts-check
-// The form by which a match is made (making.html), in a page that can ask the program what it says of a sheet, and can begin a match. It is kept
-// over a reload.
+// The form by which a match is made (making.html), in a page that can ask the program for the sheet of what was chosen, and can begin a match. It is
+// kept over a reload.
 import { at } from "./dom.mjs";
-import { SIDES, faults_of, field_of, number_now, sheet_of, sides_of } from "./sheet.mjs";
+import { SIDES, chosen_in, field_of, number_now, sides_of } from "./sheet.mjs";
 
 /**
  * What the page does for its form.
  * @typedef {object} Ways
- * @property {(sheet: string) => Promise<import("./sheet.mjs").Read>} read asks what the program says of a sheet
- * @property {(sheet: import("./sheet.mjs").Sheet) => Promise<string[]>} begin begins the match, or answers what is wrong
+ * @property {(chosen: import("./sheet.mjs").Chosen) => Promise<string[]>} check asks the program what is wrong with what was chosen
+ * @property {(chosen: import("./sheet.mjs").Chosen) => Promise<string[]>} begin begins the match, or answers what is wrong
  * @property {(why: Error) => void} fail tells that either failed
  */
 
@@ -77,33 +77,33 @@ export function offer_sides(readings) {
  * Has a match be made by the form: what is wrong is shown as it is typed.
  * @param {Ways} ways
  */
-export async function offer_form({ read, begin, fail }) {
+export async function offer_form({ check, begin, fail }) {
   const [form, number] = [/** @type {HTMLFormElement} */ (at("making")), number_now()];
   let [timer, turn] = [0, 0];
-  const check = async () => {
-    const [mine, sheet] = [++turn, sheet_of(typed(), number)];
-    const faults = faults_of(sheet, await read(sheet.text));
+  const look = async () => {
+    const [mine, chosen] = [++turn, chosen_in(typed(), number)];
+    const faults = await check(chosen);
     if (mine === turn) show_faults(faults);
-    return faults.length ? null : sheet;
+    return faults.length ? null : chosen;
   };
   form.oninput = () => {
     offer_toss(input("toss"), input("home").value, input("away").value);
     sessionStorage.setItem(KEPT_FORM, JSON.stringify(typed()));
     clearTimeout(timer);
-    timer = setTimeout(() => check().catch(fail), PAUSE);
+    timer = setTimeout(() => look().catch(fail), PAUSE);
   };
   form.onsubmit = async event => {
     event.preventDefault();
     clearTimeout(timer);
     /** @type {any} */ (at("make-it")).disabled = true;
     try {
-      const sheet = await check();
-      if (sheet) show_faults(await begin(sheet));
+      const chosen = await look();
+      if (chosen) show_faults(await begin(chosen));
     } catch (why) {
       fail(/** @type {Error} */ (why));
     }
     /** @type {any} */ (at("make-it")).disabled = false;
   };
   restore();
-  if (FIELDS.some(name => input(name).value)) await check().catch(fail);
+  if (FIELDS.some(name => input(name).value)) await look().catch(fail);
 }

@@ -1,22 +1,15 @@
 // @ts-check
-// The sheet of what was typed in the form (making.html). Nothing is judged here: what is wrong with a sheet the program's word `sheet` says.
+// What was chosen in the form (making.html), field by field, as the program's word `sheet --of` takes it. Nothing is judged here, and no sheet is
+// written: the program does both.
 
 /**
  * What was typed, by the fields' names. The toss is as `home bat`, or empty.
  * @typedef {Record<"home" | "away" | "home_players" | "away_players" | "title" | "innings" | "overs" | "overs_a_bowler" | "toss", string> & { free_hits: boolean }} Form
  */
 
-/** @typedef {{ winner: string, decision: string }} Toss a toss, as an export has it */
+/** @typedef {{ title: string, fields: string }} Chosen a match's title, and all that was chosen of it: a line for each field */
 
-/**
- * A sheet, what the program must print of it if it reads what was typed, and the toss that an export must have.
- * @typedef {{ title: string, text: string, reading: string, toss: Toss | null }} Sheet
- */
-
-/**
- * What the program says of a sheet: what it reads, or all that is wrong; and the toss of an export.
- * @typedef {{ output?: string, faults: string[], toss?: Toss | null }} Read
- */
+/** @typedef {{ text: string, faults: string[] }} Written what the program says of that: the sheet's text, or all that is wrong with it */
 
 const PLAYERS = 11;
 /** @type {("home" | "away")[]} */
@@ -41,57 +34,28 @@ function players(text) {
 const filled = names => [...names, ...Array.from({ length: Math.max(0, PLAYERS - names.length) }, (_, more) => "Player " + (names.length + more + 1))];
 
 /**
- * A text of TOML.
+ * The line of a field. A line's end in a text becomes another control character, and half of a character one that isn't plain: the program refuses
+ * them too.
+ * @param {string} word
  * @param {string} text
  */
-const quoted = text => JSON.stringify(text);
+const line = (word, text) => `${word} ${text.replace(/\n/g, "\r").replace(/\p{Cs}/gu, "\ufffd")}\n`;
 
 /**
- * A number as it is, or else a text, so that the program says what is wrong with it.
- * @param {string} text
- */
-const valued = text => (/^[0-9]{1,18}$/.test(text) ? String(BigInt(text)) : text === "true" ? text : quoted(text));
-
-/**
- * What stands in the sheet.
- * @param {Form} form
- */
-function chosen(form) {
-  const sides = SIDES.map(key => ({ key, name: form[key].trim(), players: filled(players(form[key === "home" ? "home_players" : "away_players"])) }));
-  const limits = [["overs", form.overs.trim()], ["overs_a_bowler", form.overs_a_bowler.trim()], ["free_hits", form.free_hits ? "true" : ""]].filter(([, it]) => it);
-  const [winner, decision] = form.toss.split(" ");
-  const toss = winner ? { winner: sides[winner === "home" ? 0 : 1].name, decision } : null;
-  return { title: form.title.trim() || `${sides[0].name} v ${sides[1].name}`, innings: form.innings.trim() || "1", sides, limits, toss };
-}
-
-/**
- * The sheet of a form.
+ * What was chosen in a form.
  * @param {Form} form
  * @param {string} number
- * @returns {Sheet}
+ * @returns {Chosen}
  */
-export function sheet_of(form, number) {
-  const { title, innings, sides, limits, toss } = chosen(form);
-  const rows = [`title = ${quoted(title)}`, `number = ${number}`, `innings = ${valued(innings)}`];
-  const read = [`title ${title}`, `number ${number}`, `innings ${valued(innings)}`];
-  for (const { key, name, players: names } of sides) {
-    rows.push("", `[${key}]`, `name = ${quoted(name)}`, "players = [", ...names.map(it => `    ${quoted(it)},`), "]");
-    read.push(`${key} ${name}`, ...names.map((it, place) => `${place + 1} ${it}`));
-  }
-  if (limits.length) rows.push("", "[limits]", ...limits.map(([key, it]) => `${key} = ${valued(it)}`));
-  read.push(...limits.map(([key, it]) => `${key} ${valued(it)}`));
-  if (toss) rows.push("", "[info]", `toss = { winner = ${quoted(toss.winner)}, decision = ${quoted(toss.decision)} }`);
-  return { title, text: rows.join("\n") + "\n", reading: read.join("\n") + "\n", toss };
-}
-
-/**
- * What is wrong with a sheet of which the program says this.
- * @param {Sheet} sheet
- * @param {Read} read
- */
-export function faults_of({ reading, toss }, read) {
-  const is_read = read.output === reading && read.toss?.winner === toss?.winner && read.toss?.decision === toss?.decision;
-  return read.faults.length || is_read ? read.faults : ["sheet: the program reads something else than what stands here: take plainer letters"];
+export function chosen_in(form, number) {
+  const sides = SIDES.map(key => ({ key, name: form[key].trim(), players: filled(players(form[key === "home" ? "home_players" : "away_players"])) }));
+  const title = form.title.trim() || `${sides[0].name} v ${sides[1].name}`;
+  const [winner, decision] = form.toss.split(" ");
+  const rows = [["title", title], ["number", number], ["innings", form.innings.trim() || "1"]];
+  for (const { key, name, players: names } of sides) rows.push([key, name], ...names.map(it => [`${key}_player`, it]));
+  rows.push(...[["overs", form.overs.trim()], ["overs_a_bowler", form.overs_a_bowler.trim()], ["free_hits", form.free_hits ? "true" : ""]].filter(([, it]) => it));
+  if (winner) rows.push(["toss_winner", sides[winner === "home" ? 0 : 1].name], ["toss_decision", decision]);
+  return { title, fields: rows.map(([word, text]) => line(word, text)).join("") };
 }
 
 /**

@@ -4,7 +4,7 @@ import { put_if } from "../dom.mjs";
 import { offer_form, offer_sides } from "../making.mjs";
 import { match_of } from "./code.mjs";
 import { all_matches, put_match } from "./database.mjs";
-import { new_key, read_sheet, toss_of } from "./program.mjs";
+import { new_key, read_sheet, write_sheet } from "./program.mjs";
 
 /**
  * Keeps a match of this tablet's, under the name of its store.
@@ -24,10 +24,11 @@ export async function keep_match(it) {
  */
 export async function begin_making(module, made) {
   const offered = offer_form({
-    read: async text => ({ ...(await read_sheet(module, text)), toss: await toss_of(module, text) }),
-    begin: async ({ title, text }) => {
-      made(await keep_match({ station: "a", title, sheet: text, key: await new_key(module) }));
-      return [];
+    check: async ({ fields }) => (await write_sheet(module, fields)).faults,
+    begin: async ({ title, fields }) => {
+      const { text, faults } = await write_sheet(module, fields);
+      if (!faults.length) made(await keep_match({ station: "a", title, sheet: text, key: await new_key(module) }));
+      return faults;
     },
     fail: why => put_if("told", "The match can't be made: " + why.message),
   });

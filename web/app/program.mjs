@@ -1,5 +1,5 @@
 // @ts-check
-// The program's module, and its words that this page asks at once: `sheet`, which alone says what a sheet may be, and `key`.
+// The program's module, and its words that this page asks at once: `sheet`, which alone says what a sheet may be and writes one, and `key`.
 import { Run, calls_of, has_wide_memory, imports_of, in_memory, run_begun } from "../kernel.mjs";
 import { narrowed } from "../narrow.mjs";
 
@@ -51,23 +51,30 @@ export async function new_key(module) {
 }
 
 /**
- * What the program says of a sheet: what it reads, or all that is wrong.
+ * What the program prints of a file, by its word `sheet` with this option; and what it tells.
  * @param {WebAssembly.Module} module
+ * @param {string} option
  * @param {string} text
  */
-export async function read_sheet(module, text) {
-  const { status, output, errors } = await run_words(module, ["sheet", "--sheet", "sheet.toml"], { "sheet.toml": new TextEncoder().encode(text) });
+async function printed(module, option, text) {
+  const { status, output, errors } = await run_words(module, ["sheet", option, "file"], { file: new TextEncoder().encode(text) });
   return { output, faults: (errors + (status ? output : "")).split("\n").filter(it => it) };
 }
 
 /**
- * The toss that an export of a sheet has, before a ball is bowled; none where the program refuses the sheet.
+ * What the program says of a sheet: what it reads, or all that is wrong.
  * @param {WebAssembly.Module} module
  * @param {string} text
- * @returns {Promise<import("../sheet.mjs").Toss | null>}
  */
-export async function toss_of(module, text) {
-  const files = { "sheet.toml": new TextEncoder().encode(text), "none.txt": new Uint8Array(0) };
-  const { status, output } = await run_words(module, ["export", "--sheet", "sheet.toml", "--from", "none.txt", "--kind", "book"], files);
-  return status === 0 ? JSON.parse(output).info.toss ?? null : null;
+export const read_sheet = (module, text) => printed(module, "--sheet", text);
+
+/**
+ * The text of the sheet of what was chosen, as the program writes it; or all that is wrong.
+ * @param {WebAssembly.Module} module
+ * @param {string} fields
+ * @returns {Promise<import("../sheet.mjs").Written>}
+ */
+export async function write_sheet(module, fields) {
+  const { output, faults } = await printed(module, "--of", fields);
+  return { text: output, faults };
 }

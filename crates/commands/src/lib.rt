@@ -5,6 +5,7 @@
 mod book_command;
 mod both_files;
 mod check;
+mod chosen_command;
 mod compare_command;
 mod each;
 mod file_ends;
@@ -21,6 +22,7 @@ mod text_sink;
 pub use crate::book_command::{book_run, start_book};
 pub use crate::both_files::{BothPrintFault, book_both_run, start_book_of_both};
 pub use crate::check::{check_run, start_check};
+pub use crate::chosen_command::{chosen_run, start_chosen};
 pub use crate::compare_command::{compare_run, start_compare};
 pub use crate::each::{each_run, start_each};
 pub use crate::frame_command::{FrameRefusal, Made, frame_run, start_frame};

@@ -16,7 +16,7 @@ use std::alloc::Global;
 use streams::{Sink, Watched};
 
 /// Prints a text, or returns the fault of a failed write.
-fn printed<W: Sink>(text: &str, writer: &mut Watched<W>) -> Result<(), StopFault>
+pub fn printed<W: Sink>(text: &str, writer: &mut Watched<W>) -> Result<(), StopFault>
     ensures text { OnOk result (Prints W.contents writer.old writer.new text.now) }
     ensures only { IfErr result IsOfPrinting }
     ensures writes { EndsWriting W.calls StopFault.Write result writer.old writer.new }
@@ -42,7 +42,7 @@ fn print_sheet<W: Sink>(
 }
 
 /// Whether a report is empty.
-fn is_nothing(report: &str) -> bool
+pub fn is_nothing(report: &str) -> bool
     ensures nothing { result ≡ true → report.now ≡ [] }
     ensures something { result ≡ false → report.now ≢ [] }
 {
@@ -50,7 +50,7 @@ fn is_nothing(report: &str) -> bool
 }
 
 /// Whether a sheet isn't read because memory was refused.
-fn is_no_memory(why: SheetFault) -> bool
+pub fn is_no_memory(why: SheetFault) -> bool
     ensures memory { result ≡ true → why ≡ SheetFault.NoMemory }
     ensures fault { result ≡ false → why ≢ SheetFault.NoMemory }
 {

@@ -194,7 +194,9 @@ rows Sheet =
     codes "" ∷
     codes "  ./ground sheet --sheet sheet.toml" ∷
     codes "" ∷
-    codes "  --sheet S  the sheet of the match" ∷ []
+    codes "  --sheet S  the sheet of the match" ∷
+    codes "  --of F     instead of it: prints the text of the sheet that is meant by the" ∷
+    codes "             fields in F, a line each, such as title Cup; optional" ∷ []
 rows Typing =
     codes "typing: a desk's terminal, which ./ground starts with the desk. It edits what is" ∷
     codes "typed, hands each line to the desk, and shows the desk's rows above it." ∷

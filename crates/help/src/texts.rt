@@ -212,6 +212,8 @@ each: where, and what. Look at it before the match.
   ./ground sheet --sheet sheet.toml
 
   --sheet S  the sheet of the match
+  --of F     instead of it: prints the text of the sheet that is meant by the
+             fields in F, a line each, such as title Cup; optional
 ";
 
 const TYPING: &str = "\

@@ -15,12 +15,14 @@ const BOOK_OPTIONS: [&str; 3] = ["sheet", "from", "kind"];
 /// All options of one book. None of them may stand where many books are printed.
 pub const ONE_BOOK_OPTIONS: [&str; 4] = ["sheet", "from", "kind", "with"];
 
-/// Whether a command needs this option unless another word replaces it: a station of the sheet's table, or `--each`.
+/// Whether a command needs this option unless another word replaces it: a station of the sheet's table, `--each`
+/// or `--of`.
 pub fn is_stood_for(command: &str, name: &str) -> bool {
     match command {
         "desk" => DESK_OPTIONS.iter().any(|option| *option == name),
         "board" => BOARD_OPTIONS.iter().any(|option| *option == name),
         "card" | "export" | "page" | "lines" => BOOK_OPTIONS.iter().any(|option| *option == name),
+        "sheet" => name == "sheet",
         _ => false,
     }
 }
@@ -111,6 +113,11 @@ fn export_words<'a>(alloc: Global) -> Result<Command<'a>, AllocError> {
         .arg(flag(alloc, "penalties"))
 }
 
+/// Returns `sheet` with its options.
+fn sheet_words<'a>(alloc: Global) -> Result<Command<'a>, AllocError> {
+    with_options(alloc, Command::new(alloc, "sheet"), &["sheet"], "of")?.arg(free(alloc, "of"))
+}
+
 /// Returns `match` with its options.
 fn match_words<'a>(alloc: Global) -> Result<Command<'a>, AllocError> {
     command(alloc, "match", &["sheet", "book", "dir"])?.arg(
@@ -169,7 +176,7 @@ fn book_commands<'a>(alloc: Global, program: Command<'a>) -> Result<Command<'a>,
     let program = with_command(program, book_words(alloc, "page"))?;
     let program = with_command(program, book_words(alloc, "lines"))?;
     let program = with_command(program, command(alloc, "compare", &["sheet", "a", "b"]))?;
-    with_command(program, command(alloc, "sheet", &["sheet"]))
+    with_command(program, sheet_words(alloc))
 }
 
 /// Adds the commands of stations, their files and their scripts.

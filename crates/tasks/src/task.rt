@@ -106,6 +106,10 @@ pub enum Task<'a> {
     Sheet {
         sheet: &'a str,
     },
+    /// `sheet --of`: prints the text of the sheet of what is chosen of a match, or all that is wrong with it.
+    Chosen {
+        of: &'a str,
+    },
     /// `key`: writes a new key to a file.
     Key {
         to: &'a str,

@@ -109,6 +109,17 @@ fn match_task<'a>(words: &ArgMatches<'a>) -> Option<Task<'a>>
     })
 }
 
+/// Returns the task of `sheet`: of a sheet, or with `--of` of what is chosen.
+fn sheet_task<'a>(words: &ArgMatches<'a>) -> Option<Task<'a>>
+    ensures { IfSome result IsTask }
+{
+    match (words.get_str("sheet"), words.get_str("of")) {
+        (Some(sheet), None) => Some(Task::Sheet { sheet }),
+        (None, Some(of)) => Some(Task::Chosen { of }),
+        _ => None,
+    }
+}
+
 /// Returns the task of `typing`.
 fn typing_task<'a>(words: &ArgMatches<'a>) -> Option<Task<'a>>
     ensures { IfSome result IsTask }
@@ -154,9 +165,7 @@ fn task_of<'a>(command: &str, words: &ArgMatches<'a>) -> Option<Task<'a>>
         "compare" => compare_task(words),
         "migrate" => migrate_task(words),
         "match" => match_task(words),
-        "sheet" => Some(Task::Sheet {
-            sheet: words.get_str("sheet")?,
-        }),
+        "sheet" => sheet_task(words),
         "key" => Some(Task::Key {
             to: words.get_str("to")?,
         }),

@@ -193,10 +193,10 @@ fn first_lacking<'a>(line: Line<'a, '_>) -> Option<&'a str> {
 }
 
 /// Checks that nothing required is missing: `desk` and `board` need the station, or all that the sheet's table would give;
-/// a book needs all its options, unless `--each` is given.
+/// a book needs all its options, unless `--each` is given; and `sheet` its own, unless `--of` is.
 fn look_for_all<'a>(line: Line<'a, '_>) -> Result<(), WordsFault<'a>> {
     let station = station_form(line.name);
-    if station.is_some() && names_station(line) || has(line, "each") {
+    if station.is_some() && names_station(line) || has(line, "each") || has(line, "of") {
         return Ok(());
     }
     match (station, first_lacking(line)) {
@@ -259,6 +259,7 @@ fn look_at_pairs<'a>(line: Line<'a, '_>) -> Result<(), WordsFault<'a>> {
     let (option, wanted) = match line.name {
         "desk" if has(line, "desk") && names_station(line) => ("desk", "not after a letter"),
         "export" if has(line, "rows") && has(line, "penalties") => ("penalties", "not with --rows"),
+        "sheet" if has(line, "sheet") && has(line, "of") => ("of", "not with --sheet"),
         _ if has(line, "with") && !is_both => ("with", "only with --kind both"),
         _ if is_both && !has(line, "with") => ("kind both", "only with --with"),
         _ => return Ok(()),
