@@ -7,6 +7,7 @@ use cards::MatchSheet;
 use shorthand::means_none;
 
 /// Refuses the lines that mean no entry by a match's sheet, whatever the book.
+#[derive(Drop)]
 pub struct SheetJudge<'a> {
     sheet: &'a MatchSheet,
 }
