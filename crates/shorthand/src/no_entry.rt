@@ -1,6 +1,6 @@
 //! Lines that mean no entry, whatever the book.
 
-ghost use Rattle.std.specs.Prelude.{◌≡◌, ◌≤◌, Some, length, true};
+ghost use Rattle.std.specs.Prelude.{◌&&◌, ◌≡◌, ◌≤◌, Some, length, true};
 ghost use Rattle.std.specs.Str.{str_to_ascii_lowercase};
 ghost use Rattle.notation.specs.Written.{is_spaced, tokens};
 ghost use Rattle.shorthand.specs.NoEntry as none;
@@ -98,22 +98,41 @@ fn fail_in_lower_case(sheet: &MatchSheet, text: &str) -> bool
     }
 }
 
+/// Whether the tokens of a text mean no entry, neither as typed nor in lower case.
+fn fail_by_words(sheet: &MatchSheet, text: &str) -> bool
+    requires short { length text.now ≤ 96 }
+    requires spaced { is_spaced text.now ≡ true }
+    ensures { result ≡ (none.fail sheet.now (tokens text.now) && none.fail sheet.now (tokens (str_to_ascii_lowercase text.now))) }
+{
+    fail(sheet, &mut Rest::of(text)) && fail_in_lower_case(sheet, text)
+}
+
+/// Whether a line has a fault as a whole, or means no entry whoever bowled last and whichever side bats.
+#[tactic(auto, unfolding(crate::specs::NoEntry::means_none), using(crate::proofs::Standing::is_tokens, crate::proofs::Standing::other_fault))]
+fn is_refused(line: &[u8], sheet: &MatchSheet) -> bool
+    ensures { result ≡ none.means_none sheet.now line.now }
+{
+    let line = trimmed(line);
+    match read_line(line) {
+        Ok(_) => false,
+        Err(fault) => {
+            if is_of_line(fault) {
+                return true;
+            }
+            match text_of(line) {
+                Ok(text) => fail_by_words(sheet, text),
+                Err(_) => true,
+            }
+        }
+    }
+}
+
 /// Whether a line is known to mean no entry whatever the book: it has a fault as a whole, or it means none whoever bowled
 /// last and whichever side bats. A line that asks for more of the book isn't judged.
-#[tactic(auto, unfolding(crate::specs::NoEntry::means_none), using(crate::proofs::Standing::is_tokens, crate::proofs::NoEntries::sound))]
+#[tactic(auto, using(crate::proofs::NoEntries::sound))]
 pub fn means_none(line: &[u8], sheet: &MatchSheet) -> bool
     ensures value { result ≡ none.means_none sheet.now line.now }
     ensures none { result ≡ true → MeansNone sheet.now line.now }
 {
-    let line = trimmed(line);
-    let Err(fault) = read_line(line) else {
-        return false;
-    };
-    if is_of_line(fault) {
-        return true;
-    }
-    match text_of(line) {
-        Ok(text) => fail(sheet, &mut Rest::of(text)) && fail_in_lower_case(sheet, text),
-        Err(_) => true,
-    }
+    is_refused(line, sheet)
 }
