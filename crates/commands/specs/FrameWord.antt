@@ -1,5 +1,5 @@
 -- What `frame` makes of its input: a secret of 16 bytes, two nonces of 16 bytes each, and a text or a frame.
-use Rattle.std.specs.Prelude.{ℕ, Bool, true, false, nat_lt, if◌then◌else◌, List, [], ◌++◌, length, take, drop, codes, Option, Some, None, Result, Ok, Err, String, string_bytes}
+use Rattle.std.specs.Prelude.{ℕ, Bool, true, false, nat_lt, if◌then◌else◌, List, [], ◌++◌, length, take, drop, codes, Option, Some, None, Result, Ok, Err, string_bytes}
 use Rattle.hex.specs.Hex.{encode_lower}
 use Rattle.posts.specs.Exchanges as exchanges
 use Rattle.posts.specs.declared.exchange.{Direction.Direction, Exchange.Exchange}

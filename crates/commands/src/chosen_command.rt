@@ -1,10 +1,11 @@
 //! `ground sheet --of` prints the text of the sheet of what is chosen of a match, or all that is wrong with it.
 
 ghost use Rattle.std.specs.Prelude.{◌≡◌, IfErr, IfOk, OnOk, string_bytes};
+ghost use Rattle.std.specs.Bool.{MatchBool};
 ghost use Rattle.sheet_check.specs.Chosen.{fields_of};
 ghost use Rattle.streams.specs.Watched.{Prints};
 ghost use Rattle.commands.specs.ChosenWord as texts;
-ghost use Rattle.commands.specs.ChosenWord.{PrintsChosen, PrintsSheetOf};
+ghost use Rattle.commands.specs.ChosenWord.{PrintsChosen, PrintsSheetOf, PrintsText};
 ghost use Rattle.commands.specs.Product.{IsOfPrinting};
 ghost use Rattle.setup.specs.Ends.{EndsWriting};
 
@@ -22,6 +23,40 @@ fn refusal_of(alloc: Global, number: u64) -> Result<String, AllocError>
     format!(in alloc; "line {number}: no field of a match, or one that stands below again\n")
 }
 
+/// Whether a sheet is read of a text.
+fn is_sheet(alloc: Global, text: &[u8]) -> Result<bool, StopFault>
+    ensures answer { IfOk result (λ is_read. MatchBool is_read (texts.IsRead text.now) (texts.IsUnread text.now)) }
+    ensures only { IfErr result (λ fault. fault ≡ StopFault.NoMemory) }
+{
+    match read_sheet(alloc, text) {
+        Ok(_) => Ok(true),
+        Err(why) if is_no_memory(why) => Err(StopFault::NoMemory),
+        Err(_) => Ok(false),
+    }
+}
+
+/// Prints a text that is a sheet's, or all that is wrong with that sheet. Returns whether something is.
+fn print_text<W: Sink>(
+    alloc: Global,
+    text: &str,
+    writer: &mut Watched<W>,
+) -> Result<bool, StopFault>
+    ensures written { IfOk result (λ refused. PrintsText W.contents writer.old writer.new text.now refused) }
+    ensures only { IfErr result IsOfPrinting }
+    ensures writes { EndsWriting W.calls StopFault.Write result writer.old writer.new }
+{
+    let bytes = text.as_bytes();
+    let report = report_of(alloc, bytes)?;
+    let told = report.as_str();
+    let is_read = is_sheet(alloc, bytes)?;
+    if is_read && is_nothing(told) {
+        printed(text, writer)?;
+        return Ok(false);
+    }
+    printed(told, writer)?;
+    Ok(true)
+}
+
 /// Prints the text of the sheet of these fields; or, where something is wrong with that sheet, all that is wrong. Returns whether
 /// something is.
 fn print_sheet_of<W: Sink>(
@@ -35,19 +70,7 @@ fn print_sheet_of<W: Sink>(
     ensures writes { EndsWriting W.calls StopFault.Write result writer.old writer.new }
 {
     let text = sheet_text(alloc, fields)?;
-    let report = report_of(alloc, text.as_bytes())?;
-    let told = report.as_str();
-    match read_sheet(alloc, text.as_bytes()) {
-        Ok(_) if is_nothing(told) => {
-            printed(text.as_str(), writer)?;
-            Ok(false)
-        }
-        Err(why) if is_no_memory(why) => Err(StopFault::NoMemory),
-        _ => {
-            printed(told, writer)?;
-            Ok(true)
-        }
-    }
+    print_text(alloc, text.as_str(), writer)
 }
 
 /// Prints that a line of what is chosen is refused.

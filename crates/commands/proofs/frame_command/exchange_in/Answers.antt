@@ -1,4 +1,4 @@
-use Rattle.std.proofs.Common.{◌≡◌, ◌∙◌, ℕ, List, take, length, ap, arith}
+use Rattle.std.proofs.Common.{◌∙◌, ℕ, List, take, ap, arith}
 use Rattle.std.proofs.lemmas.List.{take_rest}
 use Rattle.posts.specs.declared.exchange.Exchange.{Exchange}
 use Rattle.commands.proofs.frame_command.exchange_in.Goals as goal

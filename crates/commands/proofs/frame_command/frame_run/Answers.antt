@@ -1,4 +1,4 @@
-use Rattle.std.proofs.Common.{◌≡◌, ◌∙◌, ap}
+use Rattle.std.proofs.Common.{◌∙◌, ap}
 use Rattle.commands.specs.FrameWord.{made_of}
 use Rattle.commands.proofs.FrameLemmas.{refused_of, told_of, written_of}
 use Rattle.commands.proofs.frame_command.frame_run.Goals as goal
