@@ -20,4 +20,5 @@ returns c ms ns alike =
       same_value (codes "home") ms ns alike (λ e. absurd (omega arith)),
       same_value (codes "away") ms ns alike (λ e. absurd (omega arith)),
       same (codes "limits") ms ns alike (λ e. absurd (omega arith)),
+      same (codes "display") ms ns alike (λ e. absurd (omega arith)),
     ) refl
