@@ -12,12 +12,12 @@ mark_of Home = codes " (home)"
 mark_of Away = codes " (away)"
 
 -- the side's name, with its word appended if the other side has the same name
-abbrev pub name_in : Sheet → Side → List ℕ
+unfoldable pub name_in : Sheet → Side → List ℕ
 name_in s side =
     if bytes_eq (displayed_name s Home) (displayed_name s Away) then displayed_name s side ++ mark_of side else displayed_name s side
 
 -- the names of all eleven players, in the order of their numbers
-abbrev pub players_in : Sheet → Side → List (List ℕ)
+unfoldable pub players_in : Sheet → Side → List (List ℕ)
 players_in s side = map (displayed_player s side) numbers
 
 -- the sheet with these names

@@ -60,6 +60,7 @@ fn mark_of(side: Side) -> &'static str
 }
 
 /// Returns the side's name in an export.
+#[tactic(auto, unfolding(crate::specs::Names::name_in))]
 fn name_in(alloc: Global, sheet: &MatchSheet, side: Side) -> Result<String, AllocError>
     ensures { IfOk result (λ name. string_bytes name ≡ names.name_in sheet.now side) }
 {
