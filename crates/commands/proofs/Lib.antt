@@ -1,3 +1,4 @@
+pub mod ChosenLemmas
 pub mod EachLemmas
 pub mod FrameLemmas
 pub mod LinesAgain
